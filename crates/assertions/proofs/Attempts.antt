@@ -7,7 +7,8 @@ use Rattle.assertions.specs.declared.decision.Decision.{Decision}
 use Rattle.assertions.specs.declared.decision.Decision.TheVariants.{Held, Vacuously, Failed}
 use Rattle.assertions.specs.Segments.{Seq, sat, is_match, is_first_match, longest, Matches, MatchesFirst}
 use Rattle.assertions.specs.Attempts.{Antecedent, MatchesBy, Leads, is_match_by, is_leading}
-use Rattle.assertions.specs.Attempts.{IsEnd, IsKept, IsBroken, IsOver, IsDecided, has_end, is_kept, is_possible}
+use Rattle.assertions.specs.Attempts.{EndsAntecedent, IsKept, IsBroken, IsAntecedentOver, IsDecided, has_end, is_kept}
+use Rattle.assertions.specs.Attempts.{is_possible}
 use Rattle.assertions.specs.Attempts.{goes_on, is_failed, all_kept, decide, decision}
 use Rattle.assertions.proofs.Quantifiers.{some_in-found, some_in-true, each_in-at, each_in-true}
 use Rattle.assertions.proofs.Segments.{Matches-forward, Matches-longest, is_match-Matches, Matches-is_match}
@@ -100,25 +101,25 @@ module _ (B : Type 0) (value : B → ℕ → Bool) (r : Antecedent B) (s : Seq B
       false_from_ne_true _ (λ t. let f = some_in-found e (e + longest s + 1) (λ j. is_match (sat value n) s e j) t in
       h f.0 (is_match-Matches B (sat value n) s e f.0 f.3))
 
-  not_on-IsOver : (c : ℕ) → goes_on value r n c ≡ false → IsOver value r n c
+  not_on-IsOver : (c : ℕ) → goes_on value r n c ≡ false → IsAntecedentOver value r n c
   not_on-IsOver c h j above m =
       both_ways _ h (some_in-true (n + 1) (c + longest r.sequence + 1) (λ j. is_leading (sat value n) r c j) j
       (omega arith)
       (omega (arith, Matches-longest B (sat value n) r.sequence c j (Leads-Matches B (sat value n) r c j m)))
       (Leads-is_leading B (sat value n) r c j m))
 
-  IsOver-not_on : (c : ℕ) → IsOver value r n c → goes_on value r n c ≡ false
+  IsOver-not_on : (c : ℕ) → IsAntecedentOver value r n c → goes_on value r n c ≡ false
   IsOver-not_on c h =
       false_from_ne_true _ (λ t. let f =
       some_in-found (n + 1) (c + longest r.sequence + 1) (λ j. is_leading (sat value n) r c j) t
       in h f.0 (omega (arith, f.1)) (is_leading-Leads B (sat value n) r c f.0 f.3))
 
-  has_end-IsEnd : (c : ℕ) → IsTrue (has_end value r n c) → (e : ℕ) × IsEnd value r n c e
+  has_end-IsEnd : (c : ℕ) → IsTrue (has_end value r n c) → (e : ℕ) × EndsAntecedent value r n c e
   has_end-IsEnd c h =
       let f = some_in-found c n (λ e. is_leading (sat value n) r c (e + 1)) h in
       (f.0, (f.1, f.2, is_leading-Leads B (sat value n) r c (f.0 + 1) f.3))
 
-  IsEnd-has_end : (c e : ℕ) → IsEnd value r n c e → IsTrue (has_end value r n c)
+  IsEnd-has_end : (c e : ℕ) → EndsAntecedent value r n c e → IsTrue (has_end value r n c)
   IsEnd-has_end c e h =
       some_in-true c n (λ e. is_leading (sat value n) r c (e + 1)) e h.0 h.1
       (Leads-is_leading B (sat value n) r c (e + 1) h.2)
@@ -135,7 +136,8 @@ module _ (B : Type 0) (value : B → ℕ → Bool) (r : Antecedent B) (s : Seq B
       (and_from _ _ (Leads-is_leading B (sat value n) r c (h.0 + 1) h.1.2)
       (not_from_false _ (IsBroken-impossible h.0 h.2)))
 
-  all_kept-each : (c : ℕ) → IsTrue (all_kept value r s n c) → (e : ℕ) → IsEnd value r n c e → IsKept value s n e
+  all_kept-each : (c : ℕ) → IsTrue (all_kept value r s n c) → (e : ℕ) → EndsAntecedent value r n c e
+      → IsKept value s n e
   all_kept-each c h e end =
       let o = each_in-at c n (λ e. not (is_leading (sat value n) r c (e + 1)) || is_kept value s n e) e h end.0 end.1 in
       elim (or_cases (not (is_leading (sat value n) r c (e + 1))) (is_kept value s n e) o) [
@@ -143,7 +145,8 @@ module _ (B : Type 0) (value : B → ℕ → Bool) (r : Antecedent B) (s : Seq B
         | inr on ↦ is_kept-IsKept e on
       ]
 
-  each-all_kept : (c : ℕ) → ((e : ℕ) → IsEnd value r n c e → IsKept value s n e) → IsTrue (all_kept value r s n c)
+  each-all_kept : (c : ℕ) → ((e : ℕ) → EndsAntecedent value r n c e → IsKept value s n e)
+      → IsTrue (all_kept value r s n c)
   each-all_kept c h =
       each_in-true c n (λ e. not (is_leading (sat value n) r c (e + 1)) || is_kept value s n e) (λ e from below.
       elim (cases_Bool (is_leading (sat value n) r c (e + 1))) [

@@ -8,3 +8,8 @@ pub mod EmptinessLaws
 pub mod WeightLaws
 pub mod AgreeLaws
 pub mod FirstLaws
+pub mod NameLaws
+pub mod ScanLaws
+pub mod ReadLaws
+pub mod MarkLaws
+pub mod SlotLaws

@@ -37,8 +37,8 @@ IsDegenerateBy first r = (j : ℕ) → 0 < j → MatchesBy always first r 0 j �
 
 -- A non-empty match of the antecedent from c ends with the tick e, where the ticks below n were
 -- seen.
-abbrev pub IsEnd : {B : Type 0} → (B → ℕ → Bool) → Antecedent B → ℕ → ℕ → ℕ → Type 0
-IsEnd value r n c e = (c ≤ e) × (e < n) × Leads (sat value n) r c (e + 1)
+abbrev pub EndsAntecedent : {B : Type 0} → (B → ℕ → Bool) → Antecedent B → ℕ → ℕ → ℕ → Type 0
+EndsAntecedent value r n c e = (c ≤ e) × (e < n) × Leads (sat value n) r c (e + 1)
 
 -- The obligation at e is kept by n: a match of the consequent from e ends by n.
 abbrev pub IsKept : {B : Type 0} → (B → ℕ → Bool) → Seq B → ℕ → ℕ → Type 0
@@ -49,22 +49,23 @@ abbrev pub IsBroken : {B : Type 0} → (B → ℕ → Bool) → Seq B → ℕ �
 IsBroken value s n e = (j : ℕ) → Matches (sat value n) s e j → ⊥
 
 -- No longer match of the antecedent from c is possible.
-abbrev pub IsOver : {B : Type 0} → (B → ℕ → Bool) → Antecedent B → ℕ → ℕ → Type 0
-IsOver value r n c = (j : ℕ) → n < j → Leads (sat value n) r c j → ⊥
+abbrev pub IsAntecedentOver : {B : Type 0} → (B → ℕ → Bool) → Antecedent B → ℕ → ℕ → Type 0
+IsAntecedentOver value r n c = (j : ℕ) → n < j → Leads (sat value n) r c j → ⊥
 
 -- An end has a broken obligation.
 abbrev pub Fails : {B : Type 0} → (B → ℕ → Bool) → Antecedent B → Seq B → ℕ → ℕ → Type 0
-Fails value r s n c = (e : ℕ) × IsEnd value r n c e × IsBroken value s n e
+Fails value r s n c = (e : ℕ) × EndsAntecedent value r n c e × IsBroken value s n e
 
 -- There is an end, each has a kept obligation, and no longer match of the antecedent is possible.
 abbrev pub Holds : {B : Type 0} → (B → ℕ → Bool) → Antecedent B → Seq B → ℕ → ℕ → Type 0
 Holds value r s n c =
-    ((e : ℕ) × IsEnd value r n c e) × ((e : ℕ) → IsEnd value r n c e → IsKept value s n e)
-    × IsOver value r n c
+    ((e : ℕ) × EndsAntecedent value r n c e)
+    × ((e : ℕ) → EndsAntecedent value r n c e → IsKept value s n e)
+    × IsAntecedentOver value r n c
 
 -- There is no end, and no longer match of the antecedent is possible.
 abbrev pub IsVacuous : {B : Type 0} → (B → ℕ → Bool) → Antecedent B → ℕ → ℕ → Type 0
-IsVacuous value r n c = ((e : ℕ) → IsEnd value r n c e → ⊥) × IsOver value r n c
+IsVacuous value r n c = ((e : ℕ) → EndsAntecedent value r n c e → ⊥) × IsAntecedentOver value r n c
 
 -- How the attempt is decided, where the ticks below n were seen.
 abbrev pub IsDecided :

@@ -8,3 +8,7 @@ pub mod Ordered
 pub mod Emptiness
 pub mod Laws
 pub mod Verdicts
+pub mod Names
+pub mod Reads
+pub mod Scans
+pub mod Marks

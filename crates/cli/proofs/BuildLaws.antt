@@ -39,7 +39,7 @@ use Rattle.cli_faults.specs.Faults.{vcd_fault, type_fault, compile_fault}
 use Rattle.cli.specs.Reported.{HasItems, SaysSuite}
 use Rattle.cli.specs.Outcomes.{WhyNoItems, WhyNotTyped, WhyNoReport}
 use Rattle.cli.specs.Builds.{
-  IsNamed,
+  IsAssertionNamed,
   WhyNoProgram,
   WhyNotBuilt,
   Build,
@@ -61,7 +61,7 @@ err_kept (Err e) P Q f h = f e h
 
 -- the assertion of the name has no program
 pub unnamed : (suite : Suite) (name : List ℕ) (a : Assertion) (e : CompileFault)
-    → IsNamed suite name a → WhyNotCompiled suite a e → WhyNoProgram suite name (compile_fault e)
+    → IsAssertionNamed suite name a → WhyNotCompiled suite a e → WhyNoProgram suite name (compile_fault e)
 unnamed suite name a compiles.TooManyAtoms of why = record { assertion = a; of = of; why = why }
 unnamed suite name a compiles.CodeTooLong of why = record { assertion = a; of = of; why = why }
 unnamed suite name a compiles.TooManySlots of why = record { assertion = a; of = of; why = why }

@@ -33,7 +33,7 @@ use Rattle.cycle_window.specs.Bound.{Misfit, misfit, HasClock, IsClock}
 use Rattle.vcd_reader.specs.Dump.{Contents}
 use Rattle.cycle_window.specs.Ticks.{ticks_of, row_of}
 use Rattle.verdicts.specs.Lines.{LineData, ReportData, report_of}
-use Rattle.compiler.specs.Conditions.{IsFit}
+use Rattle.compiler.specs.Conditions.{FitsSuite}
 use Rattle.cli_lines.specs.Lines.{IsWatched, AreVariables, rows_at, IsLineOf, IsReportOf}
 use Rattle.judging_reports.specs.Named.{AreNamed}
 use Rattle.judging_reports.specs.Judged.{AreLinesOver}
@@ -116,7 +116,7 @@ reports_by c suite code r clock named over =
 -- the assertions of a text's suite are fit
 pub all_fit : SuitesFit → (c : Contents) (text : List ℕ) (items : List ItemForm) (suite : Suite)
     → HasItems text items → IsTyped c items suite
-    → AllByRecursion (IsFit suite) suite.assertions.items
+    → AllByRecursion (FitsSuite suite) suite.assertions.items
 all_fit law c text items suite has typed =
     law (width_named c.variables) text suite
     (record {

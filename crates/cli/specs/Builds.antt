@@ -10,7 +10,7 @@ use Rattle.verifier.specs.Programs.{IsAccepted, least_limits}
 use Rattle.parser.specs.declared.fault.ParseFault.TheVariants as parsing
 use Rattle.compiler.specs.declared.fault.CompileFault.{CompileFault}
 use Rattle.compiler.specs.declared.fault.CompileFault.TheVariants as compiles
-use Rattle.compiler.specs.Faults.{WhyNotCompiled, IsFaultless}
+use Rattle.compiler.specs.Faults.{WhyNotCompiled, HasNoFault}
 use Rattle.compiler.specs.Parts.{declared_from}
 use Rattle.compiler.specs.Programs.{IsProgramOf}
 use Rattle.vcd_reader.specs.declared.fault.VcdFault.TheVariants as dumps
@@ -23,7 +23,7 @@ use Rattle.cli.specs.Reported.{SaysSuite}
 use Rattle.cli.specs.Outcomes.{HasNoItems, IsMistyped}
 
 -- The suite's assertion of this name.
-pub record IsNamed (suite : Suite) (name : List ℕ) (a : Assertion) : Type 0 where
+pub record IsAssertionNamed (suite : Suite) (name : List ℕ) (a : Assertion) : Type 0 where
   pub place : ℕ
   pub is : slice_get suite.assertions.items place ≡ Some a
   pub named : string_bytes a.name ≡ name
@@ -37,8 +37,8 @@ LacksName suite name =
 -- name, which has no fault; the limits that it declares are the least that serve it.
 pub record IsSpelledProgram (suite : Suite) (name bytes : List ℕ) : Type 0 where
   pub assertion : Assertion
-  pub of : IsNamed suite name assertion
-  pub faultless : IsFaultless suite assertion
+  pub of : IsAssertionNamed suite name assertion
+  pub faultless : HasNoFault suite assertion
   pub program : ProgramData
   pub means : IsProgramOf suite assertion program
   pub accepted : IsAccepted program
@@ -49,7 +49,7 @@ pub record IsSpelledProgram (suite : Suite) (name bytes : List ℕ) : Type 0 whe
 -- The suite's assertion of this name has no program.
 pub record HasNoneOfName (suite : Suite) (name : List ℕ) (fault : CompileFault) : Type 0 where
   pub assertion : Assertion
-  pub of : IsNamed suite name assertion
+  pub of : IsAssertionNamed suite name assertion
   pub why : WhyNotCompiled suite assertion fault
 
 -- why a suite has no program for a name

@@ -4,8 +4,8 @@ ghost use Rattle.std.specs.Prelude.{IfOk, IfErr, MatchOption};
 ghost use Rattle.std.specs.List.{AllByRecursion};
 ghost use Rattle.vcd_reader.specs.Dump.{Contents};
 ghost use Rattle.vcd_reader.specs.Held.{HoldsContents};
-ghost use Rattle.compiler.specs.Conditions.{IsFit};
-ghost use Rattle.cli.specs.Builds.{IsNamed, LacksName, IsSpelledProgram, WhyNoProgram};
+ghost use Rattle.compiler.specs.Conditions.{FitsSuite};
+ghost use Rattle.cli.specs.Builds.{IsAssertionNamed, LacksName, IsSpelledProgram, WhyNoProgram};
 ghost use Rattle.cli.specs.Builds.{IsBuilt, WhyNotBuilt, IsBuiltFrom, WhyBuildRefused, build_of};
 
 use crate::text::{file_of, suite_of};
@@ -21,7 +21,7 @@ use vcd_reader::{Dump, read_dump};
 /// The assertion of this name.
 fn assertion_named<'s>(suite: &'s Suite, name: &str) -> Option<&'s Assertion>
     ensures { MatchOption result (LacksName suite.now name.now)
-        (λ a. IsNamed suite.now name.now a.now) }
+        (λ a. IsAssertionNamed suite.now name.now a.now) }
 {
     for assertion in &suite.assertions {
         if assertion.name.as_str() == name {
@@ -33,7 +33,7 @@ fn assertion_named<'s>(suite: &'s Suite, name: &str) -> Option<&'s Assertion>
 
 /// The spelling of the program of the assertion of this name.
 fn program_named<'a>(alloc: Global, suite: &Suite, name: &str) -> Result<Vec<u8>, Fault<'a>>
-    requires { AllByRecursion (IsFit suite.now) suite.now.assertions.items }
+    requires { AllByRecursion (FitsSuite suite.now) suite.now.assertions.items }
     ensures ok { IfOk result (λ bytes. IsSpelledProgram suite.now name.now bytes.items) }
     ensures err { IfErr result (WhyNoProgram suite.now name.now) }
 {

@@ -7,7 +7,7 @@ ghost use Rattle.vcd_reader.specs.Held.{HoldsContents, variables_of};
 ghost use Rattle.cycle_window.specs.Bound.{IsClock};
 ghost use Rattle.cycle_window.specs.Held.{AreClocksOf, code_in};
 ghost use Rattle.verdicts.specs.Shown.{data_of};
-ghost use Rattle.compiler.specs.Conditions.{IsFit};
+ghost use Rattle.compiler.specs.Conditions.{FitsSuite};
 ghost use Rattle.cli_lines.specs.Lines.{IsWatched};
 ghost use Rattle.cli.specs.Reported.{HasReport, SaysSuite};
 ghost use Rattle.cli.specs.Outcomes.{WhyNoneByPrograms, IsAnswered, WhyCheckRefused};
@@ -50,7 +50,7 @@ pub(crate) fn timed_suite<'a>(
     ensures watched { IfOk result (λ t.
         AllByRecursion (IsWatched (variables_of dump.now)) t.suite.names.items) }
     ensures fit { IfOk result (λ t.
-        AllByRecursion (IsFit t.suite) t.suite.assertions.items) }
+        AllByRecursion (FitsSuite t.suite) t.suite.assertions.items) }
     ensures err { (c : Contents) → HoldsContents dump.now c
         → IfErr result (WhyNoneByPrograms c text.entry.now) }
 {

@@ -4,7 +4,7 @@
 use cli_faults::Fault;
 use lexer::Token;
 use parser::File;
-use parser_trees::{AssertionTree, ItemTree};
+use parser_grammar::{AssertionTree, ItemTree};
 use std::alloc::{AllocError, Global};
 
 /// Of each assertion the byte at which it begins, and of each counter its name, in the order of the

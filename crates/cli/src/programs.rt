@@ -6,7 +6,7 @@ ghost use Rattle.vcd_reader.specs.Dump.{Contents};
 ghost use Rattle.vcd_reader.specs.Held.{HoldsContents, variables_of};
 ghost use Rattle.cycle_window.specs.Held.{AreClocksOf, code_in};
 ghost use Rattle.verdicts.specs.Shown.{data_of};
-ghost use Rattle.compiler.specs.Conditions.{IsFit};
+ghost use Rattle.compiler.specs.Conditions.{FitsSuite};
 ghost use Rattle.cli_lines.specs.Lines.{IsWatched, AreVariables, rows_at};
 ghost use Rattle.cli_lines.specs.Faults.{WhyNoLines};
 ghost use Rattle.judging_reports.specs.Reported.{OverRows};
@@ -41,7 +41,7 @@ pub(crate) fn report_by_programs(
 ) -> Result<Report, LinesFault>
     requires clocks { AreClocksOf dump clocks }
     requires watched { AllByRecursion (IsWatched (variables_of dump)) suite.now.names.items }
-    requires fit { AllByRecursion (IsFit suite.now) suite.now.assertions.items }
+    requires fit { AllByRecursion (FitsSuite suite.now) suite.now.assertions.items }
     ensures ok { (c : Contents) (signals : List ℕ) → HoldsContents dump c
         → AreVariables c suite.now signals
         → IfOk result (λ r. OverRows suite.now (rows_at c signals (code_in clocks))

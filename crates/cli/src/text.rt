@@ -1,7 +1,7 @@
 //! What a text says over a dump.
 
 ghost use Rattle.std.specs.Prelude.{IfOk, IfErr};
-ghost use Rattle.parser_trees.specs.Views.{items_of};
+ghost use Rattle.parser_grammar.specs.Views.{items_of};
 ghost use Rattle.vcd_reader.specs.Dump.{Contents};
 ghost use Rattle.vcd_reader.specs.Held.{HoldsContents};
 ghost use Rattle.cli.specs.Reported.{HasItems, IsTyped};

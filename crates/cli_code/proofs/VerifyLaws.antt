@@ -10,14 +10,14 @@ use Rattle.verdicts.specs.declared.write.ReportFault.TheVariants as reports
 use Rattle.verdicts.specs.Written.{WhyUnwritten}
 use Rattle.cli_code.specs.Limits.{limits_text}
 use Rattle.cli_faults.specs.Faults.{refusal_fault, report_fault}
-use Rattle.cli_faults.specs.Codes.{Spells, SpellsAccepted, IsNotAccepted, WhyNotAccepted}
+use Rattle.cli_faults.specs.Codes.{SpellsProgram, SpellsAccepted, IsNotAccepted, WhyNotAccepted}
 use Rattle.cli_code.specs.Verifications.{Verification, WhyNotTold}
 
 or_none : {A B : Type 0} → (A → ⊥) → A ⊎ B → B
 or_none none (inl a) = absurd (none a)
 or_none none (inr b) = b
 
-module _ (bytes : List ℕ) (program : ProgramData) (spells : Spells bytes program) where
+module _ (bytes : List ℕ) (program : ProgramData) (spells : SpellsProgram bytes program) where
   not_accepted : (r : Refusal) → (r ≡ refusals.Memory → ⊥)
       → (r ≡ refusals.Memory) ⊎ (IsAccepted program → ⊥)
       → (r ≡ refusals.Memory) ⊎ IsFirstRefusal r (all_faults program) → IsNotAccepted bytes r

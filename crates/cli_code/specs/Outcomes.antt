@@ -14,7 +14,7 @@ use Rattle.cycle_window.specs.declared.fault.WindowFault.TheVariants as windows
 use Rattle.verdicts.specs.declared.write.ReportFault.TheVariants as reports
 use Rattle.verdicts.specs.Lines.{ReportData}
 use Rattle.verdicts.specs.Texts.{report_text}
-use Rattle.machine_runs.specs.Reported.{Reports, WhyNoRun}
+use Rattle.machine_runs.specs.Reported.{ReportsRun, WhyNoRun}
 use Rattle.cli_faults.specs.declared.fault.Fault.{Fault}
 use Rattle.cli_faults.specs.declared.fault.Fault.TheVariants.{Vcd, BadSize, BadWorkers, Window}
 use Rattle.cli_faults.specs.declared.fault.Fault.TheVariants.{Report, Code}
@@ -30,7 +30,7 @@ use Rattle.cli_faults.specs.Codes.{SpellsAccepted, WhyNotAccepted}
 pub record HasRunReport (c : Contents) (code : List ℕ) (report : ReportData) : Type 0 where
   pub program : ProgramData
   pub accepted : SpellsAccepted code program
-  pub reports : Reports c program report
+  pub reports : ReportsRun c program report
 
 -- The report on the bytes of a dump and the bytes of a program.
 pub record IsRunReport (bytes code : List ℕ) (report : ReportData) : Type 0 where

@@ -5,13 +5,13 @@ use Rattle.bytecode_files.specs.declared.fault.CodeFault.TheVariants as codes
 use Rattle.bytecode_files.specs.Spelling.{spelling}
 use Rattle.cli_faults.specs.declared.fault.Fault.{Fault}
 use Rattle.cli_faults.specs.declared.fault.Fault.TheVariants.{Code, Memory}
-use Rattle.cli_faults.specs.Codes.{Spells, IsMisspelled}
+use Rattle.cli_faults.specs.Codes.{SpellsProgram, IsMisspelled}
 
 -- The bytes spell a program, in version 2 or in version 1, and the file is its spelling in
 -- version 2.
 pub record IsUpgrade (bytes file : List ℕ) : Type 0 where
   pub program : ProgramData
-  pub spells : Spells bytes program
+  pub spells : SpellsProgram bytes program
   pub written : file ≡ spelling program
 
 -- why bytes have no upgrade

@@ -13,25 +13,25 @@ use Rattle.cli_faults.specs.declared.fault.Fault.{Fault}
 use Rattle.cli_faults.specs.declared.fault.Fault.TheVariants.{Code, Refused, Memory}
 
 -- The bytes spell this program, in version 2 or in version 1.
-pub record Spells (bytes : List ℕ) (program : ProgramData) : Type 0 where
+pub record SpellsProgram (bytes : List ℕ) (program : ProgramData) : Type 0 where
   pub newer : Bool
   pub fits : IsTrue (fits_program_in newer program)
   pub spelled : bytes ≡ spelling_in newer program
 
 -- They spell it, and the verifier accepts it.
 pub record SpellsAccepted (bytes : List ℕ) (program : ProgramData) : Type 0 where
-  pub spells : Spells bytes program
+  pub spells : SpellsProgram bytes program
   pub accepted : IsAccepted program
 
 -- They spell no program, and this is the first fault in reading order.
 pub record IsMisspelled (bytes : List ℕ) (fault : CodeFault) : Type 0 where
-  pub none : (program : ProgramData) → Spells bytes program → ⊥
+  pub none : (program : ProgramData) → SpellsProgram bytes program → ⊥
   pub first : IsFirstFault bytes fault
 
 -- They spell a program that the verifier doesn't accept, and this is its first fault.
 pub record IsNotAccepted (bytes : List ℕ) (fault : Refusal) : Type 0 where
   pub program : ProgramData
-  pub spells : Spells bytes program
+  pub spells : SpellsProgram bytes program
   pub refused : IsAccepted program → ⊥
   pub first : IsFirstRefusal fault (all_faults program)
 

@@ -37,18 +37,14 @@ use Rattle.cycle_window.specs.Bound.{first_refused}
 use Rattle.compiler.specs.declared.fault.CompileFault.{CompileFault}
 use Rattle.compiler.specs.declared.fault.CompileFault.TheVariants as faults
 use Rattle.compiler.specs.Faults.{WhyNotCompiled}
-use Rattle.workers_core.specs.declared.job_fault.JobFault.{JobFault}
-use Rattle.workers_core.specs.declared.job_fault.JobFault.TheVariants as jobs
-use Rattle.workers_core.specs.Wanted.{wanted_in, WhyUnfit}
 use Rattle.cli_lines.specs.declared.fault.LinesFault.{LinesFault}
 use Rattle.cli_lines.specs.declared.fault.LinesFault.TheVariants.{Program, BadJob, Memory}
 use Rattle.cli_lines.specs.Faults.{
   IsMadeOf,
-  HasProgram,
-  IsNoMisfit,
+  HasAcceptedProgram,
   program_fault,
   WhyNoPrograms,
-  WhyNoJob,
+  WhyBadJob,
   WhyNoLines,
 }
 
@@ -95,7 +91,7 @@ program-pushed P front more a grown is h =
 
 -- assertions with their programs have programs
 pub have-programs : (suite : Suite) (all : List Assertion) (ps : List ProgramData)
-    → AllZip (IsMadeOf suite) all ps → AllByRecursion (HasProgram suite) all
+    → AllZip (IsMadeOf suite) all ps → AllByRecursion (HasAcceptedProgram suite) all
 have-programs suite [] [] made = tt
 have-programs suite [] (p ∷ ps) made = absurd made
 have-programs suite (a ∷ all) [] made = absurd made
@@ -119,7 +115,7 @@ same-long R (x ∷ xs) (y ∷ ys) h = ap (λ n. suc n) (same-long R xs ys h.1)
 -- why there are no programs
 pub no-programs : (suite : Suite) (place : ℕ) (a : Assertion) (e : CompileFault) →
     slice_get suite.assertions.items place ≡ Some a →
-    AllByRecursion (HasProgram suite) (take place suite.assertions.items) →
+    AllByRecursion (HasAcceptedProgram suite) (take place suite.assertions.items) →
     WhyNotCompiled suite a e → WhyNoPrograms suite (program_fault e)
 no-programs suite place a faults.TooManyAtoms is before why =
     record { place = place; assertion = a; is = is; why = why; before = before }
@@ -133,7 +129,7 @@ no-programs suite place a faults.Memory is before why = tt
 
 -- no job, and so no lines
 pub job-lines : (suite : Suite) (ps : List ProgramData) (e : LinesFault)
-    → AllZip (IsMadeOf suite) suite.assertions.items ps → WhyNoJob ps e → WhyNoLines suite e
+    → AllZip (IsMadeOf suite) suite.assertions.items ps → WhyBadJob ps e → WhyNoLines suite e
 job-lines suite ps (Program fault) made why = absurd why
 job-lines suite ps BadJob made why =
     let long = same-long (IsMadeOf suite) suite.assertions.items ps made in
@@ -146,16 +142,6 @@ job-lines suite ps BadJob made why =
       programs = have-programs suite suite.assertions.items ps made;
     }
 job-lines suite ps Memory made why = tt
-
--- no fault of a clock or of a signal, where all signals fit
-pub no-misfit : (vs : List Declared) (ps : List ProgramData) (e : JobFault)
-    → first_refused vs (wanted_in ps) ≡ None → WhyUnfit vs ps e → IsNoMisfit e
-no-misfit vs ps jobs.NoClock none why = why
-no-misfit vs ps jobs.ClockWidth none why = why
-no-misfit vs ps jobs.BadJob none why = tt
-no-misfit vs ps (jobs.NoSignal path) none why = absurd cc
-no-misfit vs ps (jobs.SignalWidth path) none why = absurd cc
-no-misfit vs ps jobs.Memory none why = tt
 
 -- what an error that is known says
 pub err-is : {X E : Type 0} (r : Result X E) (e : E) (Why : E → Type 0) → IsErrAnd r (λ f. f ≡ e)

@@ -57,7 +57,7 @@ use Rattle.cycle_window.specs.Ticks.{ticks_of, sample, row_of}
 use Rattle.machine_runs.specs.Reported.{wanted_slot}
 use Rattle.compiler.specs.Programs.{IsSlotOf}
 use Rattle.compiler.proofs.ListLaws.{some-one, map-twice, map-alike, by-index}
-use Rattle.laws_programs.specs.Laws.{AreRowsOf, picked}
+use Rattle.laws_programs.specs.Laws.{AreSuiteRows, picked_row}
 use Rattle.cli_lines.specs.Lines.{IsWatched, AreVariables, rows_at}
 
 -- the value of a variable fits it
@@ -116,7 +116,7 @@ found vs (t ∷ ss) (v ∷ signals) are watched (suc place) s is =
 
 -- the variables of slots are those of their places
 pub record ArePicked (signals places variables : List ℕ) : Type 0 where
-  pub are : variables ≡ picked places signals
+  pub are : variables ≡ picked_row places signals
   pub inside : AllByRecursion (λ place. place < length signals) places
 
 pub are-picked : (vs : List Declared) (suite : Suite) (signals : List ℕ) →
@@ -150,21 +150,21 @@ are-picked vs suite signals named watched (p ∷ places) (s ∷ slots) (v ∷ va
 
 picked-row : (f : ℕ → ℕ) (signals places : List ℕ)
     → AllByRecursion (λ place. place < length signals) places
-    → map f (picked places signals) ≡ picked places (map f signals)
+    → map f (picked_row places signals) ≡ picked_row places (map f signals)
 picked-row f signals [] h = refl
 picked-row f signals (p ∷ places) h =
-    ap (λ (n : ℕ). n ∷ map f (picked places signals)) (sym (get_or-map f signals p 0 0 h.0))
+    ap (λ (n : ℕ). n ∷ map f (picked_row places signals)) (sym (get_or-map f signals p 0 0 h.0))
     ∙ ap (λ (ns : List ℕ). slice_index (map f signals) p ∷ ns) (picked-row f signals places h.1)
 
 -- the rows of a program's signals
 pub picked-rows : (c : Contents) (code : ℕ) (signals places variables : List ℕ) →
     ArePicked signals places variables →
-    rows_at c variables code ≡ map (picked places) (rows_at c signals code)
+    rows_at c variables code ≡ map (picked_row places) (rows_at c signals code)
 unfolding row_of
 picked-rows c code signals places variables h =
-    map-alike (row_of c variables) (λ (k : ℕ). picked places (row_of c signals k)) (ticks_of c code)
+    map-alike (row_of c variables) (λ (k : ℕ). picked_row places (row_of c signals k)) (ticks_of c code)
     (λ k. ap (map (sample c k)) h.are ∙ picked-row (sample c k) signals places h.inside)
-    ∙ sym (map-twice (picked places) (row_of c signals) (ticks_of c code))
+    ∙ sym (map-twice (picked_row places) (row_of c signals) (ticks_of c code))
 
 -- a row's values have the signals' widths
 value-at : (c : Contents) (k : ℕ) (signals : List ℕ) (place : ℕ) (s : Signal)
@@ -183,7 +183,7 @@ value-at c k signals place s one =
 pub are-rows : (c : Contents) (suite : Suite) (signals : List ℕ) (code : ℕ) →
     AreVariables c suite signals →
     AllByRecursion (IsWatched c.variables) suite.names.items →
-    AreRowsOf suite (rows_at c signals code)
+    AreSuiteRows suite (rows_at c signals code)
 are-rows c suite signals code named watched k place s is =
     let rows = rows_at c signals code in
     let ticks = ticks_of c code in
@@ -249,7 +249,7 @@ pub own-rows :
     AreVariables c suite signals →
     AllByRecursion (IsWatched c.variables) suite.names.items →
     AllZip (IsSlotOf suite) places p.signals →
-    rows_at c (sampled c.variables p) code ≡ map (picked places) (rows_at c signals code)
+    rows_at c (sampled c.variables p) code ≡ map (picked_row places) (rows_at c signals code)
 own-rows c code suite p signals places named watched slots =
     picked-rows c code signals places (sampled c.variables p)
     (are-picked c.variables suite signals named watched places p.signals (sampled c.variables p)

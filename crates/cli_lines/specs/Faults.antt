@@ -7,10 +7,8 @@ use Rattle.bytecode.specs.Values.{ProgramData}
 use Rattle.verifier.specs.Programs.{IsAccepted}
 use Rattle.compiler.specs.declared.fault.CompileFault.{CompileFault}
 use Rattle.compiler.specs.declared.fault.CompileFault.TheVariants as compiles
-use Rattle.compiler.specs.Faults.{WhyNotCompiled, IsFaultless}
+use Rattle.compiler.specs.Faults.{WhyNotCompiled, HasNoFault}
 use Rattle.compiler.specs.Programs.{IsProgramOf}
-use Rattle.workers_core.specs.declared.job_fault.JobFault.{JobFault}
-use Rattle.workers_core.specs.declared.job_fault.JobFault.TheVariants as jobs
 use Rattle.workers_core.specs.Wanted.{IsBadCount}
 use Rattle.cli_lines.specs.declared.fault.LinesFault.{LinesFault}
 use Rattle.cli_lines.specs.declared.fault.LinesFault.TheVariants.{Program, BadJob, Memory}
@@ -22,13 +20,13 @@ program_fault fault = Program fault
 
 -- The assertion has no fault, and this is its program, which the verifier accepts.
 pub record IsMadeOf (suite : Suite) (a : Assertion) (p : ProgramData) : Type 0 where
-  pub faultless : IsFaultless suite a
+  pub faultless : HasNoFault suite a
   pub of : IsProgramOf suite a p
   pub accepted : IsAccepted p
 
 -- The assertion has no fault, and a program that the verifier accepts.
-pub record HasProgram (suite : Suite) (a : Assertion) : Type 0 where
-  pub faultless : IsFaultless suite a
+pub record HasAcceptedProgram (suite : Suite) (a : Assertion) : Type 0 where
+  pub faultless : HasNoFault suite a
   pub program : ProgramData
   pub of : IsProgramOf suite a program
   pub accepted : IsAccepted program
@@ -39,7 +37,7 @@ pub record HasNoProgram (suite : Suite) (fault : CompileFault) : Type 0 where
   pub assertion : Assertion
   pub is : slice_get suite.assertions.items place ≡ Some assertion
   pub why : WhyNotCompiled suite assertion fault
-  pub before : AllByRecursion (HasProgram suite) (take place suite.assertions.items)
+  pub before : AllByRecursion (HasAcceptedProgram suite) (take place suite.assertions.items)
 
 -- why some assertion has no program; want of memory says nothing of the suite
 abbrev pub WhyNoPrograms : Suite → LinesFault → Type 0
@@ -48,22 +46,16 @@ WhyNoPrograms suite (Program fault) = HasNoProgram suite fault
 WhyNoPrograms suite BadJob = ⊥
 WhyNoPrograms suite Memory = Unit {0}
 
--- it is no fault of the clock or of a signal
-abbrev pub IsNoMisfit : JobFault → Type 0
-IsNoMisfit jobs.BadJob = Unit {0}
-IsNoMisfit jobs.Memory = Unit {0}
-IsNoMisfit fault = ⊥
-
 -- why these programs are no job
-abbrev pub WhyNoJob : List ProgramData → LinesFault → Type 0
-WhyNoJob ps (Program fault) = ⊥
-WhyNoJob ps BadJob = IsBadCount ps
-WhyNoJob ps Memory = Unit {0}
+abbrev pub WhyBadJob : List ProgramData → LinesFault → Type 0
+WhyBadJob ps (Program fault) = ⊥
+WhyBadJob ps BadJob = IsBadCount ps
+WhyBadJob ps Memory = Unit {0}
 
 -- Each assertion has a program, and there are none of them, or too many.
 pub record HasBadCount (suite : Suite) : Type 0 where
   pub count : (length suite.assertions.items ≡ 0) ⊎ (4096 < length suite.assertions.items)
-  pub programs : AllByRecursion (HasProgram suite) suite.assertions.items
+  pub programs : AllByRecursion (HasAcceptedProgram suite) suite.assertions.items
 
 -- first an assertion that has no program, then their number
 abbrev pub WhyNoLines : Suite → LinesFault → Type 0

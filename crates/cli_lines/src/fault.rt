@@ -5,6 +5,7 @@ ghost use Rattle.cli_lines.specs.declared.fault.LinesFault.TheVariants.{Memory};
 
 use compiler::CompileFault;
 use std::alloc::{AllocError, AllocFailed};
+use workers_core::BadJob;
 
 /// Why there are no lines.
 #[derive(Debug, Drop)]
@@ -27,6 +28,16 @@ impl From<CompileFault> for LinesFault {
             CompileFault::Memory => LinesFault::Memory,
             other => LinesFault::Program(other),
         }
+    }
+}
+
+impl From<BadJob> for LinesFault {
+    ghost use Rattle.cli_lines.specs.declared.fault.LinesFault.TheVariants as faults;
+
+    ghost from_gives = { λ _ e. e ≡ faults.BadJob };
+
+    fn from(_fault: BadJob) -> LinesFault {
+        LinesFault::BadJob
     }
 }
 

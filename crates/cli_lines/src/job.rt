@@ -1,16 +1,14 @@
 //! The job of a suite's programs.
 
-ghost use Rattle.std.specs.Prelude.{◌≡◌, List, None, IfOk, IfErr};
+ghost use Rattle.std.specs.Prelude.{◌≡◌, None, IfOk, IfErr};
 ghost use Rattle.std.specs.List.{AllByRecursion, AllZip};
-ghost use Rattle.bytecode.specs.Values.{ProgramData};
-ghost use Rattle.vcd_reader.specs.Variables.{Declared};
 ghost use Rattle.vcd_reader.specs.Held.{variables_of};
 ghost use Rattle.cycle_window.specs.Bound.{first_refused};
 ghost use Rattle.cycle_window.specs.Held.{AreClocksOf};
-ghost use Rattle.workers_core.specs.Wanted.{wanted_in, WhyUnfit};
-ghost use Rattle.compiler.specs.Conditions.{IsFit};
+ghost use Rattle.workers_core.specs.Wanted.{wanted_in};
+ghost use Rattle.compiler.specs.Conditions.{FitsSuite};
 ghost use Rattle.cli_lines.specs.Lines.{IsWatched};
-ghost use Rattle.cli_lines.specs.Faults.{IsNoMisfit, IsMadeOf, WhyNoJob, WhyNoLines};
+ghost use Rattle.cli_lines.specs.Faults.{IsMadeOf, WhyBadJob, WhyNoLines};
 
 use crate::fault::LinesFault;
 use crate::programs::programs_of;
@@ -19,40 +17,18 @@ use cycle_window::Clocks;
 use std::alloc::Global;
 use vcd_reader::Dump;
 use verifier::Verified;
-use workers_core::{Job, JobFault};
-
-/// The fault of a job whose signals all name variables of their widths, and whose clock is there.
-fn job_fault(fault: JobFault) -> LinesFault
-    requires { IsNoMisfit fault }
-    ensures { (vs : List Declared) (ps : List ProgramData)
-        → WhyUnfit vs ps fault → WhyNoJob ps result }
-{
-    match fault {
-        JobFault::BadJob => LinesFault::BadJob,
-        JobFault::Memory => LinesFault::Memory,
-        _ => unreachable!(),
-    }
-}
+use workers_core::Job;
 
 /// The job of programs whose signals all name variables of their widths.
-fn job_of(
-    alloc: Global,
-    programs: Vec<Verified>,
-    dump: Dump,
-    clocks: Clocks,
-) -> Result<Job, LinesFault>
+fn job_of(programs: Vec<Verified>, dump: Dump, clocks: Clocks) -> Result<Job, LinesFault>
     requires clocks { AreClocksOf dump clocks }
     requires fits { first_refused (variables_of dump) (wanted_in programs.items) ≡ None }
     ensures programs { IfOk result (λ j. j.programs.items ≡ programs.items) }
     ensures dump { IfOk result (λ j. j.dump ≡ dump) }
     ensures clocks { IfOk result (λ j. j.clocks ≡ clocks) }
-    ensures fault { IfErr result (WhyNoJob programs.items) }
+    ensures fault { IfErr result (WhyBadJob programs.items) }
 {
-    // An arm knows that the fault is no misfit, as `job_fault` asks; a `From` can't ask it.
-    match Job::over(alloc, programs, dump, clocks) {
-        Ok(job) => Ok(job),
-        Err(fault) => Err(job_fault(fault)),
-    }
+    Ok(Job::fitting(programs, dump, clocks)?)
 }
 
 /// The job of the programs of a suite's assertions, in their order.
@@ -64,7 +40,7 @@ pub(crate) fn suite_job(
 ) -> Result<Job, LinesFault>
     requires clocks { AreClocksOf dump clocks }
     requires watched { AllByRecursion (IsWatched (variables_of dump)) suite.now.names.items }
-    requires fit { AllByRecursion (IsFit suite.now) suite.now.assertions.items }
+    requires fit { AllByRecursion (FitsSuite suite.now) suite.now.assertions.items }
     ensures made { IfOk result (λ j.
         AllZip (IsMadeOf suite.now) suite.now.assertions.items j.programs.items) }
     ensures dump { IfOk result (λ j. j.dump ≡ dump) }
@@ -72,5 +48,5 @@ pub(crate) fn suite_job(
     ensures refused { IfErr result (WhyNoLines suite.now) }
 {
     let programs = programs_of(alloc, suite)?;
-    job_of(alloc, programs, dump, clocks)
+    job_of(programs, dump, clocks)
 }

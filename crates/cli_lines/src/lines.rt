@@ -6,7 +6,7 @@ ghost use Rattle.vcd_reader.specs.Dump.{Contents};
 ghost use Rattle.vcd_reader.specs.Held.{HoldsContents, variables_of};
 ghost use Rattle.cycle_window.specs.Held.{AreClocksOf, code_in};
 ghost use Rattle.verdicts.specs.Lines.{line};
-ghost use Rattle.compiler.specs.Conditions.{IsFit};
+ghost use Rattle.compiler.specs.Conditions.{FitsSuite};
 ghost use Rattle.cli_lines.specs.Lines.{IsWatched, AreVariables, rows_at, IsLineOf};
 ghost use Rattle.cli_lines.specs.Faults.{WhyNoLines};
 
@@ -30,7 +30,7 @@ pub fn lines_of(
 ) -> Result<Vec<Line>, LinesFault>
     requires clocks { AreClocksOf dump clocks }
     requires watched { AllByRecursion (IsWatched (variables_of dump)) suite.now.names.items }
-    requires fit { AllByRecursion (IsFit suite.now) suite.now.assertions.items }
+    requires fit { AllByRecursion (FitsSuite suite.now) suite.now.assertions.items }
     ensures lines { (c : Contents) (signals : List ℕ) → HoldsContents dump c
         → AreVariables c suite.now signals
         → IfOk result (λ ls. AllZip (IsLineOf suite.now (rows_at c signals (code_in clocks)))

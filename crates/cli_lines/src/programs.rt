@@ -2,7 +2,7 @@
 
 ghost use Rattle.std.specs.Prelude.{IfOk, IfErr};
 ghost use Rattle.std.specs.List.{AllByRecursion, AllZip};
-ghost use Rattle.compiler.specs.Conditions.{IsFit};
+ghost use Rattle.compiler.specs.Conditions.{FitsSuite};
 ghost use Rattle.cli_lines.specs.Faults.{IsMadeOf, WhyNoPrograms};
 
 use crate::fault::LinesFault;
@@ -13,7 +13,7 @@ use verifier::Verified;
 
 /// The programs of all assertions of a suite, in their order.
 pub(crate) fn programs_of(alloc: Global, suite: &Suite) -> Result<Vec<Verified>, LinesFault>
-    requires { AllByRecursion (IsFit suite.now) suite.now.assertions.items }
+    requires { AllByRecursion (FitsSuite suite.now) suite.now.assertions.items }
     ensures made { IfOk result (λ ps.
         AllZip (IsMadeOf suite.now) suite.now.assertions.items ps.items) }
     ensures refused { IfErr result (WhyNoPrograms suite.now) }

@@ -13,13 +13,13 @@ use Rattle.assertions.specs.Written.{Written, boolean, delay, lead, repeat, or, 
 use Rattle.assertions.specs.declared.sequence.Boolean.{Boolean}
 use Rattle.assertions.specs.declared.sequence.Boolean.TheVariants.{One, Listed}
 use Rattle.assertions.specs.Listed.{EachBoolean, IsListed, IsListedOption}
-use Rattle.compiler_reads.specs.Marks.{is_marked, places_from, slots_from}
+use Rattle.assertions.specs.Marks.{is_marked, places_from, slots_from}
 use Rattle.compiler_expressions.specs.declared.slots.SlotTable.{SlotTable}
 use Rattle.compiler_expressions.specs.Codes.{Slots}
 use Rattle.compiler_expressions.specs.Samples.{sample_code, sample_reach}
-use Rattle.compiler_expressions.specs.Chosen.{terms_at, held_at}
+use Rattle.compiler_expressions.specs.Chosen.{terms_at, held_counters}
 use Rattle.compiler_expressions.specs.Slots.{slots_in}
-use Rattle.compiler.specs.Conditions.{IsFit}
+use Rattle.compiler.specs.Conditions.{FitsSuite}
 use Rattle.compiler.specs.Readings.{IsReading, first_counter, slots_over, boolean_terms, counters_read, code_over}
 use Rattle.compiler.proofs.Places.{places-long}
 use Rattle.compiler.proofs.Known as known
@@ -38,7 +38,7 @@ slots-same t signals counters s c = fun_ext (λ o. fun_ext (λ p. at o p))
     at Signal p = ap (λ xs. unwrap_or (slice_get xs p) 0) s
     at Counter p = ap (λ xs. unwrap_or (slice_get xs p) 0) c
 
-module _ (suite : Suite) (a : Assertion) (fit : IsFit suite a) (signals counters : List Bool)
+module _ (suite : Suite) (a : Assertion) (fit : FitsSuite suite a) (signals counters : List Bool)
     (reading : IsReading suite a signals counters)
     (bs : List Expr) (at_s : List ℕ) (cs : List Counting) (ps : List ℕ)
     (e1 : bs ≡ suite.booleans.items) (e2 : at_s ≡ a.booleans.items) (e3 : cs ≡ suite.counters.items)
@@ -46,23 +46,25 @@ module _ (suite : Suite) (a : Assertion) (fit : IsFit suite a) (signals counters
   terms-same : terms_at bs at_s ≡ boolean_terms suite a
   terms-same = ap (λ b. terms_at b at_s) e1 ∙ ap (λ x. terms_at suite.booleans.items x) e2
 
-  held-same : held_at cs ps ≡ counters_read suite counters
-  held-same = ap (λ c. held_at c ps) e3 ∙ ap (λ x. held_at suite.counters.items x) e4
+  held-same : held_counters cs ps ≡ counters_read suite counters
+  held-same = ap (λ c. held_counters c ps) e3 ∙ ap (λ x. held_counters suite.counters.items x) e4
 
-  pub near-code : sample_reach (terms_at bs at_s) (held_at cs ps) < 65536
+  pub near-code : sample_reach (terms_at bs at_s) (held_counters cs ps) < 65536
   near-code =
       let es = map term_of (known.found suite a fit signals counters reading).booleans in
       let terms = terms-same ∙ (known.found suite a fit signals counters reading).terms in
       let bounded = made.bounded suite a fit signals counters reading in
-      let same : sample_reach (terms_at bs at_s) (held_at cs ps) ≡ sample_reach es (counters_read suite counters) =
-      ap (λ t. sample_reach t (held_at cs ps)) terms ∙ ap (λ h. sample_reach es h) held-same in
+      let same : sample_reach (terms_at bs at_s) (held_counters cs ps)
+      ≡ sample_reach es (counters_read suite counters) =
+      ap (λ t. sample_reach t (held_counters cs ps)) terms ∙ ap (λ h. sample_reach es h) held-same in
       omega (arith, same, bounded.reach)
 
-  pub code-same : (at : Slots) → at ≡ slots_over signals counters → sample_code at (terms_at bs at_s) (held_at cs ps)
+  pub code-same : (at : Slots) → at ≡ slots_over signals counters
+      → sample_code at (terms_at bs at_s) (held_counters cs ps)
       ≡ code_over suite a signals counters
   code-same at is =
-      ap (λ x. sample_code x (terms_at bs at_s) (held_at cs ps)) is
-      ∙ ap (λ t. sample_code (slots_over signals counters) t (held_at cs ps)) terms-same
+      ap (λ x. sample_code x (terms_at bs at_s) (held_counters cs ps)) is
+      ∙ ap (λ t. sample_code (slots_over signals counters) t (held_counters cs ps)) terms-same
       ∙ ap (λ h. sample_code (slots_over signals counters) (boolean_terms suite a) h) held-same
 
 -- listed among fewer, listed among more

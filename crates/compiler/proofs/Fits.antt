@@ -28,15 +28,15 @@ use Rattle.verifier_inference.specs.declared.refusal.Refusal.{Refusal}
 use Rattle.verifier_inference.specs.declared.refusal.Refusal.TheVariants.{SlotRange, Cycle}
 use Rattle.verifier_inference.specs.Rules.{block_rules}
 use Rattle.verifier_inference.specs.Typing.{IsFine}
-use Rattle.verifier_inference.specs.Sections.{IsSection, AreTyped, size_of}
+use Rattle.verifier_inference.specs.Sections.{IsSection, AreTyped, instructions_in}
 use Rattle.compiler_expressions.proofs.FitLaws.{samples-fit}
-use Rattle.compiler_reads.specs.Marks.{is_marked, places_from}
-use Rattle.compiler_reads.proofs.SlotLaws.{place-at}
-use Rattle.compiler.specs.Conditions.{IsFit}
+use Rattle.assertions.specs.Marks.{is_marked, places_from}
+use Rattle.assertions.proofs.SlotLaws.{place-at}
+use Rattle.compiler.specs.Conditions.{FitsSuite}
 use Rattle.compiler.specs.Programs.{disabling_atom}
 use Rattle.compiler.specs.Readings.{IsReading, slots_over, counters_read}
 use Rattle.compiler.specs.Faults.{is_long, is_long_found, is_long_path, AreCounted}
-use Rattle.compiler.specs.Parts.{slot_found, slot_at, width_found, width_at, AreParts}
+use Rattle.compiler.specs.Parts.{slot_found, slot_at, width_found, width_at, AreProgramParts}
 use Rattle.compiler.proofs.ListLaws.{some-one, all-at}
 use Rattle.compiler.proofs.Places.{AreBelow, stands-at, places-long, held-long}
 use Rattle.compiler.proofs.Known as known
@@ -115,7 +115,7 @@ all-by-index f (x ∷ xs) each =
     both (f x) (list_all f xs) (each 0 x refl) (all-by-index f xs (λ k y is. each (suc k) y is))
 
 blocks-fit : (section atoms positions p base : ℕ) (bs : List (List BlockInstr)) → atoms ≤ 256 → positions ≤ 256
-    → base + size_of bs ≤ 4096 →
+    → base + instructions_in bs ≤ 4096 →
     AreTyped section atoms positions p base bs → list_all (fits_list fits_block) bs ≡ true
 blocks-fit section atoms positions p base [] few many short typed = refl
 blocks-fit section atoms positions p base (b ∷ bs) few many short typed =
@@ -127,7 +127,8 @@ blocks-fit section atoms positions p base (b ∷ bs) few many short typed =
     (typed.0.each k i is))))
     (blocks-fit section atoms positions (p + 1) (base + length b) bs few many (omega (arith, short)) typed.1)
 
-section-fits : (number atoms : ℕ) (s : SectionData) → atoms ≤ 127 → length s.blocks ≤ 127 → size_of s.blocks ≤ 4096
+section-fits : (number atoms : ℕ) (s : SectionData) → atoms ≤ 127 → length s.blocks ≤ 127
+    → instructions_in s.blocks ≤ 4096
     → IsSection number atoms s →
     fits_section s ≡ true
 section-fits number atoms s few many short is =
@@ -146,9 +147,10 @@ disabling-fits n None few h = refl
 disabling-fits n (Some One) few h = absurd h
 disabling-fits n (Some (Listed i)) few h = small i 255 (omega (arith, few, h))
 
-module _ (suite : Suite) (a : Assertion) (fit : IsFit suite a) (signals counters : List Bool)
+module _ (suite : Suite) (a : Assertion) (fit : FitsSuite suite a) (signals counters : List Bool)
     (reading : IsReading suite a signals counters)
-    (counted : AreCounted suite a signals counters) (p : ProgramData) (parts : AreParts suite a signals counters p)
+    (counted : AreCounted suite a signals counters) (p : ProgramData)
+    (parts : AreProgramParts suite a signals counters p)
   where
     abbrev paths : Bool
     paths = list_any (is_long_path suite.names.items) (places_from 0 signals)

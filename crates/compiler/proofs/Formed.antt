@@ -22,7 +22,7 @@ use Rattle.bytecode.specs.declared.flow.Flow.TheVariants.{Stops, GoesOn, Jumps, 
 use Rattle.bytecode.specs.declared.block_instr.BlockInstr.{BlockInstr}
 use Rattle.bytecode.specs.Values.{ProgramData, SectionData}
 use Rattle.bytecode.specs.Instructions.{frame_of, sample_flow, block_flow}
-use Rattle.verifier_inference.specs.Sections.{IsSection, size_of}
+use Rattle.verifier_inference.specs.Sections.{IsSection, instructions_in}
 use Rattle.verifier_inference.specs.Typing.{longest_list}
 use Rattle.verifier.specs.Limits.{path_of, paths_from, longest_path, path_sum}
 use Rattle.verifier.specs.Programs.{IsAtom, IsWellFormed, HasRoom, IsAccepted, least_limits, least_attempts}
@@ -31,19 +31,19 @@ use Rattle.verifier.proofs.ProgramLaws.{longest_is_least}
 use Rattle.verifier.proofs.ShortLaws.{accepted}
 use Rattle.verifier.proofs.LifeLaws.{start_life-most}
 use Rattle.compiler_expressions.specs.Samples.{Held, sample_code, sample_need, sample_reach}
-use Rattle.compiler_expressions.specs.Laws.{IsFrame, IsTypedWithin, Each, program_terms}
+use Rattle.compiler_expressions.specs.Laws.{IsFrame, IsTypedWithin, EachPart, program_terms}
 use Rattle.compiler_expressions.specs.Depths.{depth, IsShortPast, IsBounded}
 use Rattle.compiler_expressions.proofs.Quiet.{samples-are-typed}
 use Rattle.compiler_expressions.proofs.DepthLaws.{depth-bounds-code}
-use Rattle.compiler_reads.specs.Marks.{is_marked, places_from}
+use Rattle.assertions.specs.Marks.{is_marked, places_from}
 use Rattle.compiler_positions.specs.Sequences.{atom_of}
 use Rattle.compiler_positions.specs.Laws.{Occurs, IsThere, section_for, led_section}
 use Rattle.compiler_positions.proofs.Theorem.{law-section_is_well_formed, law-section_is_small}
-use Rattle.compiler.specs.Conditions.{IsKnown, IsFit}
+use Rattle.compiler.specs.Conditions.{IsKnownTerm, FitsSuite}
 use Rattle.compiler.specs.Programs.{disabling_atom, IsSlotOf, IsProgramOf}
 use Rattle.compiler.specs.Readings.{IsReading, slots_over, counters_read}
 use Rattle.compiler.specs.Faults.{AreCounted}
-use Rattle.compiler.specs.Parts.{slot_at, width_at, no_limits, AreParts, AreModest, with_limits, declared_from}
+use Rattle.compiler.specs.Parts.{slot_at, width_at, no_limits, AreProgramParts, AreModest, with_limits, declared_from}
 use Rattle.compiler.proofs.ListLaws.{all-more}
 use Rattle.compiler.proofs.LedLaws.{led-formed, led-long}
 use Rattle.compiler.proofs.Frames as frames
@@ -68,7 +68,7 @@ paths-short pc (flow ∷ flows) (suc j) = omega (arith, paths-short (pc + 1) flo
 longest-short : (pc : ℕ) (flows : List Flow) → longest_path pc flows ≤ length flows
 longest-short pc flows = paths-short pc flows 0
 
-sum-short : (base : ℕ) (bs : List (List BlockInstr)) → path_sum base bs ≤ size_of bs
+sum-short : (base : ℕ) (bs : List (List BlockInstr)) → path_sum base bs ≤ instructions_in bs
 sum-short base [] = omega arith
 sum-short base (b ∷ bs) =
     let here = longest-short base (map block_flow b) in
@@ -116,7 +116,7 @@ disabling-there n None h = tt
 disabling-there n (Some One) h = absurd h
 disabling-there n (Some (Listed i)) h = h
 
-module _ (suite : Suite) (a : Assertion) (fit : IsFit suite a) (signals counters : List Bool)
+module _ (suite : Suite) (a : Assertion) (fit : FitsSuite suite a) (signals counters : List Bool)
     (reading : IsReading suite a signals counters) where
   abbrev es : List Term
   es = map term_of (known.found suite a fit signals counters reading).booleans
@@ -124,7 +124,7 @@ module _ (suite : Suite) (a : Assertion) (fit : IsFit suite a) (signals counters
   abbrev hs : List Held
   hs = counters_read suite counters
 
-  abbrev pub program-of : (p : ProgramData) → AreParts suite a signals counters p → IsProgramOf suite a p
+  abbrev pub program-of : (p : ProgramData) → AreProgramParts suite a signals counters p → IsProgramOf suite a p
   program-of p parts =
       let found = known.found suite a fit signals counters reading in
       let below = known.counters-below suite a fit signals counters reading in
@@ -161,21 +161,21 @@ module _ (suite : Suite) (a : Assertion) (fit : IsFit suite a) (signals counters
   bounded =
       let all = known.all-known suite a fit signals counters reading in
       depth-bounds-code es hs 64
-      (all-more (IsKnown suite) (λ e. depth e ≤ 64) (program_terms es hs) (λ e k. k.shallow) all)
-      (all-more (IsKnown suite) (Each IsShortPast) (program_terms es hs) (λ e k. k.near) all)
+      (all-more (IsKnownTerm suite) (λ e. depth e ≤ 64) (program_terms es hs) (λ e k. k.shallow) all)
+      (all-more (IsKnownTerm suite) (EachPart IsShortPast) (program_terms es hs) (λ e k. k.near) all)
 
-  pub frame-of : (p : ProgramData) → AreParts suite a signals counters p
+  pub frame-of : (p : ProgramData) → AreProgramParts suite a signals counters p
       → IsFrame (frame_of p) (slots_over signals counters) es hs
   frame-of p parts = frames.frame suite a p (program-of p parts)
 
-  typed-of : (p : ProgramData) → AreParts suite a signals counters p
+  typed-of : (p : ProgramData) → AreProgramParts suite a signals counters p
       → IsTypedWithin (frame_of p) p.sample (sample_need es hs) (sample_reach es hs)
   typed-of p parts =
       subst (λ code. IsTypedWithin (frame_of p) code (sample_need es hs) (sample_reach es hs))
       (sym (program-of p parts).sample)
       (samples-are-typed (frame_of p) (slots_over signals counters) es hs (frame-of p parts))
 
-  module _ (p : ProgramData) (parts : AreParts suite a signals counters p)
+  module _ (p : ProgramData) (parts : AreProgramParts suite a signals counters p)
       (counted : AreCounted suite a signals counters) where
     section-of : (number : ℕ) (s made : SectionData) → s ≡ made → IsSection number (length a.booleans.items) made
         → IsSection number p.header.atoms s

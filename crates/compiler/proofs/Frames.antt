@@ -14,12 +14,12 @@ use Rattle.bytecode.specs.Values.{ProgramData, SlotData}
 use Rattle.bytecode.specs.Instructions.{frame_of}
 use Rattle.compiler_expressions.specs.Codes.{slot_of}
 use Rattle.compiler_expressions.specs.Samples.{Held, held_slot}
-use Rattle.compiler_expressions.specs.Laws.{Each, OfName, HasSlot, IsNarrow, IsFrame, program_terms}
-use Rattle.compiler.specs.Programs.{HoldsAt, HoldsName, IsSampled, IsSlotOf, IsProgramOf}
+use Rattle.compiler_expressions.specs.Laws.{EachPart, OfName, HasSlot, IsNarrow, IsFrame, program_terms}
+use Rattle.compiler.specs.Programs.{HoldsAt, HoldsName, IsSampledIn, IsSlotOf, IsProgramOf}
 use Rattle.compiler.proofs.ListLaws.{some-one, zip-at, zip-long, all-by-places, all-more, signal-slot, counter-slot}
 
 -- what holds of each part, from what holds of it
-pub each-more : (P Q : Term → Type 0) → ((e : Term) → P e → Q e) → (e : Term) → Each P e → Each Q e
+pub each-more : (P Q : Term → Type 0) → ((e : Term) → P e → Q e) → (e : Term) → EachPart P e → EachPart Q e
 each-more P Q go (constant bits) h = go (constant bits) h
 each-more P Q go (named name) h = go (named name) h
 each-more P Q go (slice part) h = go (slice part) h
@@ -81,17 +81,17 @@ module _ (suite : Suite) (a : Assertion) (p : ProgramData) (of : IsProgramOf sui
   frame = record {
     one = refl;
     slots =
-        all-more (Each (IsSampled suite of.layout)) (Each (HasSlot (frame_of p) of.at))
+        all-more (EachPart (IsSampledIn suite of.layout)) (EachPart (HasSlot (frame_of p) of.at))
         (program_terms (map term_of of.booleans) of.layout.counters)
-        (each-more (IsSampled suite of.layout) (HasSlot (frame_of p) of.at) (λ e s.
+        (each-more (IsSampledIn suite of.layout) (HasSlot (frame_of p) of.at) (λ e s.
         of-name-more (HoldsName suite of.layout) (λ name. slice_get (frame_of p).slots (slot_of of.at name)
         ≡ Some name.width)
         (λ name h. placed-at name.origin name.place name.width h) e s.name))
         of.sampled;
     narrow =
-        all-more (Each (IsSampled suite of.layout)) (Each IsNarrow)
+        all-more (EachPart (IsSampledIn suite of.layout)) (EachPart IsNarrow)
         (program_terms (map term_of of.booleans) of.layout.counters)
-        (each-more (IsSampled suite of.layout) IsNarrow (λ e s. s.narrow))
+        (each-more (IsSampledIn suite of.layout) IsNarrow (λ e s. s.narrow))
         of.sampled;
     held =
         all-by-places (λ (h : Held). slice_get (frame_of p).slots (held_slot of.at h) ≡ Some h.counter.width)

@@ -13,16 +13,16 @@ use Rattle.expressions.specs.Terms.{Term, width_of}
 use Rattle.expressions.specs.Expressions.{term_of}
 use Rattle.assertions.specs.declared.assertion.Assertion.{Assertion}
 use Rattle.assertions.specs.declared.suite.Suite.{Suite}
-use Rattle.compiler_reads.specs.Names.{names_in, expression_names, counter_names}
-use Rattle.compiler_reads.specs.Reads.{at_once, through, names_of, boolean_names}
-use Rattle.compiler_reads.specs.Marks.{IsAmong, is_marked, places_from}
+use Rattle.assertions.specs.Names.{names_in, expression_names, counter_names}
+use Rattle.assertions.specs.Reads.{at_once, through, names_of, boolean_names}
+use Rattle.assertions.specs.Marks.{IsAmong, is_marked, places_from}
 use Rattle.compiler_expressions.specs.Samples.{Held, counter_terms}
 use Rattle.compiler_expressions.specs.Chosen.{term_found, terms_at}
-use Rattle.compiler_expressions.specs.Laws.{Each, OfName, program_terms}
-use Rattle.compiler.specs.Programs.{Layout, HoldsAt, HoldsName, IsSampled, IsSlotOf, IsLaidOut}
-use Rattle.compiler_reads.proofs.SlotLaws.{place-at}
+use Rattle.compiler_expressions.specs.Laws.{EachPart, OfName, program_terms}
+use Rattle.compiler.specs.Programs.{Layout, HoldsAt, HoldsName, IsSampledIn, IsSlotOf, IsLaidOut}
+use Rattle.assertions.proofs.SlotLaws.{place-at}
 use Rattle.compiler.proofs.ListLaws.{all-at, all-by-places}
-use Rattle.compiler.specs.Conditions.{IsAt, IsNamed, IsKnown, IsKnownAt, CountsByKnown, IsFit}
+use Rattle.compiler.specs.Conditions.{IsOriginIn, IsSuiteName, IsKnownTerm, IsKnownAt, CountsByKnown, FitsSuite}
 use Rattle.compiler.specs.Readings.{IsReading, counters_read, first_counter, slots_over}
 use Rattle.compiler.specs.Parts.{slot_found, slot_at}
 use Rattle.compiler.proofs.Names.{Within, AllWithin, further, each-name, each-both, name-both, counter-within}
@@ -35,7 +35,7 @@ pub record AreFound (suite : Suite) (places : List ℕ) : Type 0 where
   pub found : map (λ place. slice_get suite.booleans.items place) places ≡ map (λ e. Some e) booleans
   pub terms : terms_at suite.booleans.items places ≡ map term_of booleans
   pub long : length places ≡ length booleans
-  pub known : AllByRecursion (IsKnown suite) (map term_of booleans)
+  pub known : AllByRecursion (IsKnownTerm suite) (map term_of booleans)
   pub within : AllWithin (flat_map (λ place. expression_names (slice_get suite.booleans.items place)) places)
       (map term_of booleans)
 
@@ -76,7 +76,7 @@ module _ (suite : Suite) where
         );
       }
 
-module _ (suite : Suite) (a : Assertion) (fit : IsFit suite a) (signals counters : List Bool)
+module _ (suite : Suite) (a : Assertion) (fit : FitsSuite suite a) (signals counters : List Bool)
     (reading : IsReading suite a signals counters) where
   abbrev pub layout : Layout
   layout = record { signals = places_from 0 signals; counters = counters_read suite counters }
@@ -90,7 +90,7 @@ module _ (suite : Suite) (a : Assertion) (fit : IsFit suite a) (signals counters
   pub counters-below : AreBelow (length suite.counters.items) (places_from 0 counters)
   counters-below = all-below (length suite.counters.items) counters reading.counters_are.long
 
-  holds : (o : Origin) (place width : ℕ) → IsAt suite o place width → IsAmong o reading.names place
+  holds : (o : Origin) (place width : ℕ) → IsOriginIn suite o place width → IsAmong o reading.names place
       → HoldsAt suite layout o place width
   holds Signal place width at among =
       let marked =
@@ -110,21 +110,21 @@ module _ (suite : Suite) (a : Assertion) (fit : IsFit suite a) (signals counters
         wide = at.wide;
       }
 
-  holds-name : (n : Name) → Contains reading.names n → IsNamed suite n → HoldsName suite layout n
+  holds-name : (n : Name) → Contains reading.names n → IsSuiteName suite n → HoldsName suite layout n
   holds-name n c named =
       holds n.origin n.place n.width named (record { name = n; among = c; origin_is = refl; place_is = refl })
 
-  sampled : (e : Term) → IsKnown suite e → Within (names_in e) reading.names → Each (IsSampled suite layout) e
+  sampled : (e : Term) → IsKnownTerm suite e → Within (names_in e) reading.names → EachPart (IsSampledIn suite layout) e
   sampled e known within =
-      each-both (OfName (HoldsName suite layout)) (λ part. width_of part ≤ 128) (IsSampled suite layout)
+      each-both (OfName (HoldsName suite layout)) (λ part. width_of part ≤ 128) (IsSampledIn suite layout)
       (λ x p q. record { name = p; narrow = q }) e
-      (each-both (OfName (Contains reading.names)) (OfName (IsNamed suite)) (OfName (HoldsName suite layout))
-      (λ x p q. name-both (Contains reading.names) (IsNamed suite) (HoldsName suite layout) holds-name x p q) e
+      (each-both (OfName (Contains reading.names)) (OfName (IsSuiteName suite)) (OfName (HoldsName suite layout))
+      (λ x p q. name-both (Contains reading.names) (IsSuiteName suite) (HoldsName suite layout) holds-name x p q) e
       (each-name (Contains reading.names) e within) known.names)
       known.narrow
 
-  all-sampled : (es : List Term) → AllByRecursion (IsKnown suite) es → AllWithin reading.names es
-      → AllByRecursion (Each (IsSampled suite layout)) es
+  all-sampled : (es : List Term) → AllByRecursion (IsKnownTerm suite) es → AllWithin reading.names es
+      → AllByRecursion (EachPart (IsSampledIn suite layout)) es
   all-sampled [] known within = tt
   all-sampled (e ∷ es) known within = (sampled e known.0 within.0, all-sampled es known.1 within.1)
 
@@ -136,7 +136,7 @@ module _ (suite : Suite) (a : Assertion) (fit : IsFit suite a) (signals counters
       (all-held suite.counters.items (places_from 0 counters) counters-below) i h at
 
   counter-known : (i : ℕ) (h : Held) → slice_get (counters_read suite counters) i ≡ Some h
-      → AllByRecursion (IsKnown suite) (counter_terms h.counter)
+      → AllByRecursion (IsKnownTerm suite) (counter_terms h.counter)
   counter-known i h at =
       all-at (CountsByKnown suite) suite.counters.items fit.sound.counters h.place h.counter (counter-there i h at)
 
@@ -159,13 +159,13 @@ module _ (suite : Suite) (a : Assertion) (fit : IsFit suite a) (signals counters
       (subst (λ o. Contains (names_of o) n) (sym there) c))))
       (counter-within h.counter)
 
-  pub all-known : AllByRecursion (IsKnown suite)
+  pub all-known : AllByRecursion (IsKnownTerm suite)
       (program_terms (map term_of found.booleans) (counters_read suite counters))
   all-known =
-      append (IsKnown suite) (map term_of found.booleans)
+      append (IsKnownTerm suite) (map term_of found.booleans)
       (flat_map (λ h. counter_terms h.counter) (counters_read suite counters)) found.known
-      (flat (IsKnown suite) (λ (h : Held). counter_terms h.counter) (counters_read suite counters)
-      (all-by-places (λ (h : Held). AllByRecursion (IsKnown suite) (counter_terms h.counter))
+      (flat (IsKnownTerm suite) (λ (h : Held). counter_terms h.counter) (counters_read suite counters)
+      (all-by-places (λ (h : Held). AllByRecursion (IsKnownTerm suite) (counter_terms h.counter))
       (counters_read suite counters) counter-known))
 
   all-within : AllWithin reading.names (program_terms (map term_of found.booleans) (counters_read suite counters))
@@ -179,7 +179,7 @@ module _ (suite : Suite) (a : Assertion) (fit : IsFit suite a) (signals counters
       (all-by-places (λ (h : Held). AllWithin reading.names (counter_terms h.counter)) (counters_read suite counters)
       counter-read))
 
-  pub program-sampled : AllByRecursion (Each (IsSampled suite layout))
+  pub program-sampled : AllByRecursion (EachPart (IsSampledIn suite layout))
       (program_terms (map term_of found.booleans) (counters_read suite counters))
   program-sampled =
       all-sampled (program_terms (map term_of found.booleans) (counters_read suite counters)) all-known all-within

@@ -5,7 +5,7 @@ use Rattle.assertions.specs.declared.sequence.Boolean.{Boolean}
 use Rattle.assertions.specs.declared.sequence.Boolean.TheVariants.{One}
 use Rattle.assertions.specs.Written.{Written}
 use Rattle.bytecode.specs.Values.{SectionData}
-use Rattle.verifier_inference.specs.Sections.{IsSection, size_of}
+use Rattle.verifier_inference.specs.Sections.{IsSection, instructions_in}
 use Rattle.machine_sections.specs.Firsts.{accepting_first}
 use Rattle.compiler_positions.specs.Sequences.{atom_of}
 use Rattle.compiler_positions.specs.Laws.{section_for, led_section}
@@ -34,6 +34,6 @@ led-long false w = refl
 led-long true w = (law-as_long (section_for atom_of One w)).0
 
 pub led-size : (first : Bool) (w : Written Boolean)
-    → size_of (led_section first atom_of One w).blocks ≡ size_of (section_for atom_of One w).blocks
+    → instructions_in (led_section first atom_of One w).blocks ≡ instructions_in (section_for atom_of One w).blocks
 led-size false w = refl
 led-size true w = (law-as_long (section_for atom_of One w)).1

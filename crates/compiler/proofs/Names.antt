@@ -10,9 +10,9 @@ use Rattle.expressions.specs.declared.counter.Counter.{Counter}
 use Rattle.expressions.specs.Terms.{Term, constant, named, slice, group, concat, inverse, reduce}
 use Rattle.expressions.specs.Terms.{combine, shift, compare, connect, choose, past, change}
 use Rattle.expressions.specs.Expressions.{term_of}
-use Rattle.compiler_reads.specs.Names.{names_in, expression_names, rule_names, counter_names}
+use Rattle.assertions.specs.Names.{names_in, expression_names, rule_names, counter_names}
 use Rattle.compiler_expressions.specs.Samples.{rule_terms, clear_terms, counter_terms}
-use Rattle.compiler_expressions.specs.Laws.{Each, OfName}
+use Rattle.compiler_expressions.specs.Laws.{EachPart, OfName}
 
 -- these names are among those
 abbrev pub Within : List Name → List Name → Type 0
@@ -38,7 +38,7 @@ module _ (P : Name → Type 0) where
     λ n c. h n (right-within (names_in a) (names_in b) n c),
   )
 
-  pub each-name : (e : Term) → ((n : Name) → Contains (names_in e) n → P n) → Each (OfName P) e
+  pub each-name : (e : Term) → ((n : Name) → Contains (names_in e) n → P n) → EachPart (OfName P) e
   each-name (constant bits) h = tt
   each-name (named name) h = h name (first-of name [])
   each-name (slice part) h = h part.name (first-of part.name [])
@@ -64,7 +64,7 @@ module _ (P : Name → Type 0) where
 
 -- two facts of each part give a third
 module _ (P Q R : Term → Type 0) (go : (e : Term) → P e → Q e → R e) where
-  pub each-both : (e : Term) → Each P e → Each Q e → Each R e
+  pub each-both : (e : Term) → EachPart P e → EachPart Q e → EachPart R e
   each-both (constant bits) p q = go (constant bits) p q
   each-both (named name) p q = go (named name) p q
   each-both (slice part) p q = go (slice part) p q

@@ -6,10 +6,10 @@ use Rattle.std.specs.List.{AllByRecursion, AllZip, All}
 use Rattle.std.proofs.lemmas.List.Sums.{sum_by-cons}
 use Rattle.std.proofs.lemmas.Option.{slice_get_within, slice_get_cases}
 use Rattle.expressions.specs.declared.counter.Counter.{Counter}
-use Rattle.compiler_reads.specs.Marks.{is_marked, places_from, slots_from}
-use Rattle.compiler_reads.proofs.SlotLaws.{place-at, marked-at}
+use Rattle.assertions.specs.Marks.{is_marked, places_from, slots_from}
+use Rattle.assertions.proofs.SlotLaws.{place-at, marked-at}
 use Rattle.compiler_expressions.specs.Samples.{Held}
-use Rattle.compiler_expressions.specs.Chosen.{held_found, held_at}
+use Rattle.compiler_expressions.specs.Chosen.{held_found, held_counters}
 use Rattle.compiler.proofs.ListLaws.{some-one}
 use Rattle.compiler.specs.Parts.{width_found, width_at}
 
@@ -89,11 +89,11 @@ module _ (all : List Counter) where
 
   -- a place that is there chooses its counter
   found-there : (p : ℕ) (ps : List ℕ) (c : Counter) → slice_get all p ≡ Some c →
-      held_at all (p ∷ ps) ≡ held-one p c ∷ held_at all ps
-  found-there p ps c is = ap (λ o. held_found p o (held_at all ps)) is
+      held_counters all (p ∷ ps) ≡ held-one p c ∷ held_counters all ps
+  found-there p ps c is = ap (λ o. held_found p o (held_counters all ps)) is
 
   pub all-held : (ps : List ℕ) → AreBelow (length all) ps →
-      AllByRecursion (λ (h : Held). slice_get all h.place ≡ Some h.counter) (held_at all ps)
+      AllByRecursion (λ (h : Held). slice_get all h.place ≡ Some h.counter) (held_counters all ps)
   all-held [] below = tt
   all-held (p ∷ ps) below =
       let c = stands-at all p below.0 in
@@ -101,7 +101,7 @@ module _ (all : List Counter) where
       (c.1, all-held ps below.1)
 
   pub held-widths : (ps : List ℕ) → AreBelow (length all) ps →
-      map (width_at all) ps ≡ map (λ (h : Held). h.counter.width) (held_at all ps)
+      map (width_at all) ps ≡ map (λ (h : Held). h.counter.width) (held_counters all ps)
   held-widths [] below = refl
   held-widths (p ∷ ps) below =
       let c = stands-at all p below.0 in
@@ -111,7 +111,7 @@ module _ (all : List Counter) where
 
   -- the counter of a place in the list, and the place of a counter
   pub held-at : (ps : List ℕ) → AreBelow (length all) ps → (i p : ℕ) (c : Counter) → slice_get ps i ≡ Some p →
-      slice_get all p ≡ Some c → slice_get (held_at all ps) i ≡ Some (held-one p c)
+      slice_get all p ≡ Some c → slice_get (held_counters all ps) i ≡ Some (held-one p c)
   held-at [] below i p c at is = absurd (omega (arith, slice_get_within [] i p at))
   held-at (q ∷ ps) below zero p c at is =
       ap (λ hs. slice_get hs 0) (found-there q ps c (ap (slice_get all) (some-one q p at) ∙ is))
@@ -120,7 +120,8 @@ module _ (all : List Counter) where
       let d = stands-at all q below.0 in
       ap (λ hs. slice_get hs (suc i)) (found-there q ps d.0 d.1) ∙ held-at ps below.1 i p c at is
 
-  pub place-held : (ps : List ℕ) → AreBelow (length all) ps → (i : ℕ) (h : Held) → slice_get (held_at all ps) i ≡ Some h
+  pub place-held : (ps : List ℕ) → AreBelow (length all) ps → (i : ℕ) (h : Held) → slice_get (held_counters all ps) i
+      ≡ Some h
       →
       slice_get ps i ≡ Some h.place
   place-held [] below i h at = absurd (omega (arith, slice_get_within [] i h at))
@@ -132,13 +133,13 @@ module _ (all : List Counter) where
       let d = stands-at all q below.0 in
       place-held ps below.1 i h (sym (ap (λ hs. slice_get hs (suc i)) (found-there q ps d.0 d.1)) ∙ at)
 
-  pub held-long : (ps : List ℕ) → AreBelow (length all) ps → length (held_at all ps) ≡ length ps
+  pub held-long : (ps : List ℕ) → AreBelow (length all) ps → length (held_counters all ps) ≡ length ps
   held-long [] below = refl
   held-long (q ∷ ps) below =
       let d = stands-at all q below.0 in
       ap length (found-there q ps d.0 d.1) ∙ ap suc (held-long ps below.1)
 
-  pub held-places : (ps : List ℕ) → AreBelow (length all) ps → map (λ (h : Held). h.place) (held_at all ps) ≡ ps
+  pub held-places : (ps : List ℕ) → AreBelow (length all) ps → map (λ (h : Held). h.place) (held_counters all ps) ≡ ps
   held-places [] below = refl
   held-places (q ∷ ps) below =
       let d = stands-at all q below.0 in

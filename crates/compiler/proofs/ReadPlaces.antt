@@ -16,13 +16,13 @@ use Rattle.expressions.specs.Terms.{combine, shift, compare, connect, choose, pa
 use Rattle.expressions.specs.Expressions.{term_of}
 use Rattle.assertions.specs.declared.assertion.Assertion.{Assertion}
 use Rattle.assertions.specs.declared.suite.Suite.{Suite}
-use Rattle.compiler_reads.specs.Names.{names_in, expression_names, rule_names, counter_names}
-use Rattle.compiler_reads.specs.Reads.{IsRead, at_once, through, names_of, boolean_names, Reads}
-use Rattle.compiler_reads.specs.Marks.{IsAmong, AreMarks, places_from}
-use Rattle.compiler_reads.proofs.SlotLaws.{place-at}
+use Rattle.assertions.specs.Names.{names_in, expression_names, rule_names, counter_names}
+use Rattle.assertions.specs.Reads.{IsRead, at_once, through, names_of, boolean_names, Reads}
+use Rattle.assertions.specs.Marks.{IsAmong, AreMarks, places_from}
+use Rattle.assertions.proofs.SlotLaws.{place-at}
 use Rattle.compiler_expressions.specs.Samples.{Held, rule_terms, clear_terms, counter_terms}
-use Rattle.compiler_expressions.specs.Laws.{Each, OfName}
-use Rattle.compiler.specs.Conditions.{IsAt, IsNamed, IsKnown, IsKnownAt, CountsByKnown, IsFit}
+use Rattle.compiler_expressions.specs.Laws.{EachPart, OfName}
+use Rattle.compiler.specs.Conditions.{IsOriginIn, IsSuiteName, IsKnownTerm, IsKnownAt, CountsByKnown, FitsSuite}
 use Rattle.compiler.specs.Programs.{AreReadPlaces}
 use Rattle.compiler.specs.Readings.{IsReading, counters_read}
 use Rattle.compiler.proofs.Places.{place-of, held-places, all-below}
@@ -45,7 +45,7 @@ module _ (P : Name → Type 0) where
   join : (xs ys : List Name) → All xs → All ys → All (xs ++ ys)
   join xs ys g h = append P xs ys g h
 
-  pub all-names : (e : Term) → Each (OfName P) e → All (names_in e)
+  pub all-names : (e : Term) → EachPart (OfName P) e → All (names_in e)
   all-names (constant bits) h = tt
   all-names (named name) h = (h, tt)
   all-names (slice part) h = (h, tt)
@@ -66,24 +66,25 @@ module _ (P : Name → Type 0) where
 -- what stands in a suite of which an assertion is names places of it alone
 module _ (suite : Suite) where
   abbrev Named : List Name → Type 0
-  Named ns = AllByRecursion (IsNamed suite) ns
+  Named ns = AllByRecursion (IsSuiteName suite) ns
 
-  known-named : (e : Term) → IsKnown suite e → Named (names_in e)
-  known-named e known = all-names (IsNamed suite) e known.names
+  known-named : (e : Term) → IsKnownTerm suite e → Named (names_in e)
+  known-named e known = all-names (IsSuiteName suite) e known.names
 
-  clear-named : (o : Option Expr) → AllByRecursion (IsKnown suite) (clear_terms o) → Named (expression_names o)
+  clear-named : (o : Option Expr) → AllByRecursion (IsKnownTerm suite) (clear_terms o) → Named (expression_names o)
   clear-named None h = tt
   clear-named (Some e) h = known-named (term_of e) h.0
 
-  rule-named : (o : Option Rule) → AllByRecursion (IsKnown suite) (rule_terms o) → Named (rule_names o)
+  rule-named : (o : Option Rule) → AllByRecursion (IsKnownTerm suite) (rule_terms o) → Named (rule_names o)
   rule-named None h = tt
   rule-named (Some r) h =
-      append (IsNamed suite) (names_in (term_of r.when)) (names_in (term_of r.by)) (known-named (term_of r.when) h.0)
+      append (IsSuiteName suite) (names_in (term_of r.when)) (names_in (term_of r.by))
+      (known-named (term_of r.when) h.0)
       (known-named (term_of r.by) h.1.0)
 
   counter-named : (c : Counter) → CountsByKnown suite c → Named (counter_names c)
   counter-named c h =
-      let P = IsKnown suite in
+      let P = IsKnownTerm suite in
       let t0 = clear_terms c.clear in
       let t1 = rule_terms c.load in
       let t2 = rule_terms c.add in
@@ -94,9 +95,9 @@ module _ (suite : Suite) where
       let n1 = rule_names c.load in
       let n2 = rule_names c.add in
       let n3 = rule_names c.sub in
-      append (IsNamed suite) (expression_names c.clear) (n1 ++ (n2 ++ n3)) (clear-named c.clear first.0)
-      (append (IsNamed suite) n1 (n2 ++ n3) (rule-named c.load first.1)
-      (append (IsNamed suite) n2 n3 (rule-named c.add third.1) (rule-named c.sub last.1)))
+      append (IsSuiteName suite) (expression_names c.clear) (n1 ++ (n2 ++ n3)) (clear-named c.clear first.0)
+      (append (IsSuiteName suite) n1 (n2 ++ n3) (rule-named c.load first.1)
+      (append (IsSuiteName suite) n2 n3 (rule-named c.add third.1) (rule-named c.sub last.1)))
 
   counters-named : (cs : List Counter) → AllByRecursion (CountsByKnown suite) cs → (place : ℕ)
       → Named (names_of (slice_get cs place))
@@ -109,14 +110,14 @@ module _ (suite : Suite) where
   booleans-named [] h = tt
   booleans-named (p ∷ ps) h =
       let here = h.0 in
-      append (IsNamed suite) (expression_names (slice_get suite.booleans.items p))
+      append (IsSuiteName suite) (expression_names (slice_get suite.booleans.items p))
       (flat_map (λ place. expression_names (slice_get suite.booleans.items place)) ps)
       (subst (λ o. Named (expression_names o)) (sym here.found)
       (known-named (term_of here.expression) here.known))
       (booleans-named ps h.1)
 
-  among : (ns : List Name) (n : Name) → Named ns → Contains ns n → IsNamed suite n
-  among ns n h c = All-contains (IsNamed suite) ns n (All-from_recursion (IsNamed suite) ns h) c
+  among : (ns : List Name) (n : Name) → Named ns → Contains ns n → IsSuiteName suite n
+  among ns n h c = All-contains (IsSuiteName suite) ns n (All-from_recursion (IsSuiteName suite) ns h) c
 
 -- the places that are marked rise
 rise-from : (place : ℕ) (marks : List Bool) → AllPairs (λ x y. x < y) (places_from place marks)
@@ -132,10 +133,10 @@ rise-from place (true ∷ marks) (suc i) (suc j) d lt below =
     rise-from (place + 1) marks i j d (omega (arith, lt)) (omega (arith, below))
 rise-from place (false ∷ marks) i j d lt below = rise-from (place + 1) marks i j d lt below
 
-module _ (suite : Suite) (a : Assertion) (fit : IsFit suite a) (signals counters : List Bool)
+module _ (suite : Suite) (a : Assertion) (fit : FitsSuite suite a) (signals counters : List Bool)
     (reading : IsReading suite a signals counters) where
   -- what is read is named
-  read-named : (n : Name) → IsRead (boolean_names suite a) suite.counters.items n → IsNamed suite n
+  read-named : (n : Name) → IsRead (boolean_names suite a) suite.counters.items n → IsSuiteName suite n
   read-named n (at_once c) =
       among suite (boolean_names suite a) n (booleans-named suite a.booleans.items fit.placed.booleans) c
   read-named n (through {counter} read origin c) =
@@ -144,7 +145,8 @@ module _ (suite : Suite) (a : Assertion) (fit : IsFit suite a) (signals counters
 
   -- the marked places are those that are read, where each name of their origin is at a place that is marked or not
   exact : (o : Origin) (count : ℕ) (marks : List Bool) → AreMarks o reading.names count marks
-      → ((place width : ℕ) → IsAt suite o place width → place < count) → AreReadPlaces suite a o (places_from 0 marks)
+      → ((place width : ℕ) → IsOriginIn suite o place width → place < count)
+      → AreReadPlaces suite a o (places_from 0 marks)
   exact o count marks are inside = record {
     exactly = λ place. (
       λ c.
@@ -165,7 +167,7 @@ module _ (suite : Suite) (a : Assertion) (fit : IsFit suite a) (signals counters
       λ r.
           let named = read-named r.name r.read in
           let here =
-          subst (λ (x : Origin). IsAt suite x r.name.place r.name.width) r.origin_is named in
+          subst (λ (x : Origin). IsOriginIn suite x r.name.place r.name.width) r.origin_is named in
           let below : place < count =
           subst (λ k. k < count) r.place_is (inside r.name.place r.name.width here) in
           let marked =

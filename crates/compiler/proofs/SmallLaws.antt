@@ -12,19 +12,19 @@ use Rattle.expressions.specs.declared.name.Name.{Name}
 use Rattle.expressions.specs.declared.expr.Expr.{Expr}
 use Rattle.expressions.specs.declared.counter.Counter.{Counter as Counting}
 use Rattle.expressions.specs.Terms.{Term}
-use Rattle.verifier_inference.specs.Sections.{size_of}
+use Rattle.verifier_inference.specs.Sections.{instructions_in}
 use Rattle.assertions.specs.declared.sequence.Boolean.{Boolean}
 use Rattle.assertions.specs.declared.sequence.Boolean.TheVariants.{One}
 use Rattle.assertions.specs.declared.assertion.Assertion.{Assertion}
 use Rattle.assertions.specs.declared.suite.Suite.{Suite}
 use Rattle.assertions.specs.Written.{Written, weight, IsOrdered}
 use Rattle.assertions.specs.Shapes.{written_form}
-use Rattle.compiler_reads.specs.Reads.{IsRead, at_once, through, boolean_names}
-use Rattle.compiler_reads.specs.Marks.{places_from}
-use Rattle.compiler_reads.proofs.SlotLaws.{place-at}
+use Rattle.assertions.specs.Reads.{IsRead, at_once, through, boolean_names}
+use Rattle.assertions.specs.Marks.{places_from}
+use Rattle.assertions.proofs.SlotLaws.{place-at}
 use Rattle.compiler_expressions.specs.Codes.{Slots}
 use Rattle.compiler_expressions.specs.Samples.{Held, sample_code}
-use Rattle.compiler_expressions.specs.Chosen.{term_found, terms_at, held_at}
+use Rattle.compiler_expressions.specs.Chosen.{term_found, terms_at, held_counters}
 use Rattle.compiler_expressions.specs.Laws.{size}
 use Rattle.compiler_expressions.proofs.Lengths.{samples-are-short}
 use Rattle.compiler_positions.specs.Sequences.{atom_of}
@@ -91,7 +91,7 @@ module _ (suite : Suite) (a : Assertion) (signals counters : List Bool) (reading
       is_read))
 
   no-counters : counters_read suite counters ≡ []
-  no-counters = ap (held_at suite.counters.items) (no-place counters unread)
+  no-counters = ap (held_counters suite.counters.items) (no-place counters unread)
 
   short-code : length (code_over suite a signals counters) ≤ 4096
   short-code =

@@ -16,7 +16,7 @@ use Rattle.assertions.specs.Segments.{AdmitsEmpty}
 use Rattle.assertions.specs.Listed.{EachBoolean, IsListed, IsListedOption}
 use Rattle.assertions.specs.Shapes.{written_form, shape}
 use Rattle.bytecode.specs.Texts.{is_word, is_path}
-use Rattle.compiler_expressions.specs.Laws.{Each, OfName}
+use Rattle.compiler_expressions.specs.Laws.{EachPart, OfName}
 use Rattle.compiler_expressions.specs.Samples.{counter_terms}
 use Rattle.compiler_expressions.specs.Depths.{depth, IsShortPast}
 
@@ -32,28 +32,28 @@ pub record IsCounterAt (suite : Suite) (place width : ℕ) : Type 0 where
   pub wide : counter.width ≡ width
 
 -- A name is a signal or a counter of the suite.
-abbrev pub IsAt : Suite → Origin → ℕ → ℕ → Type 0
-IsAt suite Signal place width = IsSignalAt suite place width
-IsAt suite Counter place width = IsCounterAt suite place width
+abbrev pub IsOriginIn : Suite → Origin → ℕ → ℕ → Type 0
+IsOriginIn suite Signal place width = IsSignalAt suite place width
+IsOriginIn suite Counter place width = IsCounterAt suite place width
 
-abbrev pub IsNamed : Suite → Name → Type 0
-IsNamed suite name = IsAt suite name.origin name.place name.width
+abbrev pub IsSuiteName : Suite → Name → Type 0
+IsSuiteName suite name = IsOriginIn suite name.origin name.place name.width
 
 -- An expression that a text of the suite may have: each name is one of the suite's, no part has
 -- over 128 bits, no $past looks back over 64 ticks, and at most 64 brackets are open at once.
-pub record IsKnown (suite : Suite) (e : Term) : Type 0 where
-  pub names : Each (OfName (IsNamed suite)) e
-  pub narrow : Each (λ part. width_of part ≤ 128) e
-  pub near : Each IsShortPast e
+pub record IsKnownTerm (suite : Suite) (e : Term) : Type 0 where
+  pub names : EachPart (OfName (IsSuiteName suite)) e
+  pub narrow : EachPart (λ part. width_of part ≤ 128) e
+  pub near : EachPart IsShortPast e
   pub shallow : depth e ≤ 64
 
 -- Its counters count by such expressions.
 abbrev pub CountsByKnown : Suite → counters.Counter → Type 0
-CountsByKnown suite c = AllByRecursion (IsKnown suite) (counter_terms c)
+CountsByKnown suite c = AllByRecursion (IsKnownTerm suite) (counter_terms c)
 
 -- What the suite's assertions share: the clock and the signals have paths, and the counters count
 -- by known expressions.
-pub record IsSound (suite : Suite) : Type 0 where
+pub record IsSoundSuite (suite : Suite) : Type 0 where
   pub clock : IsTrue (is_path (string_bytes suite.clock))
   pub signals : AllByRecursion (λ s. IsTrue (is_path (string_bytes s.path))) suite.names.items
   pub counters : AllByRecursion (CountsByKnown suite) suite.counters.items
@@ -62,10 +62,10 @@ pub record IsSound (suite : Suite) : Type 0 where
 pub record IsKnownAt (suite : Suite) (place : ℕ) : Type 0 where
   pub expression : Expr
   pub found : slice_get suite.booleans.items place ≡ Some expression
-  pub known : IsKnown suite (term_of expression)
+  pub known : IsKnownTerm suite (term_of expression)
 
 -- An assertion's list has places of known expressions, and all its booleans are in the list.
-pub record IsPlaced (suite : Suite) (a : Assertion) : Type 0 where
+pub record ListsItsBooleans (suite : Suite) (a : Assertion) : Type 0 where
   pub booleans : AllByRecursion (IsKnownAt suite) a.booleans.items
   pub antecedent :
       EachBoolean (IsListed (length a.booleans.items)) (written_form a.antecedent)
@@ -81,7 +81,7 @@ pub record IsProper (a : Assertion) : Type 0 where
   pub led : a.first ≡ true → AdmitsEmpty (shape a.antecedent) → ⊥
 
 -- The assertion is of the suite.
-pub record IsFit (suite : Suite) (a : Assertion) : Type 0 where
-  pub sound : IsSound suite
-  pub placed : IsPlaced suite a
+pub record FitsSuite (suite : Suite) (a : Assertion) : Type 0 where
+  pub sound : IsSoundSuite suite
+  pub placed : ListsItsBooleans suite a
   pub proper : IsProper a

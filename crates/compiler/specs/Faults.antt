@@ -2,7 +2,7 @@
 use Rattle.std.specs.Prelude.{◌⊎◌, ℕ, ◌<◌, ◌≤◌, Bool, false, ◌||◌, nat_lt, IsTrue, List, length}
 use Rattle.std.specs.Prelude.{Option, Some, None, slice_get, string_bytes}
 use Rattle.std.specs.List.{list_any}
-use Rattle.compiler_reads.specs.Marks.{places_from}
+use Rattle.assertions.specs.Marks.{places_from}
 use Rattle.assertions.specs.declared.signal.Signal.{Signal}
 use Rattle.assertions.specs.declared.assertion.Assertion.{Assertion}
 use Rattle.assertions.specs.declared.suite.Suite.{Suite}
@@ -51,20 +51,20 @@ StandsOver suite a signals counters CodeTooLong = HasLongCode suite a signals co
 StandsOver suite a signals counters Memory = Unit {0}
 
 -- K1, K3, K4, K2
-abbrev pub rank : CompileFault → ℕ
-rank TooManyAtoms = 1
-rank TooManySlots = 2
-rank TextTooLong = 3
-rank CodeTooLong = 4
-rank Memory = 5
+abbrev pub fault_rank : CompileFault → ℕ
+fault_rank TooManyAtoms = 1
+fault_rank TooManySlots = 2
+fault_rank TextTooLong = 3
+fault_rank CodeTooLong = 4
+fault_rank Memory = 5
 
 -- The fault stands, and none of an earlier kind.
-pub record IsFirstFault (suite : Suite) (a : Assertion) (fault : CompileFault) : Type 0 where
+pub record IsFirstCompileFault (suite : Suite) (a : Assertion) (fault : CompileFault) : Type 0 where
   pub signals : List Bool
   pub counters : List Bool
   pub reading : IsReading suite a signals counters
   pub stands : StandsOver suite a signals counters fault
-  pub first : (other : CompileFault) → rank other < rank fault →
+  pub first : (other : CompileFault) → fault_rank other < fault_rank fault →
       StandsOver suite a signals counters other → ⊥
 
 -- no fault of what the assertion has and reads
@@ -76,20 +76,20 @@ pub record AreCounted (suite : Suite) (a : Assertion) (signals counters : List B
 -- the first fault of these
 pub record IsCountFault (suite : Suite) (a : Assertion) (signals counters : List Bool)
     (fault : CompileFault) : Type 0 where
-  pub early : rank fault < rank CodeTooLong
+  pub early : fault_rank fault < fault_rank CodeTooLong
   pub stands : StandsOver suite a signals counters fault
-  pub first : (other : CompileFault) → rank other < rank fault →
+  pub first : (other : CompileFault) → fault_rank other < fault_rank fault →
       StandsOver suite a signals counters other → ⊥
 
 -- why there is no program; want of memory says nothing of the assertion
 abbrev pub WhyNotCompiled : Suite → Assertion → CompileFault → Type 0
 WhyNotCompiled suite a Memory = Unit {0}
-WhyNotCompiled suite a fault = IsFirstFault suite a fault
+WhyNotCompiled suite a fault = IsFirstCompileFault suite a fault
 
 -- No fault stands: an assertion that has a program.
-pub record IsFaultless (suite : Suite) (a : Assertion) : Type 0 where
+pub record HasNoFault (suite : Suite) (a : Assertion) : Type 0 where
   pub signals : List Bool
   pub counters : List Bool
   pub reading : IsReading suite a signals counters
-  pub none : (fault : CompileFault) → rank fault < rank Memory →
+  pub none : (fault : CompileFault) → fault_rank fault < fault_rank Memory →
       StandsOver suite a signals counters fault → ⊥

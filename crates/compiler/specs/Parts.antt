@@ -10,11 +10,11 @@ use Rattle.assertions.specs.declared.suite.Suite.{Suite}
 use Rattle.assertions.specs.Shapes.{written_form}
 use Rattle.bytecode.specs.declared.limits.Limits.{Limits}
 use Rattle.bytecode.specs.Values.{ProgramData, SlotData}
-use Rattle.verifier_inference.specs.Sections.{size_of}
+use Rattle.verifier_inference.specs.Sections.{instructions_in}
 use Rattle.verifier.specs.declared.least.LeastLimits.{LeastLimits}
-use Rattle.compiler_reads.specs.Marks.{places_from}
+use Rattle.assertions.specs.Marks.{places_from}
 use Rattle.compiler_positions.specs.Laws.{section_for, led_section}
-use Rattle.compiler_positions.specs.Sequences.{atom_of, largest}
+use Rattle.compiler_positions.specs.Sequences.{atom_of, largest_place}
 use Rattle.compiler_positions.specs.Lengths.{HasLongSection}
 use Rattle.compiler.specs.Programs.{disabling_atom}
 use Rattle.compiler.specs.Readings.{code_over}
@@ -44,7 +44,7 @@ no_limits =
     record { history = 0; stack = 0; attempts = 0; obligations = 0; budget = 0 }
 
 -- The parts of an assertion's program, which declares no limits yet.
-pub record AreParts (suite : Suite) (a : Assertion) (signals counters : List Bool)
+pub record AreProgramParts (suite : Suite) (a : Assertion) (signals counters : List Bool)
     (p : ProgramData) : Type 0 where
   pub limits : p.header.limits ≡ no_limits
   pub disable : p.header.disable ≡ disabling_atom a.disabling
@@ -57,10 +57,10 @@ pub record AreParts (suite : Suite) (a : Assertion) (signals counters : List Boo
   pub antecedent : p.antecedent ≡ led_section a.first atom_of One (written_form a.antecedent)
   pub consequent : p.consequent ≡ section_for atom_of One (written_form a.consequent)
   pub short_sample : length p.sample ≤ 4096
-  pub short_antecedent : size_of p.antecedent.blocks ≤ 4096
-  pub short_consequent : size_of p.consequent.blocks ≤ 4096
-  pub light_antecedent : largest (written_form a.antecedent) ≤ 65535
-  pub light_consequent : largest (written_form a.consequent) ≤ 65535
+  pub short_antecedent : instructions_in p.antecedent.blocks ≤ 4096
+  pub short_consequent : instructions_in p.consequent.blocks ≤ 4096
+  pub light_antecedent : largest_place (written_form a.antecedent) ≤ 65535
+  pub light_consequent : largest_place (written_form a.consequent) ≤ 65535
 
 -- Why code was not made: it would be too long, or memory ran out.
 abbrev pub IsCodeFault : Suite → Assertion → List Bool → List Bool → CompileFault → Type 0

@@ -18,10 +18,10 @@ use Rattle.assertions.specs.Segments.{AdmitsEmpty}
 use Rattle.assertions.specs.Shapes.{written_form, shape}
 use Rattle.assertions.specs.Listed.{EachBoolean, IsListed, IsListedOption}
 use Rattle.bytecode.specs.Values.{ProgramData, SlotData}
-use Rattle.compiler_reads.specs.Reads.{Reads}
+use Rattle.assertions.specs.Reads.{Reads}
 use Rattle.compiler_expressions.specs.Codes.{Slots}
 use Rattle.compiler_expressions.specs.Samples.{Held, sample_code}
-use Rattle.compiler_expressions.specs.Laws.{Each, OfName, program_terms}
+use Rattle.compiler_expressions.specs.Laws.{EachPart, OfName, program_terms}
 use Rattle.compiler_positions.specs.Sequences.{atom_of}
 use Rattle.compiler_positions.specs.Laws.{section_for, led_section}
 
@@ -60,7 +60,7 @@ abbrev pub HoldsName : Suite → Layout → Name → Type 0
 HoldsName suite l name = HoldsAt suite l name.origin name.place name.width
 
 -- a part of an expression that can be sampled
-pub record IsSampled (suite : Suite) (l : Layout) (e : Term) : Type 0 where
+pub record IsSampledIn (suite : Suite) (l : Layout) (e : Term) : Type 0 where
   pub name : OfName (HoldsName suite l) e
   pub narrow : width_of e ≤ 128
 
@@ -101,7 +101,7 @@ pub record IsProgramOf (suite : Suite) (a : Assertion) (p : ProgramData) : Type 
   pub found : map (λ place. slice_get suite.booleans.items place) a.booleans.items
       ≡ map (λ e. Some e) booleans
   pub atoms : p.header.atoms ≡ length booleans
-  pub sampled : AllByRecursion (Each (IsSampled suite layout))
+  pub sampled : AllByRecursion (EachPart (IsSampledIn suite layout))
       (program_terms (map term_of booleans) layout.counters)
   pub at : Slots
   pub laid : IsLaidOut layout at

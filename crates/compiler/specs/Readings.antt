@@ -6,11 +6,11 @@ use Rattle.expressions.specs.Terms.{Term}
 use Rattle.assertions.specs.declared.assertion.Assertion.{Assertion}
 use Rattle.assertions.specs.declared.suite.Suite.{Suite}
 use Rattle.bytecode.specs.declared.sample_instr.SampleInstr.{SampleInstr}
-use Rattle.compiler_reads.specs.Reads.{AreRead}
-use Rattle.compiler_reads.specs.Marks.{AreMarks, is_marked, places_from, slots_from}
+use Rattle.assertions.specs.Reads.{AreRead}
+use Rattle.assertions.specs.Marks.{AreMarks, is_marked, places_from, slots_from}
 use Rattle.compiler_expressions.specs.Codes.{Slots}
 use Rattle.compiler_expressions.specs.Samples.{Held, sample_code}
-use Rattle.compiler_expressions.specs.Chosen.{terms_at, held_at}
+use Rattle.compiler_expressions.specs.Chosen.{terms_at, held_counters}
 
 -- For each signal and each counter of the suite, whether the assertion reads it.
 pub record IsReading (suite : Suite) (a : Assertion) (signals counters : List Bool) : Type 0 where
@@ -38,7 +38,7 @@ boolean_terms suite a = terms_at suite.booleans.items a.booleans.items
 
 -- the counters that are read
 abbrev pub counters_read : Suite → List Bool → List Held
-counters_read suite counters = held_at suite.counters.items (places_from 0 counters)
+counters_read suite counters = held_counters suite.counters.items (places_from 0 counters)
 
 -- the sample code of an assertion's program
 abbrev pub code_over : Suite → Assertion → List Bool → List Bool → List SampleInstr

@@ -2,7 +2,7 @@
 use Rattle.std.specs.Prelude.{◌≡◌}
 use Rattle.assertions.specs.declared.assertion.Assertion.{Assertion}
 use Rattle.assertions.specs.declared.suite.Suite.{Suite}
-use Rattle.compiler_reads.specs.Marks.{places_from}
+use Rattle.assertions.specs.Marks.{places_from}
 use Rattle.compiler.specs.Readings.{IsReading}
 use Rattle.compiler.specs.declared.reading.Reading.{Reading}
 

@@ -7,8 +7,8 @@ use Rattle.assertions.specs.declared.assertion.Assertion.{Assertion}
 use Rattle.assertions.specs.declared.suite.Suite.{Suite}
 use Rattle.assertions.specs.Written.{Written, weight}
 use Rattle.assertions.specs.Shapes.{written_form}
-use Rattle.compiler_reads.specs.Reads.{boolean_names}
-use Rattle.compiler_expressions.specs.Laws.{Each, IsNoChange, size}
+use Rattle.assertions.specs.Reads.{boolean_names}
+use Rattle.compiler_expressions.specs.Laws.{EachPart, IsNoChange, size}
 use Rattle.compiler_positions.specs.Laws.{IsPlain, booleans}
 use Rattle.compiler.specs.Readings.{IsReading, boolean_terms}
 use Rattle.compiler.specs.Faults.{HasLongCode}
@@ -28,7 +28,7 @@ pub record IsSmall (suite : Suite) (a : Assertion) : Type 0 where
   pub consequent : IsSmallSide (written_form a.consequent)
   pub few : length a.booleans.items ≤ 32
   pub short : sum_by size (boolean_terms suite a) ≤ 512
-  pub still : AllByRecursion (Each IsNoChange) (boolean_terms suite a)
+  pub still : AllByRecursion (EachPart IsNoChange) (boolean_terms suite a)
   pub signals : (n : Name) → Contains (boolean_names suite a) n → n.origin ≡ Signal
 
 -- No part of the program of a small assertion is long: K2 never comes.

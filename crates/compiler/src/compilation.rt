@@ -1,9 +1,9 @@
 //! Programs of assertions.
 
 ghost use Rattle.std.specs.Prelude.{◌≡◌, IfOk, IfErr, MatchOption};
-ghost use Rattle.compiler.specs.Conditions.{IsFit};
+ghost use Rattle.compiler.specs.Conditions.{FitsSuite};
 ghost use Rattle.compiler.specs.Reads.{IsReadingOf};
-ghost use Rattle.compiler.specs.Faults.{WhyNotCompiled, AreCounted, IsCountFault, IsFaultless};
+ghost use Rattle.compiler.specs.Faults.{WhyNotCompiled, AreCounted, IsCountFault, HasNoFault};
 ghost use Rattle.compiler.specs.Parts.{declared_from};
 ghost use Rattle.compiler.specs.Programs.{IsProgramOf};
 ghost use Rattle.verifier.specs.Programs.{IsAccepted, least_limits};
@@ -53,11 +53,11 @@ pub fn compile(
     assertion: &Assertion,
     suite: &Suite,
 ) -> Result<Verified, CompileFault>
-    requires { IsFit suite.now assertion.now }
+    requires { FitsSuite suite.now assertion.now }
     ensures made { IfOk result (IsProgramOf suite.now assertion.now) }
     ensures accepted { IfOk result IsAccepted }
     ensures least { IfOk result (λ p. p.header.limits ≡ declared_from (least_limits p)) }
-    ensures faultless { IfOk result (λ _. IsFaultless suite.now assertion.now) }
+    ensures faultless { IfOk result (λ _. HasNoFault suite.now assertion.now) }
     ensures refused { IfErr result (WhyNotCompiled suite.now assertion.now) }
 {
     let reading = Reading::of(alloc, assertion, suite)?;

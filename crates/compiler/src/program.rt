@@ -5,27 +5,26 @@ ghost use Rattle.assertions.specs.declared.sequence.Boolean.TheVariants.{One};
 ghost use Rattle.assertions.specs.Written.{weight, IsOrdered};
 ghost use Rattle.assertions.specs.Shapes.{written_form};
 ghost use Rattle.assertions.specs.Listed.{EachBoolean, IsListed, IsListedOption};
-ghost use Rattle.compiler_reads.specs.Marks.{places_from, slots_from};
-ghost use Rattle.compiler_positions.specs.Sequences.{atom_of, largest};
+ghost use Rattle.assertions.specs.Marks.{places_from, slots_from};
+ghost use Rattle.compiler_positions.specs.Sequences.{atom_of, largest_place};
 ghost use Rattle.compiler_positions.specs.Laws.{section_for, led_section};
 ghost use Rattle.compiler.specs.Programs.{disabling_atom};
 ghost use Rattle.bytecode.specs.Programs.{data_of};
 ghost use Rattle.bytecode.specs.Views.{section_data};
-ghost use Rattle.verifier_inference.specs.Sections.{size_of};
-ghost use Rattle.compiler.specs.Conditions.{IsFit};
+ghost use Rattle.verifier_inference.specs.Sections.{instructions_in};
+ghost use Rattle.compiler.specs.Conditions.{FitsSuite};
 ghost use Rattle.compiler.specs.Readings.{first_counter, code_over};
 ghost use Rattle.compiler.specs.Reads.{IsReadingOf};
 ghost use Rattle.compiler.specs.Faults.{AreCounted};
-ghost use Rattle.compiler.specs.Parts.{AreParts, IsCodeFault, IsSideFault, no_limits};
+ghost use Rattle.compiler.specs.Parts.{AreProgramParts, IsCodeFault, IsSideFault, no_limits};
 
 use crate::fault::CompileFault;
 use crate::reading::Reading;
 use crate::slots::{counter_widths, signal_slots};
-use assertions::{Assertion, Boolean, Sequence, Suite};
+use assertions::{Assertion, Boolean, Sequence, Suite, slots_of};
 use bytecode::{Limits, Program, SampleInstr, Section};
 use compiler_expressions::{LengthFault, SlotTable, sample_code};
 use compiler_positions::{SectionFault, accepting_first, positions_of};
-use compiler_reads::slots_of;
 use std::alloc::{AllocError, Global};
 
 /// The slots of the names that are read.
@@ -54,7 +53,7 @@ fn code_of(
     suite: &Suite,
     reading: &Reading,
 ) -> Result<Vec<SampleInstr>, CompileFault>
-    requires fit { IsFit suite.now assertion.now }
+    requires fit { FitsSuite suite.now assertion.now }
     requires reading { IsReadingOf suite.now assertion.now reading.now }
     requires atoms { length assertion.now.booleans.items ≤ 127 }
     requires slots { length reading.now.signal_places.items
@@ -87,8 +86,8 @@ fn side_of(alloc: Global, side: &Sequence) -> Result<Section, CompileFault>
     requires listed { EachBoolean (IsListed 127) (written_form side.now) }
     ensures made { IfOk result (λ s.
         section_data s ≡ section_for atom_of One (written_form side.now)) }
-    ensures short { IfOk result (λ s. size_of (section_data s).blocks ≤ 4096) }
-    ensures light { IfOk result (λ s. largest (written_form side.now) ≤ 65535) }
+    ensures short { IfOk result (λ s. instructions_in (section_data s).blocks ≤ 4096) }
+    ensures light { IfOk result (λ s. largest_place (written_form side.now) ≤ 65535) }
     ensures fault { IfErr result (IsSideFault side.now) }
 {
     match positions_of(alloc, side) {
@@ -103,9 +102,9 @@ fn antecedent_of(alloc: Global, assertion: &Assertion) -> Result<Section, Compil
     requires listed { EachBoolean (IsListed 127) (written_form assertion.now.antecedent) }
     ensures made { IfOk result (λ s. section_data s
         ≡ led_section assertion.now.first atom_of One (written_form assertion.now.antecedent)) }
-    ensures short { IfOk result (λ s. size_of (section_data s).blocks ≤ 4096) }
+    ensures short { IfOk result (λ s. instructions_in (section_data s).blocks ≤ 4096) }
     ensures light { IfOk result (λ s.
-        largest (written_form assertion.now.antecedent) ≤ 65535) }
+        largest_place (written_form assertion.now.antecedent) ≤ 65535) }
     ensures fault { IfErr result (IsSideFault assertion.now.antecedent) }
 {
     let section = side_of(alloc, &assertion.antecedent)?;
@@ -148,11 +147,11 @@ pub(crate) fn program_of(
     suite: &Suite,
     reading: &Reading,
 ) -> Result<Program, CompileFault>
-    requires fit { IsFit suite.now assertion.now }
+    requires fit { FitsSuite suite.now assertion.now }
     requires reading { IsReadingOf suite.now assertion.now reading.now }
     requires counted { AreCounted suite.now assertion.now reading.now.signals.items
         reading.now.counters.items }
-    ensures made { IfOk result (λ p. AreParts suite.now assertion.now
+    ensures made { IfOk result (λ p. AreProgramParts suite.now assertion.now
         reading.now.signals.items reading.now.counters.items (data_of p)) }
     ensures fault { IfErr result (IsCodeFault suite.now assertion.now
         reading.now.signals.items reading.now.counters.items) }

@@ -3,8 +3,7 @@
 ghost use Rattle.std.specs.Prelude.{◌≡◌, ◌+◌, length, IfOk};
 ghost use Rattle.compiler.specs.Reads.{IsReadingOf};
 
-use assertions::{Assertion, Suite};
-use compiler_reads::{marked_places, marks_of, names_read};
+use assertions::{Assertion, Suite, marked_places, marks_of, names_read};
 use expressions::Origin;
 use std::alloc::{AllocError, Global};
 

@@ -3,7 +3,7 @@
 ghost use Rattle.std.specs.Prelude.{◌≡◌};
 ghost use Rattle.std.specs.List.{list_any};
 ghost use Rattle.compiler.specs.Faults.{is_long, is_long_path, has_long_text};
-ghost use Rattle.compiler_reads.specs.Marks.{places_from};
+ghost use Rattle.assertions.specs.Marks.{places_from};
 
 use assertions::{Assertion, Signal, Suite};
 

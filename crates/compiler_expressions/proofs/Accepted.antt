@@ -7,10 +7,10 @@ use Rattle.bytecode.specs.declared.sample_instr.SampleInstr.TheVariants.{Halt}
 use Rattle.bytecode.specs.Instructions.{FrameData, leaves, frame_of, LeadsTo, sample_flow}
 use Rattle.verifier_inference.specs.Rules.{sample_rules}
 use Rattle.verifier_inference.specs.Inference.{after_of}
-use Rattle.verifier_inference.specs.Typing.{IsTyped, longest_list}
+use Rattle.verifier_inference.specs.Typing.{IsCodeTyped, longest_list}
 use Rattle.verifier.specs.Limits.{farthest, longest_path}
 use Rattle.machine_definition.specs.Outcomes.{done}
-use Rattle.machine_definition.specs.Samples.{Operand, width_of, results, nothing_made, run_sample}
+use Rattle.machine_definition.specs.Samples.{Operand, operand_width, results, nothing_made, run_sample}
 use Rattle.compiler_expressions.specs.Samples.{sample_code}
 use Rattle.compiler_expressions.specs.Laws.{SamplesTell}
 use Rattle.compiler_expressions.proofs.Steps.{State, state, steps, step-some, steps-append}
@@ -34,7 +34,7 @@ list-within table pc (i ∷ code) (suc k) lt =
 
 -- Typed code that runs under some limits runs under any that hold its lists and its reach.
 module _ (f : FrameData) (wide d : Limits) (s : ℕ → ℕ → ℕ) (code : List SampleInstr) (table : ℕ →
-    List ℕ) (typed : IsTyped (sample_rules f) 0 code table) (lists : longest_list table 0 code ≤
+    List ℕ) (typed : IsCodeTyped (sample_rules f) 0 code table) (lists : longest_list table 0 code ≤
     d.stack) where
   fit : (pc : ℕ) → pc < length code → length (table pc) ≤ d.stack
   fit pc lt =
@@ -45,14 +45,14 @@ module _ (f : FrameData) (wide d : Limits) (s : ℕ → ℕ → ℕ) (code : Lis
 
   narrowed :
       (part : List SampleInstr) (pc : ℕ) (from to : State) → Stands code pc part →
-      pc + length part < length code → table pc ≡ map width_of from.operands →
+      pc + length part < length code → table pc ≡ map operand_width from.operands →
       farthest part ≤ d.history → steps f wide s part from ≡ Some to →
       steps f d s part from ≡ Some to
   narrowed [] pc from to stand inside at near h = h
   narrowed (i ∷ part) pc from to stand inside at near h =
       let g = first-of f wide s i part from to h in
       let xs : List Operand = from.operands in
-      let ys : List ℕ = map width_of (results f s i xs) in
+      let ys : List ℕ = map operand_width (results f s i xs) in
       let zero_on : 0 + pc ≡ pc = omega arith in
       let fine = typed.each pc i stand.0 in
       let rule : leaves ys ≡ leaves fine.after =
@@ -72,7 +72,7 @@ module _ (f : FrameData) (wide d : Limits) (s : ℕ → ℕ → ℕ) (code : Lis
       let ops : results f s i xs ≡ g.next.operands =
       ap (λ (r : State). r.operands) g.first.left in
       steps-append f d s (i ∷ []) part from g.next first
-      ∙ narrowed part (pc + 1) g.next to stand.1 (omega (arith, inside)) (on ∙ ap (map width_of)
+      ∙ narrowed part (pc + 1) g.next to stand.1 (omega (arith, inside)) (on ∙ ap (map operand_width)
       ops)
       (omega (arith, near)) g.others
 
@@ -87,8 +87,8 @@ samples-tell p at es hs accepted is frame t s k told =
     let to : State = state [] (made_by t k es hs) in
     let wide : steps f (asked es hs) s part from ≡ Some to =
     body-steps f (asked es hs) t at s k es hs frame told (omega arith) (omega arith) in
-    let typed : IsTyped (sample_rules f) 0 code accepted.table =
-    subst (λ c. IsTyped (sample_rules f) 0 c accepted.table) is accepted.sample in
+    let typed : IsCodeTyped (sample_rules f) 0 code accepted.table =
+    subst (λ c. IsCodeTyped (sample_rules f) 0 c accepted.table) is accepted.sample in
     let lists : longest_list accepted.table 0 code ≤ d.stack =
     subst (λ c. longest_list accepted.table 0 c ≤ d.stack) is accepted.stack in
     let near : farthest code ≤ d.history =

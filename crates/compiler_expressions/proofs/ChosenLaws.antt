@@ -7,7 +7,7 @@ use Rattle.expressions.specs.declared.expr.Expr.{Expr}
 use Rattle.expressions.specs.declared.counter.Counter.{Counter}
 use Rattle.expressions.specs.Expressions.{term_of}
 use Rattle.compiler_expressions.specs.Samples.{Held}
-use Rattle.compiler_expressions.specs.Chosen.{term_found, terms_at, held_found, held_at}
+use Rattle.compiler_expressions.specs.Chosen.{term_found, terms_at, held_found, held_counters}
 
 found :
     {A : Type 0} (all : List A) (place : ℕ) (x : A) → place < length all →
@@ -41,16 +41,16 @@ module _ (places : List ℕ) (i : ℕ) (lt : i < length places) where
 
   pub held_more :
       (all : List Counter) (x : Counter) → place < length all → x ≡ get_or all place x →
-      held_at all (drop i places) ≡ counter_held x ∷ held_at all (drop (i + 1) places)
+      held_counters all (drop i places) ≡ counter_held x ∷ held_counters all (drop (i + 1) places)
   held_more all x inside is =
-      ap (held_at all) cut
-      ∙ ap (λ o. held_found place o (held_at all (drop (i + 1) places))) (found all place x inside
+      ap (held_counters all) cut
+      ∙ ap (λ o. held_found place o (held_counters all (drop (i + 1) places))) (found all place x inside
       is)
 
   pub held_skip :
       (all : List Counter) → length all ≤ place →
-      held_at all (drop i places) ≡ held_at all (drop (i + 1) places)
+      held_counters all (drop i places) ≡ held_counters all (drop (i + 1) places)
   held_skip all past =
-      ap (held_at all) cut
-      ∙ ap (λ o. held_found place o (held_at all (drop (i + 1) places)))
+      ap (held_counters all) cut
+      ∙ ap (λ o. held_found place o (held_counters all (drop (i + 1) places)))
       (slice_get_past all place past)

@@ -28,7 +28,7 @@ use Rattle.compiler_expressions.specs.Samples.{next_code, amount_need, sum_need,
 use Rattle.compiler_expressions.specs.Samples.{cleared_need, need_two, next_need, rule_terms}
 use Rattle.compiler_expressions.specs.Samples.{clear_terms}
 use Rattle.compiler_expressions.specs.Samples.{counter_terms, largest}
-use Rattle.compiler_expressions.specs.Laws.{Each, IsPlaced, TellsTicks, TellsNames, IsCount}
+use Rattle.compiler_expressions.specs.Laws.{EachPart, IsInFrame, TellsTicks, TellsNames, IsCount}
 use Rattle.compiler_expressions.proofs.Lists.{all-front, all-back}
 use Rattle.compiler_expressions.proofs.Steps.{Moves, Puts, moves-room, moves-then}
 use Rattle.compiler_expressions.proofs.Steps.{moves-none, puts-one, puts-two, puts-three}
@@ -69,7 +69,7 @@ chosen-clear false y = refl
 -- What the code of an expression asks of its frame, its rows and the declared history.
 pub record IsServed (f : FrameData) (d : Limits) (t : Samples) (at : Slots) (s : ℕ → ℕ → ℕ) (k : ℕ)
     (e : Term) : Type 0 where
-  pub placed : Each (IsPlaced f at) e
+  pub placed : EachPart (IsInFrame f at) e
   pub told : TellsNames t at s k e
   pub near : reach e ≤ d.history
 
@@ -313,7 +313,7 @@ module _ (f : FrameData) (d : Limits) (t : Samples) (at : Slots) (s : ℕ → �
       (all-back Here (clear ++ load ++ add) sub served)))
 
   pub served :
-      (es : List Term) → AllByRecursion (Each (IsPlaced f at)) es →
+      (es : List Term) → AllByRecursion (EachPart (IsInFrame f at)) es →
       AllByRecursion (TellsNames t at s k) es → largest reach es ≤ d.history →
       AllByRecursion Here es
   served [] g h le = tt

@@ -23,9 +23,9 @@ use Rattle.compiler_expressions.specs.Codes.{reads_slot, guarded_need, need, rea
 use Rattle.compiler_expressions.specs.Samples.{amount_need, sum_need, loaded_need, cleared_need}
 use Rattle.compiler_expressions.specs.Samples.{next_need, largest, rule_terms, clear_terms}
 use Rattle.compiler_expressions.specs.Samples.{counter_terms}
-use Rattle.compiler_expressions.specs.Laws.{Each}
+use Rattle.compiler_expressions.specs.Laws.{EachPart}
 use Rattle.compiler_expressions.specs.Depths.{arithmetic_level, comparison_level, connective_level}
-use Rattle.compiler_expressions.specs.Depths.{level}
+use Rattle.compiler_expressions.specs.Depths.{term_level}
 use Rattle.compiler_expressions.specs.Depths.{bracketed, left_depth, reduction_depth, braced, depth}
 use Rattle.compiler_expressions.specs.Depths.{IsShortPast, DepthBoundsCode}
 use Rattle.compiler_expressions.proofs.Lists.{all-front, all-back, all-flat}
@@ -74,27 +74,27 @@ bracketed-more most loose deep = more (nat_le loose most)
 
 -- the operands of a left operator
 left-within :
-    (own x y : ℕ) (a b : Term) → 1 ≤ own → own ≤ 9 → Within x (level a) (depth a) →
-    Within y (level b) (depth b) →
-    Within (max x (1 + y)) own (left_depth own (level a) (depth a) (level b) (depth b))
+    (own x y : ℕ) (a b : Term) → 1 ≤ own → own ≤ 9 → Within x (term_level a) (depth a) →
+    Within y (term_level b) (depth b) →
+    Within (max x (1 + y)) own (left_depth own (term_level a) (depth a) (term_level b) (depth b))
 left-within own x y a b some most g h =
     omega (
       arith,
       some,
       most,
-      bracketed-within own (level a) (depth a) x g,
-      bracketed-within (own - 1) (level b) (depth b) y h,
+      bracketed-within own (term_level a) (depth a) x g,
+      bracketed-within (own - 1) (term_level b) (depth b) y h,
     )
 
 reduction-within :
-    (op : Reduction) (e : Term) (n : ℕ) → Within n (level e) (depth e) →
-    n ≤ 11 * reduction_depth op (level e) (depth e) + 1
+    (op : Reduction) (e : Term) (n : ℕ) → Within n (term_level e) (depth e) →
+    n ≤ 11 * reduction_depth op (term_level e) (depth e) + 1
 reduction-within OneHot e n h = omega (arith, h)
 reduction-within OneHotOrZero e n h = omega (arith, h)
-reduction-within op e n h = omega (arith, bracketed-within 0 (level e) (depth e) n h)
+reduction-within op e n h = omega (arith, bracketed-within 0 (term_level e) (depth e) n h)
 
 braced-within :
-    (e : Term) (n : ℕ) → Within n (level e) (depth e) → n ≤ 11 * braced e (depth e) + 1
+    (e : Term) (n : ℕ) → Within n (term_level e) (depth e) → n ≤ 11 * braced e (depth e) + 1
 braced-within (concat a b) n h = omega (arith, h)
 braced-within e n h = omega (arith, h)
 
@@ -103,14 +103,14 @@ guarded-within :
 guarded-within true n deep h = omega (arith, h)
 guarded-within false n deep h = omega (arith, h)
 
-need-within : (e : Term) → Within (need e) (level e) (depth e)
+need-within : (e : Term) → Within (need e) (term_level e) (depth e)
 need-within (constant bits) = omega arith
 need-within (named name) = omega arith
 need-within (slice part) = omega arith
 need-within (group e) = omega (arith, need-within e)
 need-within (concat a b) = omega (arith, braced-within a (need a) (need-within a), need-within b)
 need-within (inverse e) =
-    omega (arith, bracketed-within 0 (level e) (depth e) (need e) (need-within e))
+    omega (arith, bracketed-within 0 (term_level e) (depth e) (need e) (need-within e))
 need-within (reduce op e) = omega (arith, reduction-within op e (need e) (need-within e))
 need-within (combine op a b) =
     left-within (arithmetic_level op) (need a) (need b) a b (arithmetic-loose op).0
@@ -126,7 +126,7 @@ need-within (connect op a b) =
 need-within (choose c a b) =
     omega (
       arith,
-      bracketed-within 9 (level c) (depth c) (need c) (need-within c),
+      bracketed-within 9 (term_level c) (depth c) (need c) (need-within c),
       need-within a,
       need-within b,
     )
@@ -142,14 +142,14 @@ need-within (change op e) =
 -- a bound with 64 ticks for each bracket
 left-reaches :
     (own x y : ℕ) (a b : Term) → x ≤ 64 * depth a → y ≤ 64 * depth b →
-    max x y ≤ 64 * left_depth own (level a) (depth a) (level b) (depth b)
+    max x y ≤ 64 * left_depth own (term_level a) (depth a) (term_level b) (depth b)
 left-reaches own x y a b g h =
     omega (
       arith,
       g,
       h,
-      bracketed-more own (level a) (depth a),
-      bracketed-more (own - 1) (level b) (depth b),
+      bracketed-more own (term_level a) (depth a),
+      bracketed-more (own - 1) (term_level b) (depth b),
     )
 
 reduction-deeper : (op : Reduction) (loose deep : ℕ) → deep ≤ reduction_depth op loose deep
@@ -161,7 +161,7 @@ braced-deeper : (e : Term) (deep : ℕ) → deep ≤ braced e deep
 braced-deeper (concat a b) deep = omega arith
 braced-deeper e deep = omega arith
 
-reach-within : (e : Term) → Each IsShortPast e → reach e ≤ 64 * depth e
+reach-within : (e : Term) → EachPart IsShortPast e → reach e ≤ 64 * depth e
 reach-within (constant bits) h = omega arith
 reach-within (named name) h = omega arith
 reach-within (slice part) h = omega arith
@@ -169,9 +169,9 @@ reach-within (group e) h = omega (arith, reach-within e h.1)
 reach-within (concat a b) h =
     omega (arith, braced-deeper a (depth a), reach-within a h.1, reach-within b h.2)
 reach-within (inverse e) h =
-    omega (arith, bracketed-more 0 (level e) (depth e), reach-within e h.1)
+    omega (arith, bracketed-more 0 (term_level e) (depth e), reach-within e h.1)
 reach-within (reduce op e) h =
-    omega (arith, reduction-deeper op (level e) (depth e), reach-within e h.1)
+    omega (arith, reduction-deeper op (term_level e) (depth e), reach-within e h.1)
 reach-within (combine op a b) h =
     left-reaches (arithmetic_level op) (reach a) (reach b) a b (reach-within a h.1)
     (reach-within b h.2)
@@ -186,7 +186,7 @@ reach-within (connect op a b) h =
 reach-within (choose c a b) h =
     omega (
       arith,
-      bracketed-more 9 (level c) (depth c),
+      bracketed-more 9 (term_level c) (depth c),
       reach-within c h.1,
       reach-within a h.2,
       reach-within b h.3,
@@ -204,11 +204,11 @@ largest-under f P n go (x ∷ xs) h =
 
 module _ (most : ℕ) where
   abbrev Shallow : Term → Type 0
-  Shallow e = (depth e ≤ most) × Each IsShortPast e
+  Shallow e = (depth e ≤ most) × EachPart IsShortPast e
 
   both :
       (es : List Term) → AllByRecursion (λ e. depth e ≤ most) es →
-      AllByRecursion (Each IsShortPast) es → AllByRecursion Shallow es
+      AllByRecursion (EachPart IsShortPast) es → AllByRecursion Shallow es
   both [] g h = tt
   both (e ∷ es) g h = ((g.0, h.0), both es g.1 h.1)
 

@@ -17,7 +17,7 @@ use Rattle.compiler_expressions.specs.Codes.{guarded, reduction_end, arithmetic_
 use Rattle.compiler_expressions.specs.Codes.{comparison_middle, comparison_end, connective_end}
 use Rattle.compiler_expressions.specs.Codes.{change_middle, change_end, code_of, guarded_need, need}
 use Rattle.compiler_expressions.specs.Codes.{reach}
-use Rattle.compiler_expressions.specs.Laws.{Each, IsPlaced}
+use Rattle.compiler_expressions.specs.Laws.{EachPart, IsInFrame}
 use Rattle.compiler_expressions.proofs.Steps.{Puts, moves-room, puts-one, puts-two, puts-three}
 use Rattle.compiler_expressions.proofs.Steps.{puts-turned}
 use Rattle.compiler_expressions.proofs.Instructions.{raw_bit, raw_guarded, push-moves, not-moves}
@@ -96,7 +96,7 @@ width-some (change op e) = omega arith
 module _ (f : FrameData) (d : Limits) (at : Slots) (s : ℕ → ℕ → ℕ) (one : slice_get f.slots 0 ≡ Some
     1) where
   abbrev Fine : Term → Type 0
-  Fine = Each (IsPlaced f at)
+  Fine = EachPart (IsInFrame f at)
 
   abbrev Leaves : Term → ℕ → ℕ → Type 0
   Leaves e w n = Puts f d s (code_of at e w n) (operand w (raw s at e w n)) (need e)

@@ -48,7 +48,7 @@ use Rattle.compiler_expressions.specs.Samples.{Held, held_slot, truth_code, cut,
 use Rattle.compiler_expressions.specs.Samples.{amount_code, sum_code, loaded_code, cleared_code}
 use Rattle.compiler_expressions.specs.Samples.{next_code, atoms_code, stores_code, largest}
 use Rattle.compiler_expressions.specs.Samples.{rule_terms, clear_terms, counter_terms}
-use Rattle.compiler_expressions.specs.Laws.{Each, IsPlaced, SamplesFit}
+use Rattle.compiler_expressions.specs.Laws.{EachPart, IsInFrame, SamplesFit}
 use Rattle.compiler_expressions.proofs.Lists.{all-front, all-back, all-flat}
 use Rattle.compiler_expressions.proofs.ExpressionLaws.{width-some}
 use Rattle.compiler_expressions.proofs.Programs.{largest-append, largest-flat}
@@ -155,11 +155,11 @@ module _ (f : FrameData) (at : Slots) (few : length f.slots ≤ 65536) where
   slot-fits : (slot w : ℕ) → slice_get f.slots slot ≡ Some w → slot < 65536
   slot-fits slot w h = omega (arith, few, slice_get_within f.slots slot w h)
 
-  own : (e : Term) → Each (IsPlaced f at) e → width_of e ≤ 128
-  own e h = (each-self (IsPlaced f at) e h).narrow
+  own : (e : Term) → EachPart (IsInFrame f at) e → width_of e ≤ 128
+  own e h = (each-self (IsInFrame f at) e h).narrow
 
   pub code-fits :
-      (e : Term) (w n : ℕ) → Each (IsPlaced f at) e → width_of e ≤ w → w ≤ 128 →
+      (e : Term) (w n : ℕ) → EachPart (IsInFrame f at) e → width_of e ≤ w → w ≤ 128 →
       n + reach e < 65536 → Fit (code_of at e w n)
   code-fits (constant bits) w n h le most near =
       push-fits w bits.value (omega (arith, le, bits.some_bits)) most
@@ -275,7 +275,7 @@ module _ (f : FrameData) (at : Slots) (few : length f.slots ≤ 65536) where
       (change-fits op)) (extension-fits 1 w le most)
 
   abbrev Served : Term → Type 0
-  Served e = Each (IsPlaced f at) e × (reach e < 65536)
+  Served e = EachPart (IsInFrame f at) e × (reach e < 65536)
 
   truth-fits : (e : Term) → Served e → Fit (truth_code at e)
   truth-fits e h =
@@ -408,7 +408,7 @@ module _ (f : FrameData) (at : Slots) (few : length f.slots ≤ 65536) where
       (stores-fit hs (i + 1) all.1 held.1 (omega (arith, few)))
 
   serve :
-      (es : List Term) → AllByRecursion (Each (IsPlaced f at)) es → largest reach es < 65536 →
+      (es : List Term) → AllByRecursion (EachPart (IsInFrame f at)) es → largest reach es < 65536 →
       AllByRecursion Served es
   serve [] g near = tt
   serve (e ∷ es) g near = ((g.0, omega (arith, near)), serve es g.1 (omega (arith, near)))

@@ -18,7 +18,7 @@ use Rattle.bytecode.specs.declared.sample_instr.SampleInstr.TheVariants.{Reduce,
 use Rattle.bytecode.specs.declared.sample_instr.SampleInstr.TheVariants.{Slice, Mux}
 use Rattle.bytecode.specs.declared.sample_instr.SampleInstr.{SampleInstr}
 use Rattle.bytecode.specs.Instructions.{FrameData}
-use Rattle.machine_definition.specs.Samples.{Operand, operand, joined, compared, shifted, reduced}
+use Rattle.machine_definition.specs.Samples.{Operand, operand, join_value, compared, shifted, reduced}
 use Rattle.compiler_expressions.specs.Codes.{extension, bit_test, slot_read, guarded, guarded_need}
 use Rattle.compiler_expressions.proofs.Steps.{Moves, Puts, acts-moves, moves-none, moves-room}
 use Rattle.compiler_expressions.proofs.Steps.{moves-then}
@@ -112,10 +112,10 @@ module _ (f : FrameData) (d : Limits) (s : ℕ → ℕ → ℕ) where
   pub join-moves :
       (op : JoinOperator) (w x y : ℕ) →
       Moves f d s (Join op ∷ []) (operand w y ∷ operand w x ∷ [])
-      (operand w (joined op w x y) ∷ []) 1
+      (operand w (join_value op w x y) ∷ []) 1
   join-moves op w x y =
       acts-moves f d s (Join op) (operand w y ∷ operand w x ∷ [])
-      (operand w (joined op w x y) ∷ [])
+      (operand w (join_value op w x y) ∷ [])
       (record {
         there = refl;
         rule = λ xs. rw (eq-eqb w w refl) refl;

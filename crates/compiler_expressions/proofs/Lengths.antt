@@ -28,7 +28,7 @@ use Rattle.compiler_expressions.specs.Codes.{Slots, slot_of, extension, bit_test
 use Rattle.compiler_expressions.specs.Codes.{guarded, reduction_end, arithmetic_end, shift_end}
 use Rattle.compiler_expressions.specs.Codes.{comparison_middle, comparison_end, connective_end, code_of}
 use Rattle.compiler_expressions.specs.Samples.{atoms_code}
-use Rattle.compiler_expressions.specs.Laws.{Each, size, IsNoChange, SamplesAreShort}
+use Rattle.compiler_expressions.specs.Laws.{EachPart, size, IsNoChange, SamplesAreShort}
 
 none-or-one : (b : Bool) (i : SampleInstr) → length (if b then [] else i ∷ []) ≤ 1
 none-or-one true i = omega arith
@@ -102,7 +102,7 @@ append-long a b = length-append a b
 
 module _ (at : Slots) where
   pub code-short :
-      (e : Term) (w n : ℕ) → Each IsNoChange e → length (code_of at e w n) ≤ 5 * size e
+      (e : Term) (w n : ℕ) → EachPart IsNoChange e → length (code_of at e w n) ≤ 5 * size e
   code-short (constant bits) w n h = omega arith
   code-short (named name) w n h =
       omega (arith, append-long, extension-long name.width w, read-long (slot_of at name) n)
@@ -185,7 +185,7 @@ module _ (at : Slots) where
   code-short (change op e) w n h = absurd h.0
 
   atoms-short :
-      (es : List Term) (i : ℕ) → AllByRecursion (Each IsNoChange) es →
+      (es : List Term) (i : ℕ) → AllByRecursion (EachPart IsNoChange) es →
       length (atoms_code at i es) ≤ 5 * sum_by size es + 2 * length es
   atoms-short [] i h = omega arith
   atoms-short (e ∷ es) i h =

@@ -26,10 +26,10 @@ use Rattle.expressions.proofs.Chains.{width-joined, total_above}
 use Rattle.bytecode.specs.Instructions.{FrameData}
 use Rattle.compiler_expressions.specs.Codes.{Slots}
 use Rattle.compiler_expressions.specs.Samples.{Held, rule_terms, clear_terms, counter_terms}
-use Rattle.compiler_expressions.specs.Chosen.{term_found, terms_at, held_at}
-use Rattle.compiler_expressions.specs.Laws.{Each, IsNarrow, HasSlot, IsPlaced, ProgramsAreNarrow}
+use Rattle.compiler_expressions.specs.Chosen.{term_found, terms_at, held_counters}
+use Rattle.compiler_expressions.specs.Laws.{EachPart, IsNarrow, HasSlot, IsInFrame, ProgramsAreNarrow}
 
-pub each-self : (P : Term → Type 0) (e : Term) → Each P e → P e
+pub each-self : (P : Term → Type 0) (e : Term) → EachPart P e → P e
 each-self P (constant bits) h = h
 each-self P (named name) h = h
 each-self P (slice part) h = h
@@ -46,7 +46,7 @@ each-self P (past e ticks) h = h.0
 each-self P (change op e) h = h.0
 
 abbrev AreNarrow : Term → Type 0
-AreNarrow = Each IsNarrow
+AreNarrow = EachPart IsNarrow
 
 own : (e : Term) → AreNarrow e → width_of e ≤ 128
 own e h = each-self IsNarrow e h
@@ -269,13 +269,13 @@ terms-narrow all (place ∷ places) =
 pub programs-are-narrow : ProgramsAreNarrow
 programs-are-narrow booleans atoms counters stores =
     both-narrow (terms_at booleans atoms)
-    (flat_map (λ h. counter_terms h.counter) (held_at counters stores))
-    (terms-narrow booleans atoms) (held-narrow (held_at counters stores))
+    (flat_map (λ h. counter_terms h.counter) (held_counters counters stores))
+    (terms-narrow booleans atoms) (held-narrow (held_counters counters stores))
 
 -- two facts of each part as one
 pub each-placed :
-    (f : FrameData) (at : Slots) (e : Term) → Each (HasSlot f at) e → Each IsNarrow e →
-    Each (IsPlaced f at) e
+    (f : FrameData) (at : Slots) (e : Term) → EachPart (HasSlot f at) e → EachPart IsNarrow e →
+    EachPart (IsInFrame f at) e
 each-placed f at (constant bits) g h = record { slot = g; narrow = h }
 each-placed f at (named name) g h = record { slot = g; narrow = h }
 each-placed f at (slice part) g h = record { slot = g; narrow = h }
@@ -307,7 +307,7 @@ each-placed f at (change op e) g h =
     (record { slot = g.0; narrow = h.0 }, each-placed f at e g.1 h.1)
 
 pub all-placed :
-    (f : FrameData) (at : Slots) (es : List Term) → AllByRecursion (Each (HasSlot f at)) es →
-    AllByRecursion (Each IsNarrow) es → AllByRecursion (Each (IsPlaced f at)) es
+    (f : FrameData) (at : Slots) (es : List Term) → AllByRecursion (EachPart (HasSlot f at)) es →
+    AllByRecursion (EachPart IsNarrow) es → AllByRecursion (EachPart (IsInFrame f at)) es
 all-placed f at [] g h = tt
 all-placed f at (e ∷ es) g h = (each-placed f at e g.0 h.0, all-placed f at es g.1 h.1)

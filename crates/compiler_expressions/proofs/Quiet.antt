@@ -15,7 +15,7 @@ use Rattle.bytecode.specs.declared.limits.Limits.{Limits}
 use Rattle.machine_definition.specs.Samples.{nothing_made}
 use Rattle.compiler_expressions.specs.Codes.{Slots, slot_of}
 use Rattle.compiler_expressions.specs.Samples.{Held, held_slot, sample_need, sample_reach}
-use Rattle.compiler_expressions.specs.Laws.{Tells, TellsNames, AreTold}
+use Rattle.compiler_expressions.specs.Laws.{TellsSlot, TellsNames, AreTold}
 use Rattle.compiler_expressions.specs.Laws.{program_terms, SamplesAreTyped}
 use Rattle.compiler_expressions.proofs.Steps.{state}
 use Rattle.compiler_expressions.proofs.Programs.{body, made_by, body-steps}
@@ -61,7 +61,7 @@ module _ (at : Slots) where
       ∙ mod-eq_of_lt fits)
   name-seen name (suc back) le = absurd (omega (arith, le))
 
-  name-told : (name : Name) → Tells rows 0 (slot_of at name) (name_at (samples at) name)
+  name-told : (name : Name) → TellsSlot rows 0 (slot_of at name) (name_at (samples at) name)
   name-told name =
       record { seen = name-seen name; before = λ back lt. before back (slot_of at name) lt }
 

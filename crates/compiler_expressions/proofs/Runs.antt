@@ -12,9 +12,9 @@ use Rattle.bytecode.specs.declared.sample_instr.SampleInstr.TheVariants.{Halt}
 use Rattle.bytecode.specs.Instructions.{FrameData, Effect, leaves, too_few, misfit}
 use Rattle.bytecode.specs.Instructions.{sample_flow, sample_effect, is_there}
 use Rattle.machine_definition.specs.Outcomes.{Ran, done, trapped, bad_operand, past_history}
-use Rattle.machine_definition.specs.Samples.{Operand, operand, width_of, results, Made, top, making}
+use Rattle.machine_definition.specs.Samples.{Operand, operand, operand_width, results, Made, top, making}
 use Rattle.machine_definition.specs.Samples.{reaches, follow, met, obey_sample, run_sample}
-use Rattle.compiler_expressions.specs.Laws.{Leaves}
+use Rattle.compiler_expressions.specs.Laws.{LeavesValue}
 use Rattle.compiler_expressions.proofs.Steps.{State, state, onward, only_on, tested, stepped, step}
 use Rattle.compiler_expressions.proofs.Steps.{steps}
 use Rattle.compiler_expressions.proofs.Steps.{Puts}
@@ -116,7 +116,7 @@ module _ (f : FrameData) (d : Limits) (s : ℕ → ℕ → ℕ) where
         let go = run_sample f d s code (length part + left) in
         ap (λ n. Run n pc from) more
         ∙ (ap (λ o. obey_sample f d s pc xs from.made go (length part + left) o) stand.0
-        ∙ (met-stepped (is_there f i) (sample_effect f i (map width_of xs)) i pc xs from.made go
+        ∙ (met-stepped (is_there f i) (sample_effect f i (map operand_width xs)) i pc xs from.made go
         (length part + left) first.0 first.2
         ∙ (ap (λ flow. follow flow pc (top xs == 0) first.0.operands first.0.made go
         (length part + left)) first.1
@@ -126,7 +126,7 @@ module _ (f : FrameData) (d : Limits) (s : ℕ → ℕ → ℕ) where
   -- code that puts a value on any operands leaves it wherever it stands
   pub puts-leaves :
       (code : List SampleInstr) (w v room : ℕ) → Puts f d s code (operand w v) room →
-      Leaves f d s code w v room
+      LeavesValue f d s code w v room
   puts-leaves code w v room h before after xs made left fits =
       run-straight (before ++ (code ++ after)) code (length before) left (state xs made)
       (state (operand w v ∷ xs) made) (stands-between before code after) (h xs made fits)

@@ -12,7 +12,7 @@ use Rattle.bytecode.specs.declared.limits.Limits.{Limits}
 use Rattle.bytecode.specs.declared.sample_instr.SampleInstr.{SampleInstr}
 use Rattle.bytecode.specs.Instructions.{FrameData, Effect, leaves, too_few, misfit}
 use Rattle.bytecode.specs.Instructions.{sample_flow, sample_effect, is_there}
-use Rattle.machine_definition.specs.Samples.{Operand, width_of, results, Made, making, reaches}
+use Rattle.machine_definition.specs.Samples.{Operand, operand_width, results, Made, making, reaches}
 
 -- between two instructions
 pub record State : Type 0 where
@@ -44,7 +44,7 @@ module _ (f : FrameData) (d : Limits) (sample : ℕ → ℕ → ℕ) where
       (state (results f sample i s.operands) (making i s.operands s.made))
 
   abbrev pub step : SampleInstr → State → Option State
-  step i s = stepped i s (is_there f i) (sample_effect f i (map width_of s.operands))
+  step i s = stepped i s (is_there f i) (sample_effect f i (map operand_width s.operands))
 
   abbrev pub steps : List SampleInstr → State → Option State
   steps [] s = Some s
@@ -91,7 +91,7 @@ module _ (f : FrameData) (d : Limits) (sample : ℕ → ℕ → ℕ) where
     pub there : is_there f i ≡ true
     pub rule :
         (xs : List Operand) →
-        sample_effect f i (map width_of (pre ++ xs)) ≡ leaves (map width_of (post ++ xs))
+        sample_effect f i (map operand_width (pre ++ xs)) ≡ leaves (map operand_width (post ++ xs))
     pub back : reaches d i ≡ true
     pub on : sample_flow i ≡ GoesOn
     pub becomes : (xs : List Operand) → results f sample i (pre ++ xs) ≡ post ++ xs
@@ -99,7 +99,7 @@ module _ (f : FrameData) (d : Limits) (sample : ℕ → ℕ → ℕ) where
 
   pub step-some :
       (i : SampleInstr) (s : State) (ws : List ℕ) → is_there f i ≡ true →
-      sample_effect f i (map width_of s.operands) ≡ leaves ws → length ws ≤ d.stack →
+      sample_effect f i (map operand_width s.operands) ≡ leaves ws → length ws ≤ d.stack →
       reaches d i ≡ true → sample_flow i ≡ GoesOn →
       steps (i ∷ []) s
       ≡ Some (state (results f sample i s.operands) (making i s.operands s.made))
@@ -110,8 +110,8 @@ module _ (f : FrameData) (d : Limits) (sample : ℕ → ℕ → ℕ) where
       (i : SampleInstr) (pre post : List Operand) → Acts i pre post →
       Moves (i ∷ []) pre post (length post)
   acts-moves i pre post h xs made fits =
-      step-some i (state (pre ++ xs) made) (map width_of (post ++ xs)) h.there (h.rule xs)
-      (omega (arith, length-map (post ++ xs) width_of, length-append post xs, fits)) h.back h.on
+      step-some i (state (pre ++ xs) made) (map operand_width (post ++ xs)) h.there (h.rule xs)
+      (omega (arith, length-map (post ++ xs) operand_width, length-append post xs, fits)) h.back h.on
       ∙ (ap (λ ys. Some (state ys (making i (pre ++ xs) made))) (h.becomes xs)
       ∙ ap (λ m. Some (state (post ++ xs) m)) (h.keeps xs made))
 

@@ -16,7 +16,7 @@ use Rattle.verifier_inference.specs.Rules.{sample_rules}
 use Rattle.verifier_inference.specs.Inference.{after_of}
 use Rattle.verifier_inference.specs.Typing.{IsFine, longest_list}
 use Rattle.verifier.specs.Limits.{reach_of, farthest, path_of, paths_from, longest_path}
-use Rattle.machine_definition.specs.Samples.{Operand, width_of, results, making, reaches}
+use Rattle.machine_definition.specs.Samples.{Operand, operand_width, results, making, reaches}
 use Rattle.machine_definition.proofs.Samples.{results-widths}
 use Rattle.compiler_expressions.specs.Laws.{IsTypedWithin}
 use Rattle.compiler_expressions.proofs.Steps.{State, state, tested, stepped, step, steps}
@@ -27,9 +27,9 @@ pub record Taken (f : FrameData) (d : Limits) (s : ℕ → ℕ → ℕ) (i : Sam
     Type 0 where
   pub there : is_there f i ≡ true
   pub rule :
-      sample_effect f i (map width_of from.operands)
-      ≡ leaves (map width_of (results f s i from.operands))
-  pub fits : length (map width_of (results f s i from.operands)) ≤ d.stack
+      sample_effect f i (map operand_width from.operands)
+      ≡ leaves (map operand_width (results f s i from.operands))
+  pub fits : length (map operand_width (results f s i from.operands)) ≤ d.stack
   pub back : reaches d i ≡ true
   pub left : state (results f s i from.operands) (making i from.operands from.made) ≡ to
 
@@ -88,7 +88,7 @@ module _ (f : FrameData) (d : Limits) (s : ℕ → ℕ → ℕ) where
 
   taken :
       (i : SampleInstr) (from to : State) (there : Bool) (e : Effect) → is_there f i ≡ there →
-      sample_effect f i (map width_of from.operands) ≡ e →
+      sample_effect f i (map operand_width from.operands) ≡ e →
       stepped f d s i from there e ≡ Some to → Taken f d s i from to
   taken i from to false e th rule h = cc
   taken i from to true too_few th rule h = cc
@@ -97,7 +97,7 @@ module _ (f : FrameData) (d : Limits) (s : ℕ → ℕ → ℕ) where
       let parts =
       taken-tested (nat_le (length ws) d.stack) (reaches d i)
       (state (results f s i from.operands) (making i from.operands from.made)) to h in
-      let same : map width_of (results f s i from.operands) ≡ ws =
+      let same : map operand_width (results f s i from.operands) ≡ ws =
       results-widths f s i from.operands ws rule in
       record {
         there = th;
@@ -122,18 +122,18 @@ module _ (f : FrameData) (d : Limits) (s : ℕ → ℕ → ℕ) where
       record {
         next = parts.0;
         on = parts.1;
-        first = taken i from parts.0 (is_there f i) (sample_effect f i (map width_of from.operands))
+        first = taken i from parts.0 (is_there f i) (sample_effect f i (map operand_width from.operands))
             refl refl parts.2;
         others = parts.3;
       }
 
   -- the widths of the operands before each instruction, and behind the last
   abbrev pub lists_of : List SampleInstr → List Operand → ℕ → List ℕ
-  lists_of [] xs k = map width_of xs
-  lists_of (i ∷ part) xs zero = map width_of xs
+  lists_of [] xs k = map operand_width xs
+  lists_of (i ∷ part) xs zero = map operand_width xs
   lists_of (i ∷ part) xs (suc k) = lists_of part (results f s i xs) k
 
-  lists-first : (part : List SampleInstr) (xs : List Operand) → lists_of part xs 0 ≡ map width_of xs
+  lists-first : (part : List SampleInstr) (xs : List Operand) → lists_of part xs 0 ≡ map operand_width xs
   lists-first [] xs = refl
   lists-first (i ∷ part) xs = refl
 
@@ -153,7 +153,7 @@ module _ (f : FrameData) (d : Limits) (s : ℕ → ℕ → ℕ) where
       let same : j ≡ i = same_Some j i at in
       let g = first-of j part from to h in
       let ys : List Operand = results f s j from.operands in
-      let rest : lists_of part ys 0 ≡ map width_of ys = lists-first part ys in
+      let rest : lists_of part ys 0 ≡ map operand_width ys = lists-first part ys in
       subst (Placed (lists_of (j ∷ part) from.operands) 0) same
       (record {
         there = g.first.there;
@@ -178,8 +178,8 @@ module _ (f : FrameData) (d : Limits) (s : ℕ → ℕ → ℕ) where
 
   last-list :
       (part : List SampleInstr) (from to : State) → steps f d s part from ≡ Some to →
-      lists_of part from.operands (length part) ≡ map width_of to.operands
-  last-list [] from to h = ap (λ (r : State). map width_of r.operands) (same_Some from to h)
+      lists_of part from.operands (length part) ≡ map operand_width to.operands
+  last-list [] from to h = ap (λ (r : State). map operand_width r.operands) (same_Some from to h)
   last-list (j ∷ part) from to h =
       let g = first-of j part from to h in
       let ops : results f s j from.operands ≡ g.next.operands =
@@ -217,10 +217,10 @@ module _ (f : FrameData) (d : Limits) (s : ℕ → ℕ → ℕ) where
     long = length-append code (Halt ∷ [])
 
     begins : table 0 ≡ []
-    begins = lists-first code from.operands ∙ ap (map width_of) none
+    begins = lists-first code from.operands ∙ ap (map operand_width) none
 
     last : table (length code) ≡ []
-    last = last-list code from to h ∙ ap (map width_of) end
+    last = last-list code from to h ∙ ap (map operand_width) end
 
     fine-inside :
         (k : ℕ) (i : SampleInstr) → slice_get code k ≡ Some i →

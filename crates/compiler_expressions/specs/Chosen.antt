@@ -19,6 +19,7 @@ abbrev pub held_found : ℕ → Option Counter → List Held → List Held
 held_found place None rest = rest
 held_found place (Some c) rest = record { place = place; counter = c } ∷ rest
 
-abbrev pub held_at : List Counter → List ℕ → List Held
-held_at all [] = []
-held_at all (place ∷ places) = held_found place (slice_get all place) (held_at all places)
+abbrev pub held_counters : List Counter → List ℕ → List Held
+held_counters all [] = []
+held_counters all (place ∷ places) = held_found place (slice_get all place)
+    (held_counters all places)

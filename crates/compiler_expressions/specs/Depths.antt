@@ -12,7 +12,7 @@ use Rattle.expressions.specs.declared.operator.Reduction.TheVariants.{OneHot, On
 use Rattle.expressions.specs.Terms.{Term, constant, named, slice, group, concat, inverse, reduce}
 use Rattle.expressions.specs.Terms.{combine, shift, compare, connect, choose, past, change}
 use Rattle.compiler_expressions.specs.Samples.{Held, sample_need, sample_reach}
-use Rattle.compiler_expressions.specs.Laws.{Each, program_terms}
+use Rattle.compiler_expressions.specs.Laws.{EachPart, program_terms}
 
 -- How loosely operators join their operands: 1 to 9 are left operators, from the tightest, 10 is
 -- the condition, and 0 is what needs no brackets anywhere (11.3.2).
@@ -33,17 +33,17 @@ abbrev pub connective_level : Connective → ℕ
 connective_level Both = 8
 connective_level Either = 9
 
-abbrev pub level : Term → ℕ
-level (combine op a b) = arithmetic_level op
-level (shift op a b) = 2
-level (compare op a b) = comparison_level op
-level (connect op a b) = connective_level op
-level (choose c a b) = 10
-level e = 0
+abbrev pub term_level : Term → ℕ
+term_level (combine op a b) = arithmetic_level op
+term_level (shift op a b) = 2
+term_level (compare op a b) = comparison_level op
+term_level (connect op a b) = connective_level op
+term_level (choose c a b) = 10
+term_level e = 0
 
 -- brackets round what is looser than its place allows
 abbrev pub bracketed : ℕ → ℕ → ℕ → ℕ
-bracketed most level depth = if nat_le level most then depth else 1 + depth
+bracketed most term_level depth = if nat_le term_level most then depth else 1 + depth
 
 -- A left operator takes what is no looser than itself on its left, and what is tighter on its
 -- right.
@@ -53,9 +53,9 @@ left_depth own left_level left right_level right =
 
 -- $onehot and $onehot0 have brackets of their own; the others are unary operators.
 abbrev pub reduction_depth : Reduction → ℕ → ℕ → ℕ
-reduction_depth OneHot level depth = 1 + depth
-reduction_depth OneHotOrZero level depth = 1 + depth
-reduction_depth op level depth = 1 + bracketed 0 level depth
+reduction_depth OneHot term_level depth = 1 + depth
+reduction_depth OneHotOrZero term_level depth = 1 + depth
+reduction_depth op term_level depth = 1 + bracketed 0 term_level depth
 
 -- {a, b, c} has one pair of braces.
 abbrev pub braced : Term → ℕ → ℕ
@@ -70,13 +70,16 @@ depth (named name) = 0
 depth (slice part) = 1
 depth (group e) = 1 + depth e
 depth (concat a b) = max (braced a (depth a)) (1 + depth b)
-depth (inverse e) = 1 + bracketed 0 (level e) (depth e)
-depth (reduce op e) = reduction_depth op (level e) (depth e)
-depth (combine op a b) = left_depth (arithmetic_level op) (level a) (depth a) (level b) (depth b)
-depth (shift op a b) = left_depth 2 (level a) (depth a) (level b) (depth b)
-depth (compare op a b) = left_depth (comparison_level op) (level a) (depth a) (level b) (depth b)
-depth (connect op a b) = left_depth (connective_level op) (level a) (depth a) (level b) (depth b)
-depth (choose c a b) = max (bracketed 9 (level c) (depth c)) (1 + max (depth a) (depth b))
+depth (inverse e) = 1 + bracketed 0 (term_level e) (depth e)
+depth (reduce op e) = reduction_depth op (term_level e) (depth e)
+depth (combine op a b) = left_depth (arithmetic_level op) (term_level a) (depth a) (term_level b)
+    (depth b)
+depth (shift op a b) = left_depth 2 (term_level a) (depth a) (term_level b) (depth b)
+depth (compare op a b) = left_depth (comparison_level op) (term_level a) (depth a) (term_level b)
+    (depth b)
+depth (connect op a b) = left_depth (connective_level op) (term_level a) (depth a) (term_level b)
+    (depth b)
+depth (choose c a b) = max (bracketed 9 (term_level c) (depth c)) (1 + max (depth a) (depth b))
 depth (past e ticks) = 1 + depth e
 depth (change op e) = 1 + depth e
 
@@ -94,4 +97,4 @@ abbrev pub DepthBoundsCode : Type 0
 DepthBoundsCode =
     (es : List Term) (hs : List Held) (most : ℕ) →
     AllByRecursion (λ e. depth e ≤ most) (program_terms es hs) →
-    AllByRecursion (Each IsShortPast) (program_terms es hs) → IsBounded es hs most
+    AllByRecursion (EachPart IsShortPast) (program_terms es hs) → IsBounded es hs most

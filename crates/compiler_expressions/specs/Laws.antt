@@ -15,7 +15,7 @@ use Rattle.bytecode.specs.declared.sample_instr.SampleInstr.{SampleInstr}
 use Rattle.bytecode.specs.Values.{ProgramData, fits_sample}
 use Rattle.bytecode.specs.Instructions.{FrameData, frame_of, sample_flow}
 use Rattle.verifier_inference.specs.Rules.{sample_rules}
-use Rattle.verifier_inference.specs.Typing.{IsTyped, AreShort, longest_list}
+use Rattle.verifier_inference.specs.Typing.{IsCodeTyped, AreShort, longest_list}
 use Rattle.verifier.specs.Limits.{farthest, longest_path}
 use Rattle.verifier.specs.Programs.{IsAccepted}
 use Rattle.machine_definition.specs.Outcomes.{done}
@@ -24,24 +24,24 @@ use Rattle.compiler_expressions.specs.Codes.{Slots, slot_of, code_of, need, reac
 use Rattle.compiler_expressions.specs.Samples.{Held, held_slot, next_code, next_need, counter_terms}
 use Rattle.compiler_expressions.specs.Samples.{sample_code, sample_need, sample_reach}
 use Rattle.compiler_expressions.specs.Samples.{largest}
-use Rattle.compiler_expressions.specs.Chosen.{terms_at, held_at}
+use Rattle.compiler_expressions.specs.Chosen.{terms_at, held_counters}
 
 -- P holds of an expression and of each of its parts.
-abbrev pub Each : (Term → Type 0) → Term → Type 0
-Each P (constant bits) = P (constant bits)
-Each P (named name) = P (named name)
-Each P (slice part) = P (slice part)
-Each P (group e) = P (group e) × Each P e
-Each P (concat a b) = P (concat a b) × Each P a × Each P b
-Each P (inverse e) = P (inverse e) × Each P e
-Each P (reduce op e) = P (reduce op e) × Each P e
-Each P (combine op a b) = P (combine op a b) × Each P a × Each P b
-Each P (shift op a b) = P (shift op a b) × Each P a × Each P b
-Each P (compare op a b) = P (compare op a b) × Each P a × Each P b
-Each P (connect op a b) = P (connect op a b) × Each P a × Each P b
-Each P (choose c a b) = P (choose c a b) × Each P c × Each P a × Each P b
-Each P (past e ticks) = P (past e ticks) × Each P e
-Each P (change op e) = P (change op e) × Each P e
+abbrev pub EachPart : (Term → Type 0) → Term → Type 0
+EachPart P (constant bits) = P (constant bits)
+EachPart P (named name) = P (named name)
+EachPart P (slice part) = P (slice part)
+EachPart P (group e) = P (group e) × EachPart P e
+EachPart P (concat a b) = P (concat a b) × EachPart P a × EachPart P b
+EachPart P (inverse e) = P (inverse e) × EachPart P e
+EachPart P (reduce op e) = P (reduce op e) × EachPart P e
+EachPart P (combine op a b) = P (combine op a b) × EachPart P a × EachPart P b
+EachPart P (shift op a b) = P (shift op a b) × EachPart P a × EachPart P b
+EachPart P (compare op a b) = P (compare op a b) × EachPart P a × EachPart P b
+EachPart P (connect op a b) = P (connect op a b) × EachPart P a × EachPart P b
+EachPart P (choose c a b) = P (choose c a b) × EachPart P c × EachPart P a × EachPart P b
+EachPart P (past e ticks) = P (past e ticks) × EachPart P e
+EachPart P (change op e) = P (change op e) × EachPart P e
 
 -- what holds of the name that an expression is, or whose bits it is
 abbrev pub OfName : (Name → Type 0) → Term → Type 0
@@ -57,29 +57,29 @@ abbrev pub HasSlot : FrameData → Slots → Term → Type 0
 HasSlot f at = OfName (λ name. slice_get f.slots (slot_of at name) ≡ Some name.width)
 
 -- the same, and no expression has over 128 bits
-pub record IsPlaced (f : FrameData) (at : Slots) (e : Term) : Type 0 where
+pub record IsInFrame (f : FrameData) (at : Slots) (e : Term) : Type 0 where
   pub slot : HasSlot f at e
   pub narrow : IsNarrow e
 
 -- Rows up to the tick k, counted back from it: what a slot held at the ticks that there were, and 0
 -- before them.
-pub record Tells (sample : ℕ → ℕ → ℕ) (k slot : ℕ) (value : ℕ → ℕ) : Type 0 where
+pub record TellsSlot (sample : ℕ → ℕ → ℕ) (k slot : ℕ) (value : ℕ → ℕ) : Type 0 where
   pub seen : (back : ℕ) → back ≤ k → sample back slot ≡ value (k - back)
   pub before : (back : ℕ) → k < back → sample back slot ≡ 0
 
 -- slot 0 is the constant 1
 abbrev pub TellsTicks : (ℕ → ℕ → ℕ) → ℕ → Type 0
-TellsTicks sample k = Tells sample k 0 (λ j. 1)
+TellsTicks sample k = TellsSlot sample k 0 (λ j. 1)
 
 abbrev pub TellsNames : Samples → Slots → (ℕ → ℕ → ℕ) → ℕ → Term → Type 0
 TellsNames t at sample k =
-    Each (OfName (λ name. Tells sample k (slot_of at name) (name_at t name)))
+    EachPart (OfName (λ name. TellsSlot sample k (slot_of at name) (name_at t name)))
 
 -- Wherever the code stands, with room on the declared stack, it leaves a value of w bits on the
--- stack, and spends one tick for each instruction.
-abbrev pub Leaves :
+-- stack, and spends one for each instruction.
+abbrev pub LeavesValue :
     FrameData → Limits → (ℕ → ℕ → ℕ) → List SampleInstr → ℕ → ℕ → ℕ → Type 0
-Leaves f d sample code w v room =
+LeavesValue f d sample code w v room =
     (before after : List SampleInstr) (xs : List Operand) (made : Made) (left : ℕ) →
     length xs + room ≤ d.stack →
     run_sample f d sample (before ++ (code ++ after)) (length code + left) (length before) xs made
@@ -91,8 +91,9 @@ abbrev pub ExpressionsLeaveValues : Type 0
 ExpressionsLeaveValues =
     (f : FrameData) (d : Limits) (t : Samples) (at : Slots) (sample : ℕ → ℕ → ℕ) (k : ℕ) →
     slice_get f.slots 0 ≡ Some 1 → TellsTicks sample k →
-    (e : Term) → Each (IsPlaced f at) e → TellsNames t at sample k e → reach e ≤ d.history →
-    (w : ℕ) → width_of e ≤ w → Leaves f d sample (code_of at e w 0) w (value_of t e k w) (need e)
+    (e : Term) → EachPart (IsInFrame f at) e → TellsNames t at sample k e → reach e ≤ d.history →
+    (w : ℕ) → width_of e ≤ w
+    → LeavesValue f d sample (code_of at e w 0) w (value_of t e k w) (need e)
 
 -- What the slot of a counter holds: its width, and its value at this tick.
 pub record IsCount (f : FrameData) (t : Samples) (at : Slots) (sample : ℕ → ℕ → ℕ) (k : ℕ)
@@ -107,10 +108,10 @@ CountersLeaveNext =
     (f : FrameData) (d : Limits) (t : Samples) (at : Slots) (sample : ℕ → ℕ → ℕ) (k : ℕ) →
     slice_get f.slots 0 ≡ Some 1 → TellsTicks sample k →
     (h : Held) → IsCount f t at sample k h →
-    AllByRecursion (Each (IsPlaced f at)) (counter_terms h.counter) →
+    AllByRecursion (EachPart (IsInFrame f at)) (counter_terms h.counter) →
     AllByRecursion (TellsNames t at sample k) (counter_terms h.counter) →
     largest reach (counter_terms h.counter) ≤ d.history →
-    Leaves f d sample (next_code at h) h.counter.width
+    LeavesValue f d sample (next_code at h) h.counter.width
     (next_count t h.counter (t.counter_at h.place k) k) (next_need h.counter)
 
 -- the expressions of a program's booleans and counters
@@ -121,8 +122,8 @@ program_terms es hs = es ++ flat_map (λ h. counter_terms h.counter) hs
 -- an atom for each boolean, a store for each counter.
 pub record IsFrame (f : FrameData) (at : Slots) (es : List Term) (hs : List Held) : Type 0 where
   pub one : slice_get f.slots 0 ≡ Some 1
-  pub slots : AllByRecursion (Each (HasSlot f at)) (program_terms es hs)
-  pub narrow : AllByRecursion (Each IsNarrow) (program_terms es hs)
+  pub slots : AllByRecursion (EachPart (HasSlot f at)) (program_terms es hs)
+  pub narrow : AllByRecursion (EachPart IsNarrow) (program_terms es hs)
   pub held :
       AllByRecursion (λ h. slice_get f.slots (held_slot at h) ≡ Some h.counter.width) hs
   pub atoms : f.atoms ≡ length es
@@ -140,15 +141,15 @@ pub record AreTold (t : Samples) (at : Slots) (sample : ℕ → ℕ → ℕ) (k 
 abbrev pub ProgramsAreNarrow : Type 0
 ProgramsAreNarrow =
     (booleans : List Expr) (atoms : List ℕ) (counters : List Counter) (stores : List ℕ) →
-    AllByRecursion (Each IsNarrow)
-    (program_terms (terms_at booleans atoms) (held_at counters stores))
+    AllByRecursion (EachPart IsNarrow)
+    (program_terms (terms_at booleans atoms) (held_counters counters stores))
 
 -- Code that some table types, with lists of at most so many operands, that reads at most so far
 -- back and has one path.
 pub record IsTypedWithin (f : FrameData) (code : List SampleInstr) (stack history : ℕ) :
     Type 0 where
   pub table : ℕ → List ℕ
-  pub typed : IsTyped (sample_rules f) 0 code table
+  pub typed : IsCodeTyped (sample_rules f) 0 code table
   pub lists : longest_list table 0 code ≤ stack
   pub short : stack ≤ 1024 → AreShort (sample_rules f) 0 code table
   pub near : farthest code ≤ history
@@ -161,8 +162,9 @@ SamplesAreTyped =
     IsTypedWithin f (sample_code at es hs) (sample_need es hs) (sample_reach es hs)
 
 -- A program that the verifier accepts, whose sample code is that of these booleans and counters: at
--- each clock it runs to its end, one tick for each instruction. Then each atom is the truth of its
--- boolean at this tick, and each store is what the counter counts from its value at this tick.
+-- each clock it runs to its end, which costs one for each instruction. Then each atom is the truth
+-- of its boolean at this tick, and each store is what the counter counts from its value at this
+-- tick.
 abbrev pub SamplesTell : Type 0
 SamplesTell =
     (p : ProgramData) (at : Slots) (es : List Term) (hs : List Held) →
@@ -210,5 +212,5 @@ IsNoChange e = Unit {0}
 -- the Halt.
 abbrev pub SamplesAreShort : Type 0
 SamplesAreShort =
-    (at : Slots) (es : List Term) → AllByRecursion (Each IsNoChange) es →
+    (at : Slots) (es : List Term) → AllByRecursion (EachPart IsNoChange) es →
     length (sample_code at es []) ≤ 5 * sum_by size es + 2 * length es + 1

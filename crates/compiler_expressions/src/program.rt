@@ -8,7 +8,7 @@ ghost use Rattle.compiler_expressions.specs.Samples.{truth_code, next_code, atom
 ghost use Rattle.compiler_expressions.specs.Samples.{stores_code};
 ghost use Rattle.compiler_expressions.specs.Samples.{sample_code, sample_reach, counter_terms};
 ghost use Rattle.compiler_expressions.specs.Samples.{largest};
-ghost use Rattle.compiler_expressions.specs.Chosen.{terms_at, held_at};
+ghost use Rattle.compiler_expressions.specs.Chosen.{terms_at, held_counters};
 ghost use Rattle.compiler_expressions.specs.Slots.{slots_in};
 ghost use Rattle.compiler_expressions.specs.Written.{Writes};
 
@@ -84,9 +84,9 @@ fn stores_code(
 ) -> Result<(), AllocError>
     requires few { length places.now ≤ 255 }
     requires near { largest (λ h. largest reach (counter_terms h.counter))
-        (held_at counters.now places.now) < 65536 }
+        (held_counters counters.now places.now) < 65536 }
     ensures { OnOk result (Writes code.old code.new
-        (stores_code (slots_in slots.now) 0 (held_at counters.now places.now))) }
+        (stores_code (slots_in slots.now) 0 (held_counters counters.now places.now))) }
 {
     let mut store = 0;
     for &place in places {
@@ -112,14 +112,15 @@ pub fn sample_code(
 ) -> Result<Vec<SampleInstr>, LengthFault>
     requires few_atoms { length atoms.now ≤ 255 }
     requires few_stores { length stores.now ≤ 255 }
-    requires near { sample_reach (terms_at booleans.now atoms.now) (held_at counters.now stores.now)
+    requires near { sample_reach (terms_at booleans.now atoms.now)
+        (held_counters counters.now stores.now)
         < 65536 }
     ensures made { IfOk result (λ code. code.items ≡ sample_code (slots_in slots.now)
-        (terms_at booleans.now atoms.now) (held_at counters.now stores.now)) }
+        (terms_at booleans.now atoms.now) (held_counters counters.now stores.now)) }
     ensures short { IfOk result (λ code. length code.items ≤ 4096) }
     ensures too_long { result ≡ Err LengthFault.TooLong → 4096 < length (sample_code
         (slots_in slots.now) (terms_at booleans.now atoms.now)
-        (held_at counters.now stores.now)) }
+        (held_counters counters.now stores.now)) }
 {
     let mut code = CodeBuffer::new(alloc);
     atoms_code(&mut code, booleans, atoms, slots)?;

@@ -11,13 +11,14 @@ use Rattle.std.proofs.Math.Nat.{mod-eq_of_lt}
 use Rattle.std.proofs.lemmas.Nat.Bits.{bit_at_or, same_from_bits}
 use Rattle.bytecode.specs.declared.block_instr.BlockInstr.{BlockInstr}
 use Rattle.bytecode.specs.declared.block_instr.BlockInstr.TheVariants.{Unless, Enter}
-use Rattle.verifier_inference.specs.Sections.{size_of}
+use Rattle.verifier_inference.specs.Sections.{instructions_in}
 use Rattle.compiler_positions.specs.declared.edge.Edge as code
 use Rattle.compiler_positions.specs.Tables.{Edge}
-use Rattle.compiler_positions.specs.Sections.{edge_size, edge_code, guards, enter_all, accept_if, block_of, blocks_of}
+use Rattle.compiler_positions.specs.Sections.{edge_size, edge_code, guards, enter_all, accept_if, position_block}
+use Rattle.compiler_positions.specs.Sections.{position_blocks}
 use Rattle.compiler_positions.specs.Sections.{bits}
 use Rattle.compiler_positions.specs.Rows.{edges_size, row_size, rows_size}
-use Rattle.compiler_positions.specs.Views.{edge_data, row_data, rows_data}
+use Rattle.compiler_positions.specs.Views.{edge_data, edges_data, rows_data}
 use Rattle.compiler_positions.proofs.Shapes.{edge-length}
 
 -- lists of instructions, as a loop writes them
@@ -49,12 +50,12 @@ edge-made before guarded entered made ns qs at end e is wants enters one two thr
 
 -- the block of a position
 
-pub block-size : (base : ℕ) (es : List (Edge ℕ)) → length (block_of base es) ≡ row_size es
+pub block-size : (base : ℕ) (es : List (Edge ℕ)) → length (position_block base es) ≡ row_size es
 block-size base [] = refl
 block-size base (e ∷ es) =
     omega (
       arith,
-      length-append (edge_code base e) (block_of (base + edge_size e) es),
+      length-append (edge_code base e) (position_block (base + edge_size e) es),
       edge-length base e,
       block-size (base + edge_size e) es,
       sum_by-cons edge_size e es,
@@ -62,7 +63,7 @@ block-size base (e ∷ es) =
 
 -- What is made of a block, where these edges are left.
 pub record IsBegun (base : ℕ) (row left : List (Edge ℕ)) (made : List BlockInstr) : Type 0 where
-  pub code : block_of base row ≡ made ++ block_of (base + length made) left
+  pub code : position_block base row ≡ made ++ position_block (base + length made) left
   pub room : length made + edges_size left ≡ edges_size row
 
 begun-more : (base : ℕ) (row left : List (Edge ℕ)) (e : Edge ℕ) (made new : List BlockInstr)
@@ -77,9 +78,9 @@ begun-more base row left e made new so_far is =
       code =
           so_far.code
           ∙ sym (append_assoc made (edge_code (base + length made) e)
-          (block_of (base + length made + edge_size e) left))
-          ∙ ap (λ is. is ++ block_of (base + length made + edge_size e) left) (sym is)
-          ∙ ap (λ n. new ++ block_of n left) next;
+          (position_block (base + length made + edge_size e) left))
+          ∙ ap (λ is. is ++ position_block (base + length made + edge_size e) left) (sym is)
+          ∙ ap (λ n. new ++ position_block n left) next;
       room = omega (arith, size, long, so_far.room, sum_by-cons edge_size e left);
     }
 
@@ -96,33 +97,35 @@ begun-next base xs i item made new below at so_far is =
 
 -- the blocks
 
-pub blocks-size : (base : ℕ) (rows : List (List (Edge ℕ))) → size_of (blocks_of base rows) ≡ rows_size rows
+pub blocks-size : (base : ℕ) (rows : List (List (Edge ℕ))) → instructions_in (position_blocks base rows)
+    ≡ rows_size rows
 blocks-size base [] = refl
 blocks-size base (row ∷ rows) =
     omega (
       arith,
       block-size base row,
-      blocks-size (base + length (block_of base row)) rows,
+      blocks-size (base + length (position_block base row)) rows,
       sum_by-cons row_size row rows,
     )
 
 -- What is made of blocks, where the next begins at base and these rows are left.
 pub record AreBegun (rows left : List (List (Edge ℕ))) (base : ℕ) (made : List (List BlockInstr)) : Type 0 where
-  pub code : blocks_of 0 rows ≡ made ++ blocks_of base left
+  pub code : position_blocks 0 rows ≡ made ++ position_blocks base left
   pub room : base + rows_size left ≡ rows_size rows
 
 are-more : (rows left : List (List (Edge ℕ))) (row : List (Edge ℕ)) (base next : ℕ) (made new : List (List BlockInstr))
     →
-    AreBegun rows (row ∷ left) base made → new ≡ made ++ block_of base row ∷ []
-    → next ≡ base + length (block_of base row) →
+    AreBegun rows (row ∷ left) base made → new ≡ made ++ position_block base row ∷ []
+    → next ≡ base + length (position_block base row) →
     AreBegun rows left next new
 are-more rows left row base next made new so_far is grown =
     record {
       code =
           so_far.code
-          ∙ sym (append_assoc made (block_of base row ∷ []) (blocks_of (base + length (block_of base row)) left))
-          ∙ ap (λ bs. bs ++ blocks_of (base + length (block_of base row)) left) (sym is)
-          ∙ ap (λ n. new ++ blocks_of n left) (sym grown);
+          ∙ sym (append_assoc made (position_block base row ∷ [])
+          (position_blocks (base + length (position_block base row)) left))
+          ∙ ap (λ bs. bs ++ position_blocks (base + length (position_block base row)) left) (sym is)
+          ∙ ap (λ n. new ++ position_blocks n left) (sym grown);
       room = omega (arith, so_far.room, grown, block-size base row, sum_by-cons row_size row left);
     }
 
@@ -133,14 +136,15 @@ pub are-next : (xs : List Row) (i : ℕ) (item : Row) (base next : ℕ) (made ne
     (block : Vec BlockInstr Global) (es : List code.Edge) →
     i < length xs → item ≡ get_or xs i item
     → AreBegun (rows_data xs) (rows_data (drop i xs)) base (map (λ b. b.items) made) → es ≡ item.items →
-    block.items ≡ block_of base (map edge_data es) → next ≡ base + length block.items → new ≡ made ++ block ∷ [] →
+    block.items ≡ position_block base (map edge_data es) → next ≡ base + length block.items → new ≡ made ++ block ∷ [] →
     AreBegun (rows_data xs) (rows_data (drop (i + 1) xs)) next (map (λ b. b.items) new)
 are-next xs i item base next made new block es below at so_far of here grown put =
-    let is : block.items ≡ block_of base (row_data item) = here ∙ ap (λ x. block_of base (map edge_data x)) of in
+    let is : block.items ≡ position_block base (edges_data item) = here
+    ∙ ap (λ x. position_block base (map edge_data x)) of in
     let more : suc i ≡ i + 1 = omega arith in
     let split : drop i xs ≡ item ∷ drop (i + 1) xs =
     drop-cons xs i item below ∙ ap (λ x. x ∷ drop (suc i) xs) (sym at) ∙ ap (λ n. item ∷ drop n xs) more in
-    are-more (rows_data xs) (rows_data (drop (i + 1) xs)) (row_data item) base next (map (λ b. b.items) made)
+    are-more (rows_data xs) (rows_data (drop (i + 1) xs)) (edges_data item) base next (map (λ b. b.items) made)
     (map (λ b. b.items) new)
     (subst (λ left. AreBegun (rows_data xs) (rows_data left) base (map (λ b. b.items) made)) split so_far)
     (ap (map (λ (b : Vec BlockInstr Global). b.items)) put

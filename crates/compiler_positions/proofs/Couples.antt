@@ -7,8 +7,9 @@ use Rattle.std.proofs.Math.Nat.{mul-le-mul_right}
 use Rattle.std.proofs.lemmas.Nat.{div-mul-add, mod-mul-add, div-add-mod'}
 use Rattle.std.proofs.lemmas.Bool.{cases_lt, cases_eq, and_parts, and_from}
 use Rattle.compiler_positions.specs.Plans.{Plan, pair}
-use Rattle.compiler_positions.specs.States.{State, First, Ends, Steps}
-use Rattle.compiler_positions.specs.Tables.{Edge, Table, SomeOf, Has, Fires, Enters, Accepts, Spells, products, coupled}
+use Rattle.compiler_positions.specs.States.{PlanState, First, Ends, StepsTo}
+use Rattle.compiler_positions.specs.Tables.{Edge, Table, SomeOf, HasNumber, Fires, Enters, Accepts, NumbersStates}
+use Rattle.compiler_positions.specs.Tables.{products, coupled}
 use Rattle.compiler_positions.specs.Tables.{pair_table}
 use Rattle.compiler_positions.proofs.Lists.{SomeOf-each, map-SomeOf, SomeOf-append, flat-SomeOf, EachOf-append}
 use Rattle.compiler_positions.proofs.Lists.{append-EachOf}
@@ -27,7 +28,7 @@ module _ (B : Type 0) (size : ℕ) (holds : B → ℕ → Bool) (i : ℕ) where
 
   -- what an edge with one of these leads to
   coupled-Enter : (q : ℕ) (e : Edge B) (fs : List (Edge B)) → Enter q (map (coupled size e) fs) → (x : ℕ) × (y : ℕ)
-      × (x * size + y ≡ q) × Fires holds i e × Has e.enters x × Enter y fs
+      × (x * size + y ≡ q) × Fires holds i e × HasNumber e.enters x × Enter y fs
   coupled-Enter q e [] h = absurd h
   coupled-Enter q e (f ∷ fs) (inl h) =
       let p = EachOf-append (λ b. IsTrue (holds b i)) e.wanted f.wanted h.0 in
@@ -43,7 +44,8 @@ module _ (B : Type 0) (size : ℕ) (holds : B → ℕ → Bool) (i : ℕ) where
   pub couple-Enter : (q : ℕ) (es fs : List (Edge B)) → Enter q (couple_rows es fs) → Coupling q es fs
   couple-Enter q [] fs h = absurd h
   couple-Enter q (e ∷ es) fs h =
-      elim (SomeOf-append (λ e. Fires holds i e × Has e.enters q) (map (coupled size e) fs) (couple_rows es fs) h) [
+      elim (SomeOf-append (λ e. Fires holds i e × HasNumber e.enters q) (map (coupled size e) fs)
+      (couple_rows es fs) h) [
         | inl a ↦ let k = coupled-Enter q e fs a in (k.0, k.1, k.2, inl (k.3, k.4), k.5)
         | inr a ↦ let k = couple-Enter q es fs a in (k.0, k.1, k.2, inr k.3, k.4)
       ]
@@ -59,8 +61,8 @@ module _ (B : Type 0) (size : ℕ) (holds : B → ℕ → Bool) (i : ℕ) where
 
   pub Enter-couple : (q : ℕ) (es fs : List (Edge B)) → Coupling q es fs → Enter q (couple_rows es fs)
   Enter-couple q es fs h =
-      couple-each (λ e. Fires holds i e × Has e.enters h.0) (λ f. Fires holds i f × Has f.enters h.1)
-      (λ e. Fires holds i e × Has e.enters q) es fs
+      couple-each (λ e. Fires holds i e × HasNumber e.enters h.0) (λ f. Fires holds i f × HasNumber f.enters h.1)
+      (λ e. Fires holds i e × HasNumber e.enters q) es fs
       (λ e f a b. (
         append-EachOf (λ b. IsTrue (holds b i)) e.wanted f.wanted a.0 b.0,
         products-Has size e.enters f.enters h.0 h.1 q h.2 a.1 b.1,
@@ -93,9 +95,9 @@ module _ (B : Type 0) (size : ℕ) (holds : B → ℕ → Bool) (i : ℕ) where
       (append-EachOf (λ b. IsTrue (holds b i)) e.wanted f.wanted a.0 b.0, and_from e.accepts f.accepts a.1 b.1))
       he hf
 
-module _ (B : Type 0) (r s : Plan B) (t u : Table B) (sr : Spells r t) (ss : Spells s u) where
+module _ (B : Type 0) (r s : Plan B) (t u : Table B) (sr : NumbersStates r t) (ss : NumbersStates s u) where
   abbrev Two : Type 0
-  Two = State r × State s
+  Two = PlanState r × PlanState s
 
   pair-number : Two → ℕ
   pair-number x = sr.number x.0 * u.size + ss.number x.1
@@ -137,7 +139,8 @@ module _ (B : Type 0) (r s : Plan B) (t u : Table B) (sr : Spells r t) (ss : Spe
       let y = ss.state (p % u.size) rest in
       ((x.0, y.0), ap (λ k. k * u.size + ss.number y.0) x.1 ∙ ap (λ k. p / u.size * u.size + k) y.1 ∙ split)
 
-  pair-rises : (holds : B → ℕ → Bool) (x y : Two) (i : ℕ) → Steps holds (pair r s) x i y → pair-number x < pair-number y
+  pair-rises : (holds : B → ℕ → Bool) (x y : Two) (i : ℕ) → StepsTo holds (pair r s) x i y
+      → pair-number x < pair-number y
   unfolding pair-number
   pair-rises holds x y i st =
       let up = sr.rises holds x.0 y.0 i st.0 in
@@ -146,7 +149,7 @@ module _ (B : Type 0) (r s : Plan B) (t u : Table B) (sr : Spells r t) (ss : Spe
       omega (arith, ss.below x.1, more, product)
 
   abbrev NextOf : (B → ℕ → Bool) → Two → ℕ → ℕ → Type 0
-  NextOf holds x i q = (y : Two) × (pair-number y ≡ q) × Steps holds (pair r s) x i y
+  NextOf holds x i q = (y : Two) × (pair-number y ≡ q) × StepsTo holds (pair r s) x i y
 
   pair-enters : (holds : B → ℕ → Bool) (x : Two) (i q : ℕ) → Enters holds (pair_table t u) (pair-number x) i q
       ↔ NextOf holds x i q
@@ -182,7 +185,7 @@ module _ (B : Type 0) (r s : Plan B) (t u : Table B) (sr : Spells r t) (ss : Spe
         ((sr.accepts holds x.0 i).1 h.0) ((ss.accepts holds x.1 i).1 h.1)),
   )
 
-  pair-starts : (q : ℕ) → Has (pair_table t u).starts q ↔ ((x : Two) × (pair-number x ≡ q) × First (pair r s) x)
+  pair-starts : (q : ℕ) → HasNumber (pair_table t u).starts q ↔ ((x : Two) × (pair-number x ≡ q) × First (pair r s) x)
   unfolding pair-number
   pair-starts q = (
     λ h.
@@ -197,7 +200,7 @@ module _ (B : Type 0) (r s : Plan B) (t u : Table B) (sr : Spells r t) (ss : Spe
         ((sr.starts (sr.number h.0.0)).1 (h.0.0, refl, h.2.0)) ((ss.starts (ss.number h.0.1)).1 (h.0.1, refl, h.2.1)),
   )
 
-  pub pair-spells : Spells (pair r s) (pair_table t u)
+  pub pair-spells : NumbersStates (pair r s) (pair_table t u)
   pair-spells = record {
     number = pair-number;
     below = pair-below;

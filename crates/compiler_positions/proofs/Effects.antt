@@ -8,10 +8,11 @@ use Rattle.std.proofs.lemmas.Bool.{cases_Bool, cases_eq, and_parts, eqb-true, eq
 use Rattle.std.proofs.lemmas.Nat.Bits.{bit_at_or, bit_at-pow_same, bit_at-pow_other, bit_at-zero, bit_at-lt}
 use Rattle.bytecode.specs.declared.block_instr.BlockInstr.{BlockInstr}
 use Rattle.machine_definition.specs.Blocks.{Visit, ended}
-use Rattle.compiler_positions.specs.Tables.{Edge, SomeOf, Has}
+use Rattle.compiler_positions.specs.Tables.{Edge, SomeOf, HasNumber}
 use Rattle.machine_sections.specs.Effects.{effect, effects}
-use Rattle.compiler_positions.specs.Sections.{edge_size, guards, enter_all, accept_if, edge_code, block_of, blocks_of}
-use Rattle.compiler_positions.specs.Sections.{rows_of}
+use Rattle.compiler_positions.specs.Sections.{edge_size, guards, enter_all, accept_if, edge_code, position_block}
+use Rattle.compiler_positions.specs.Sections.{position_blocks}
+use Rattle.compiler_positions.specs.Sections.{rows_from}
 use Rattle.compiler_positions.specs.Sections.{bits}
 
 -- a bit more
@@ -27,11 +28,11 @@ more-bit set q p (inl same) =
     (omega (arith, bit_at_or set (2 ^ q) q, bit_at-pow_same q, bit_at-lt set q))
 more-bit set q p (inr h) = omega (arith, bit_at_or set (2 ^ q) p, bit_at-lt (2 ^ q) p, h)
 
-pub bits-Has : (qs : List ℕ) (p : ℕ) → bit_at (bits qs) p ≡ 1 → Has qs p
+pub bits-Has : (qs : List ℕ) (p : ℕ) → bit_at (bits qs) p ≡ 1 → HasNumber qs p
 bits-Has [] p h = omega (arith, bit_at-zero p, h)
 bits-Has (q ∷ qs) p h = elim (bit-more (bits qs) q p h) [ inl same ↦ inl same | inr rest ↦ inr (bits-Has qs p rest) ]
 
-pub Has-bits : (qs : List ℕ) (p : ℕ) → Has qs p → bit_at (bits qs) p ≡ 1
+pub Has-bits : (qs : List ℕ) (p : ℕ) → HasNumber qs p → bit_at (bits qs) p ≡ 1
 Has-bits [] p h = absurd h
 Has-bits (q ∷ qs) p (inl same) = more-bit (bits qs) q p (inl same)
 Has-bits (q ∷ qs) p (inr h) = more-bit (bits qs) q p (inr (Has-bits qs p h))
@@ -65,7 +66,7 @@ ended-same v e =
     ap (λ b. record { entered = if b then 0 else v.entered; accepted = v.accepted; first = v.first }) e
 
 entering-bit : (qs : List ℕ) (v : Visit) (p : ℕ) → bit_at (entering qs v).entered p ≡ 1 → (bit_at v.entered p ≡ 1)
-    ⊎ Has qs p
+    ⊎ HasNumber qs p
 entering-bit [] v p h = inl h
 entering-bit (q ∷ qs) v p h =
     elim (entering-bit qs (record { entered = bit_or v.entered (2 ^ q); accepted = v.accepted; first = v.first }) p h) [
@@ -73,7 +74,7 @@ entering-bit (q ∷ qs) v p h =
       | inr x ↦ inr (inr x)
     ]
 
-bit-entering : (qs : List ℕ) (v : Visit) (p : ℕ) → (bit_at v.entered p ≡ 1) ⊎ Has qs p
+bit-entering : (qs : List ℕ) (v : Visit) (p : ℕ) → (bit_at v.entered p ≡ 1) ⊎ HasNumber qs p
     → bit_at (entering qs v).entered p ≡ 1
 bit-entering [] v p (inl h) = h
 bit-entering [] v p (inr h) = absurd h
@@ -198,11 +199,11 @@ module _ (atoms : List Bool) where
   made_all [] v = v
   made_all (e ∷ es) v = made_all es (made e v)
 
-  block-effect : (es : List (Edge ℕ)) (base : ℕ) (v : Visit) → effect atoms zero base (block_of base es) v
+  block-effect : (es : List (Edge ℕ)) (base : ℕ) (v : Visit) → effect atoms zero base (position_block base es) v
       ≡ made_all es v
   block-effect [] base v = refl
   block-effect (e ∷ es) base v =
-      edge-effect e base (block_of (base + edge_size e) es) v ∙ block-effect es (base + edge_size e) (made e v)
+      edge-effect e base (position_block (base + edge_size e) es) v ∙ block-effect es (base + edge_size e) (made e v)
 
   -- what the blocks of a set make
   abbrev pub made_by : ℕ → (ℕ → List (Edge ℕ)) → ℕ → ℕ → Visit → Visit
@@ -210,11 +211,11 @@ module _ (atoms : List Bool) where
   made_by set row p (suc count) v = made_by set row (p + 1) count (if bit_at set p == 1 then made_all (row p) v else v)
 
   pub blocks-effects : (set : ℕ) (row : ℕ → List (Edge ℕ)) (p base count : ℕ) (v : Visit)
-      → effects atoms set p base (blocks_of base (rows_of row p count)) v ≡ made_by set row p count v
+      → effects atoms set p base (position_blocks base (rows_from row p count)) v ≡ made_by set row p count v
   blocks-effects set row p base zero v = refl
   blocks-effects set row p base (suc count) v =
-      let next : ℕ = base + length (block_of base (row p)) in
-      ap (λ w. effects atoms set (p + 1) next (blocks_of next (rows_of row (p + 1) count))
+      let next : ℕ = base + length (position_block base (row p)) in
+      ap (λ w. effects atoms set (p + 1) next (position_blocks next (rows_from row (p + 1) count))
       (if bit_at set p == 1 then w else v)) (block-effect (row p) base v)
       ∙ blocks-effects set row (p + 1) next count (if bit_at set p == 1 then made_all (row p) v else v)
 
@@ -243,7 +244,7 @@ module _ (atoms : List Bool) where
 
   -- the edges of a position that enter q, and those that accept
   abbrev pub EnterNow : List (Edge ℕ) → ℕ → Type 0
-  EnterNow es q = SomeOf (λ e. (all_now e.wanted ≡ true) × Has e.enters q) es
+  EnterNow es q = SomeOf (λ e. (all_now e.wanted ≡ true) × HasNumber e.enters q) es
 
   abbrev pub AcceptNow : List (Edge ℕ) → Type 0
   AcceptNow es = SomeOf (λ e. (all_now e.wanted ≡ true) × (e.accepts ≡ true)) es
@@ -253,7 +254,7 @@ module _ (atoms : List Bool) where
   accepting-entered false v = refl
 
   made-bit : (e : Edge ℕ) (v : Visit) (q : ℕ) → bit_at (made e v).entered q ≡ 1 → (bit_at v.entered q ≡ 1)
-      ⊎ ((all_now e.wanted ≡ true) × Has e.enters q)
+      ⊎ ((all_now e.wanted ≡ true) × HasNumber e.enters q)
   made-bit e v q h = elim (cases_Bool (all_now e.wanted)) [
     | inr off ↦ inl (ap (λ b. bit_at (if b then accepting e.accepts (entering e.enters v) else v).entered q) (sym off)
         ∙ h)
@@ -264,7 +265,8 @@ module _ (atoms : List Bool) where
         elim (entering-bit e.enters v q x) [ inl was ↦ inl was | inr has ↦ inr (on, has) ]
   ]
 
-  bit-made : (e : Edge ℕ) (v : Visit) (q : ℕ) → (bit_at v.entered q ≡ 1) ⊎ ((all_now e.wanted ≡ true) × Has e.enters q)
+  bit-made : (e : Edge ℕ) (v : Visit) (q : ℕ)
+      → (bit_at v.entered q ≡ 1) ⊎ ((all_now e.wanted ≡ true) × HasNumber e.enters q)
       → bit_at (made e v).entered q ≡ 1
   bit-made e v q h = elim (cases_Bool (all_now e.wanted)) [
     | inr off ↦ elim h [

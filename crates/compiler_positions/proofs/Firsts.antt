@@ -10,15 +10,16 @@ use Rattle.bytecode.specs.declared.flow.Flow.TheVariants.{Stops}
 use Rattle.bytecode.specs.Instructions.{LeadsTo, block_flow}
 use Rattle.bytecode.specs.Values.{SectionData}
 use Rattle.verifier_inference.specs.Rules.{block_rules}
-use Rattle.verifier_inference.specs.Typing.{IsFine, IsTyped}
-use Rattle.verifier_inference.specs.Sections.{AreTyped, IsSection, size_of}
-use Rattle.machine_sections.specs.Firsts.{first_step, accepting_first, IsPlain, ArePlain}
+use Rattle.verifier_inference.specs.Typing.{IsFine, IsCodeTyped}
+use Rattle.verifier_inference.specs.Sections.{AreTyped, IsSection, instructions_in}
+use Rattle.machine_sections.specs.Firsts.{first_step, accepting_first, HasNoAcceptFirst, ArePlain}
 use Rattle.machine_sections.proofs.Firsts as firsts
-use Rattle.compiler_positions.specs.Tables.{Edge, Table, table_of}
+use Rattle.compiler_positions.specs.Tables.{Edge, Table, plan_table}
 use Rattle.compiler_positions.specs.Plans.{plan}
 use Rattle.compiler_positions.specs.Living.{sifted}
-use Rattle.compiler_positions.specs.Sections.{edge_size, guards, enter_all, accept_if, edge_code, block_of, blocks_of}
-use Rattle.compiler_positions.specs.Sections.{rows_of}
+use Rattle.compiler_positions.specs.Sections.{edge_size, guards, enter_all, accept_if, edge_code, position_block}
+use Rattle.compiler_positions.specs.Sections.{position_blocks}
+use Rattle.compiler_positions.specs.Sections.{rows_from}
 use Rattle.compiler_positions.specs.Sections.{coded}
 use Rattle.compiler_positions.specs.Laws.{SectionFollowsFirst, AcceptingFirstIsWellFormed, AcceptingFirstIsAsLong}
 use Rattle.compiler_positions.specs.Laws.{section_for}
@@ -27,7 +28,7 @@ use Rattle.std.specs.Prelude.{Bool, true, false}
 
 -- ---- the code of edges has no AcceptFirst
 
-plain-append : (xs ys : List BlockInstr) → IsPlain xs → IsPlain ys → IsPlain (xs ++ ys)
+plain-append : (xs ys : List BlockInstr) → HasNoAcceptFirst xs → HasNoAcceptFirst ys → HasNoAcceptFirst (xs ++ ys)
 plain-append [] ys p q = q
 plain-append (Unless atom target ∷ xs) ys p q = plain-append xs ys p q
 plain-append (Enter n ∷ xs) ys p q = plain-append xs ys p q
@@ -35,36 +36,36 @@ plain-append (Accept ∷ xs) ys p q = plain-append xs ys p q
 plain-append (Stop ∷ xs) ys p q = plain-append xs ys p q
 plain-append (AcceptFirst ∷ xs) ys p q = absurd p
 
-guards-plain : (end : ℕ) (ns : List ℕ) → IsPlain (guards end ns)
+guards-plain : (end : ℕ) (ns : List ℕ) → HasNoAcceptFirst (guards end ns)
 guards-plain end [] = tt
 guards-plain end (n ∷ ns) = guards-plain end ns
 
-enters-plain : (qs : List ℕ) → IsPlain (enter_all qs)
+enters-plain : (qs : List ℕ) → HasNoAcceptFirst (enter_all qs)
 enters-plain [] = tt
 enters-plain (q ∷ qs) = enters-plain qs
 
-accept-plain : (b : Bool) → IsPlain (accept_if b)
+accept-plain : (b : Bool) → HasNoAcceptFirst (accept_if b)
 accept-plain true = tt
 accept-plain false = tt
 
-block-plain : (base : ℕ) (es : List (Edge ℕ)) → IsPlain (block_of base es)
+block-plain : (base : ℕ) (es : List (Edge ℕ)) → HasNoAcceptFirst (position_block base es)
 block-plain base [] = tt
 block-plain base (e ∷ es) =
-    plain-append (edge_code base e) (block_of (base + edge_size e) es)
+    plain-append (edge_code base e) (position_block (base + edge_size e) es)
     (plain-append (guards (base + edge_size e) e.wanted) (enter_all e.enters ++ accept_if e.accepts)
     (guards-plain (base + edge_size e) e.wanted)
     (plain-append (enter_all e.enters) (accept_if e.accepts) (enters-plain e.enters) (accept-plain e.accepts)))
     (block-plain (base + edge_size e) es)
 
-blocks-plain : (base : ℕ) (rows : List (List (Edge ℕ))) → ArePlain (blocks_of base rows)
+blocks-plain : (base : ℕ) (rows : List (List (Edge ℕ))) → ArePlain (position_blocks base rows)
 blocks-plain base [] = tt
-blocks-plain base (row ∷ rows) = (block-plain base row, blocks-plain (base + length (block_of base row)) rows)
+blocks-plain base (row ∷ rows) = (block-plain base row, blocks-plain (base + length (position_block base row)) rows)
 
 pub law-follows_first : SectionFollowsFirst
 law-follows_first atom true_one rows value w ordered tells fills =
     firsts.law (section_for atom true_one w) rows value _
-    (blocks-plain 0 (rows_of (coded atom (sifted (table_of (plan true_one w)))) 0
-    (sifted (table_of (plan true_one w))).size))
+    (blocks-plain 0 (rows_from (coded atom (sifted (plan_table (plan true_one w)))) 0
+    (sifted (plan_table (plan true_one w))).size))
     fills
     (law-section_follows atom true_one rows value w ordered tells)
 
@@ -99,8 +100,8 @@ module _ (atoms positions p : ℕ) where
   fine-first end pc Stop h = h
   fine-first end pc AcceptFirst h = h
 
-  typed-first : (base : ℕ) (b : List BlockInstr) → IsTyped (block_rules 2 atoms positions p) base b (λ n. [])
-      → IsTyped (block_rules 2 atoms positions p) base (map first_step b) (λ n. [])
+  typed-first : (base : ℕ) (b : List BlockInstr) → IsCodeTyped (block_rules 2 atoms positions p) base b (λ n. [])
+      → IsCodeTyped (block_rules 2 atoms positions p) base (map first_step b) (λ n. [])
   typed-first base b h =
       let long : length (map first_step b) ≡ length b = length-map b first_step in
       record {
@@ -147,7 +148,7 @@ law-well_formed atoms s h =
           (all-typed atoms (length s.blocks) 0 0 s.blocks h.blocks);
     }
 
-size-first : (bs : List (List BlockInstr)) → size_of (map (map first_step) bs) ≡ size_of bs
+size-first : (bs : List (List BlockInstr)) → instructions_in (map (map first_step) bs) ≡ instructions_in bs
 size-first [] = refl
 size-first (b ∷ bs) = omega (arith, length-map b first_step, size-first bs)
 

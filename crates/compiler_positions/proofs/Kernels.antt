@@ -10,7 +10,8 @@ use Rattle.assertions.specs.Emptiness.{admits_empty}
 use Rattle.assertions.proofs.Segments.{Matches-forward, Matches-longest}
 use Rattle.assertions.proofs.EmptinessLaws.{empty-Matches, Matches-empty}
 use Rattle.assertions.proofs.WeightLaws.{weight_covers}
-use Rattle.compiler_positions.specs.Plans.{Plan, tick, skip, any, all, pair, under, loop, link, shape, apart, moving}
+use Rattle.compiler_positions.specs.Plans.{Plan, tick, skip, any, all, pair, under, loop, link, plan_sequence, apart}
+use Rattle.compiler_positions.specs.Plans.{moving}
 use Rattle.compiler_positions.specs.Plans.{weighs, plan}
 use Rattle.compiler_positions.proofs.Ticks.{link-Linked, Linked-link}
 
@@ -80,17 +81,18 @@ module _ (B : Type 0) (holds : B → ℕ → Bool) (true_one : B) where
   Same r s = (i j : ℕ) → Matches holds r i j ↔ Matches holds s i j
 
   -- with parts that are the same
-  Spaced-forth : (r s : Seq B) (p q : Plan B) → Same r (shape p) → Same s (shape q) → (n i j : ℕ) → Spaced r s n i j
-      → Spaced (shape p) (shape q) n i j
+  Spaced-forth : (r s : Seq B) (p q : Plan B) → Same r (plan_sequence p) → Same s (plan_sequence q) → (n i j : ℕ)
+      → Spaced r s n i j
+      → Spaced (plan_sequence p) (plan_sequence q) n i j
   Spaced-forth r s p q er es n i j h = (h.0, h.1, (er i h.0).0 h.2, h.3, (es h.1 j).0 h.4)
 
-  Spaced-back : (r s : Seq B) (p q : Plan B) → Same r (shape p) → Same s (shape q) → (n i j : ℕ)
-      → Spaced (shape p) (shape q) n i j → Spaced r s n i j
+  Spaced-back : (r s : Seq B) (p q : Plan B) → Same r (plan_sequence p) → Same s (plan_sequence q) → (n i j : ℕ)
+      → Spaced (plan_sequence p) (plan_sequence q) n i j → Spaced r s n i j
   Spaced-back r s p q er es n i j h = (h.0, h.1, (er i h.0).1 h.2, h.3, (es h.1 j).1 h.4)
 
-  apart-forth : (r s : Seq B) (p q : Plan B) → Same r (shape p) → Same s (shape q)
+  apart-forth : (r s : Seq B) (p q : Plan B) → Same r (plan_sequence p) → Same s (plan_sequence q)
       → (least most : ℕ) → least ≤ most → (i j d : ℕ) → least ≤ d → d ≤ most
-      → Matches holds (after true_one r s d) i j → Matches holds (shape (apart true_one p q least most)) i j
+      → Matches holds (after true_one r s d) i j → Matches holds (plan_sequence (apart true_one p q least most)) i j
   apart-forth r s p q er es zero zero le i j zero low high h =
       Linked-link B holds true false p skip q i j
       (inl (refl, h.0, h.1, h.2, (er i (h.0 + 1)).0 h.3, (es h.0 j).0 h.4))
@@ -107,8 +109,8 @@ module _ (B : Type 0) (holds : B → ℕ → Bool) (true_one : B) where
       let x = Spaced-forth r s p q er es d i j (after-Spaced r s d i j h) in
       (x.1, (x.0, x.2, (d, omega arith, omega arith, x.3)), x.4)
 
-  apart-back : (r s : Seq B) (p q : Plan B) → Same r (shape p) → Same s (shape q) → (least most : ℕ)
-      → least ≤ most → (i j : ℕ) → Matches holds (shape (apart true_one p q least most)) i j → (d : ℕ)
+  apart-back : (r s : Seq B) (p q : Plan B) → Same r (plan_sequence p) → Same s (plan_sequence q) → (least most : ℕ)
+      → least ≤ most → (i j : ℕ) → Matches holds (plan_sequence (apart true_one p q least most)) i j → (d : ℕ)
       × (least ≤ d) × (d ≤ most) × Matches holds (after true_one r s d) i j
   apart-back r s p q er es zero zero le i j h = elim (link-Linked B holds true false p skip q i j h) [
     | inl x ↦ (0, omega arith, omega arith, (x.1, x.2, x.3, (er i (x.1 + 1)).1 x.4, (es x.1 j).1 x.5))
@@ -136,7 +138,7 @@ module _ (B : Type 0) (holds : B → ℕ → Bool) (true_one : B) where
   -- what is left of a plan where no match takes a tick
   moving-Same : (r : Seq B) (p : Plan B) (takes empty : Bool) → ((i j : ℕ) → i < j → Matches holds r i j → IsTrue takes)
       → ((i : ℕ) → Matches holds r i i → IsTrue empty) → ((i : ℕ) → IsTrue empty → Matches holds r i i)
-      → Same r (shape p) → Same r (shape (moving takes empty p))
+      → Same r (plan_sequence p) → Same r (plan_sequence (moving takes empty p))
   moving-Same r p true empty takes nulls lone same i j = same i j
   moving-Same r p false true takes nulls lone same i j = (
     λ h. elim (cases_lt i j) [
@@ -155,8 +157,8 @@ module _ (B : Type 0) (holds : B → ℕ → Bool) (true_one : B) where
     λ h. absurd (omega (arith, h.2, h.3, h.4)),
   )
 
-  moving-kernel : (w : Written B) (p : Plan B) → IsOrdered w → Same (kernel true_one w) (shape p)
-      → Same (kernel true_one w) (shape (moving (weighs w) (admits_empty w) p))
+  moving-kernel : (w : Written B) (p : Plan B) → IsOrdered w → Same (kernel true_one w) (plan_sequence p)
+      → Same (kernel true_one w) (plan_sequence (moving (weighs w) (admits_empty w) p))
   moving-kernel w p ordered =
       moving-Same (kernel true_one w) p (weighs w) (admits_empty w)
       (moves-weighs w ordered)
@@ -164,7 +166,7 @@ module _ (B : Type 0) (holds : B → ℕ → Bool) (true_one : B) where
       (λ i h. empty-Matches B holds true_one w i ordered h)
 
   -- a plan matches what its kernel does
-  pub plan-kernel : (w : Written B) → IsOrdered w → Same (kernel true_one w) (shape (plan true_one w))
+  pub plan-kernel : (w : Written B) → IsOrdered w → Same (kernel true_one w) (plan_sequence (plan true_one w))
   plan-kernel (boolean b) ordered = λ i j. (λ h. h, λ h. h)
   plan-kernel (delay r least most s) ordered =
       moving-kernel (delay r least most s)
@@ -206,14 +208,14 @@ module _ (B : Type 0) (holds : B → ℕ → Bool) (true_one : B) where
           h.0,
           h.1,
           h.2,
-          Chain-map (Matches holds (kernel true_one r)) (Matches holds (shape (plan true_one r)))
+          Chain-map (Matches holds (kernel true_one r)) (Matches holds (plan_sequence (plan true_one r)))
               (λ a b. (er a b).0) h.0 i j h.3,
         ),
         λ h. (
           h.0,
           h.1,
           h.2,
-          Chain-map (Matches holds (shape (plan true_one r))) (Matches holds (kernel true_one r))
+          Chain-map (Matches holds (plan_sequence (plan true_one r))) (Matches holds (kernel true_one r))
               (λ a b. (er a b).1) h.0 i j h.3,
         ),
       ))

@@ -4,11 +4,12 @@ use Rattle.std.proofs.Common.{subst, arith}
 use Rattle.std.specs.Prelude.{IsTrue, map, ◌↔◌}
 use Rattle.std.proofs.lemmas.Bool.{lt-ltb, le-ltb, cases_lt, and_parts, and_from}
 use Rattle.compiler_positions.specs.Plans.{Plan, link}
-use Rattle.compiler_positions.specs.States.{State, Nullable, First, Ends, Steps}
+use Rattle.compiler_positions.specs.States.{PlanState, Nullable, First, Ends, StepsTo}
 use Rattle.std.specs.List.{flat_map}
-use Rattle.compiler_positions.specs.Tables.{Edge, Table, Has, Fires, Enters, Accepts, Spells, shift, shifted, picked}
+use Rattle.compiler_positions.specs.Tables.{Edge, Table, HasNumber, Fires, Enters, Accepts, NumbersStates, shift}
+use Rattle.compiler_positions.specs.Tables.{shifted_edge, picked_if}
 use Rattle.compiler_positions.specs.Tables.{onward}
-use Rattle.compiler_positions.specs.Tables.{leading, joined, fusing, crossing, link_table}
+use Rattle.compiler_positions.specs.Tables.{leading, joined_edges, fusing, crossing, link_table}
 use Rattle.compiler_positions.proofs.Lists.{SomeOf-each, map-SomeOf, SomeOf-append, append-SomeOf, SomeOf-flat}
 use Rattle.compiler_positions.proofs.Lists.{flat-SomeOf}
 use Rattle.compiler_positions.proofs.Lists.{SomeOf-picked, picked-SomeOf, SomeOf-Has, Has-SomeOf, Has-shift, shift-Has}
@@ -29,7 +30,7 @@ module _ (B : Type 0) (fuses follows : Bool) (t w u : Table B) (holds : B → �
   abbrev Accept : List (Edge B) → Type 0
   Accept = AcceptIn B holds i
 
-  joined-Enter : (q : ℕ) (e : Edge B) (fs : List (Edge B)) → Enter q (map (joined (t.size + w.size) e) fs)
+  joined-Enter : (q : ℕ) (e : Edge B) (fs : List (Edge B)) → Enter q (map (joined_edges (t.size + w.size) e) fs)
       → Fires holds i e × ((y : ℕ) × (t.size + w.size + y ≡ q) × Enter y fs)
   joined-Enter q e [] h = absurd h
   joined-Enter q e (f ∷ fs) (inl h) =
@@ -39,7 +40,7 @@ module _ (B : Type 0) (fuses follows : Bool) (t w u : Table B) (holds : B → �
   joined-Enter q e (f ∷ fs) (inr h) = let x = joined-Enter q e fs h in (x.0, (x.1.0, x.1.1, inr x.1.2))
 
   Enter-joined : (q y : ℕ) (e : Edge B) (fs : List (Edge B)) → Fires holds i e → t.size + w.size + y ≡ q → Enter y fs
-      → Enter q (map (joined (t.size + w.size) e) fs)
+      → Enter q (map (joined_edges (t.size + w.size) e) fs)
   Enter-joined q y e [] fires same h = absurd h
   Enter-joined q y e (f ∷ fs) fires same (inl h) =
       inl (
@@ -48,7 +49,8 @@ module _ (B : Type 0) (fuses follows : Bool) (t w u : Table B) (holds : B → �
       )
   Enter-joined q y e (f ∷ fs) fires same (inr h) = inr (Enter-joined q y e fs fires same h)
 
-  joined-Accept : (e : Edge B) (fs : List (Edge B)) → Accept (map (joined (t.size + w.size) e) fs) → Fires holds i e
+  joined-Accept : (e : Edge B) (fs : List (Edge B)) → Accept (map (joined_edges (t.size + w.size) e) fs)
+      → Fires holds i e
       × Accept fs
   joined-Accept e [] h = absurd h
   joined-Accept e (f ∷ fs) (inl h) =
@@ -56,7 +58,7 @@ module _ (B : Type 0) (fuses follows : Bool) (t w u : Table B) (holds : B → �
   joined-Accept e (f ∷ fs) (inr h) = let x = joined-Accept e fs h in (x.0, inr x.1)
 
   Accept-joined : (e : Edge B) (fs : List (Edge B)) → Fires holds i e → Accept fs
-      → Accept (map (joined (t.size + w.size) e) fs)
+      → Accept (map (joined_edges (t.size + w.size) e) fs)
   Accept-joined e [] fires h = absurd h
   Accept-joined e (f ∷ fs) fires (inl h) =
       inl (append-EachOf (λ b. IsTrue (holds b i)) e.wanted f.wanted fires h.0, h.1)
@@ -66,7 +68,7 @@ module _ (B : Type 0) (fuses follows : Bool) (t w u : Table B) (holds : B → �
   abbrev pub Leading : ℕ → List (Edge B) → Type 0
   Leading q es =
       Enter q es
-      ⊎ ((Accept es × IsTrue follows × Has (onward t w u) q)
+      ⊎ ((Accept es × IsTrue follows × HasNumber (onward t w u) q)
       ⊎ (Accept es × IsTrue fuses × (y : ℕ) × (t.size + w.size + y ≡ q) × Enter y firsts))
 
   later : (q : ℕ) (e : Edge B) (es : List (Edge B)) → Leading q es → Leading q (e ∷ es)
@@ -77,7 +79,7 @@ module _ (B : Type 0) (fuses follows : Bool) (t w u : Table B) (holds : B → �
   pub lead-Enter : (q : ℕ) (es : List (Edge B)) → Enter q (flat_map lead es) → Leading q es
   lead-Enter q [] h = absurd h
   lead-Enter q (e ∷ es) (inl h) =
-      elim (SomeOf-append (λ x. x ≡ q) e.enters (picked (e.accepts && follows) (onward t w u)) h.1) [
+      elim (SomeOf-append (λ x. x ≡ q) e.enters (picked_if (e.accepts && follows) (onward t w u)) h.1) [
         | inl a ↦ inl (inl (h.0, a))
         | inr a ↦
             let p = SomeOf-picked (λ x. x ≡ q) (e.accepts && follows) (onward t w u) a in
@@ -85,12 +87,12 @@ module _ (B : Type 0) (fuses follows : Bool) (t w u : Table B) (holds : B → �
             inr (inl (inl (h.0, b.0), b.1, p.1))
       ]
   lead-Enter q (e ∷ es) (inr h) =
-      elim (SomeOf-append (λ e. Fires holds i e × Has e.enters q) (fusing fuses t w u e) (flat_map lead es) h) [
+      elim (SomeOf-append (λ e. Fires holds i e × HasNumber e.enters q) (fusing fuses t w u e) (flat_map lead es) h) [
         | inr rest ↦ later q e es (lead-Enter q es rest)
         | inl a ↦
             let p =
-            SomeOf-picked (λ e. Fires holds i e × Has e.enters q) (e.accepts && fuses)
-            (map (joined (t.size + w.size) e) firsts) a in
+            SomeOf-picked (λ e. Fires holds i e × HasNumber e.enters q) (e.accepts && fuses)
+            (map (joined_edges (t.size + w.size) e) firsts) a in
             let b = and_parts e.accepts fuses p.0 in
             let x = joined-Enter q e firsts p.1 in
             inr (inr (inl (x.0, b.0), b.1, x.1.0, x.1.1, x.1.2))
@@ -98,26 +100,26 @@ module _ (B : Type 0) (fuses follows : Bool) (t w u : Table B) (holds : B → �
 
   pub Enter-lead : (q : ℕ) (es : List (Edge B)) → Leading q es → Enter q (flat_map lead es)
   Enter-lead q es (inl h) =
-      flat-SomeOf (λ e. Fires holds i e × Has e.enters q) lead es
-      (SomeOf-each (λ e. Fires holds i e × Has e.enters q) (λ e. Enter q (lead e)) es
+      flat-SomeOf (λ e. Fires holds i e × HasNumber e.enters q) lead es
+      (SomeOf-each (λ e. Fires holds i e × HasNumber e.enters q) (λ e. Enter q (lead e)) es
       (λ e a.
-      inl (a.0, append-SomeOf (λ x. x ≡ q) e.enters (picked (e.accepts && follows) (onward t w u)) (inl a.1))) h)
+      inl (a.0, append-SomeOf (λ x. x ≡ q) e.enters (picked_if (e.accepts && follows) (onward t w u)) (inl a.1))) h)
   Enter-lead q es (inr (inl h)) =
-      flat-SomeOf (λ e. Fires holds i e × Has e.enters q) lead es
+      flat-SomeOf (λ e. Fires holds i e × HasNumber e.enters q) lead es
       (SomeOf-each (λ e. Fires holds i e × (e.accepts ≡ true)) (λ e. Enter q (lead e)) es
       (λ e a.
       inl (
         a.0,
-        append-SomeOf (λ x. x ≡ q) e.enters (picked (e.accepts && follows) (onward t w u))
+        append-SomeOf (λ x. x ≡ q) e.enters (picked_if (e.accepts && follows) (onward t w u))
             (inr (picked-SomeOf (λ x. x ≡ q) (e.accepts && follows) (onward t w u) (and_from e.accepts follows a.1 h.1)
             h.2)),
       )) h.0)
   Enter-lead q es (inr (inr h)) =
-      flat-SomeOf (λ e. Fires holds i e × Has e.enters q) lead es
+      flat-SomeOf (λ e. Fires holds i e × HasNumber e.enters q) lead es
       (SomeOf-each (λ e. Fires holds i e × (e.accepts ≡ true)) (λ e. Enter q (lead e)) es
       (λ e a.
-      inr (picked-SomeOf (λ e. Fires holds i e × Has e.enters q) (e.accepts && fuses)
-      (map (joined (t.size + w.size) e) firsts) (and_from e.accepts fuses a.1 h.1)
+      inr (picked-SomeOf (λ e. Fires holds i e × HasNumber e.enters q) (e.accepts && fuses)
+      (map (joined_edges (t.size + w.size) e) firsts) (and_from e.accepts fuses a.1 h.1)
       (Enter-joined q h.2 e firsts a.0 h.3 h.4))) h.0)
 
   abbrev pub Closing : List (Edge B) → Type 0
@@ -140,7 +142,7 @@ module _ (B : Type 0) (fuses follows : Bool) (t w u : Table B) (holds : B → �
         | inl a ↦
             let p =
             SomeOf-picked (λ e. Fires holds i e × (e.accepts ≡ true)) (e.accepts && fuses)
-            (map (joined (t.size + w.size) e) firsts) a in
+            (map (joined_edges (t.size + w.size) e) firsts) a in
             let b = and_parts e.accepts fuses p.0 in
             let x = joined-Accept e firsts p.1 in
             inr (inl (x.0, b.0), b.1, x.1)
@@ -161,15 +163,15 @@ module _ (B : Type 0) (fuses follows : Bool) (t w u : Table B) (holds : B → �
       (SomeOf-each (λ e. Fires holds i e × (e.accepts ≡ true)) (λ e. Accept (lead e)) es
       (λ e a.
       inr (picked-SomeOf (λ e. Fires holds i e × (e.accepts ≡ true)) (e.accepts && fuses)
-      (map (joined (t.size + w.size) e) firsts) (and_from e.accepts fuses a.1 h.1)
+      (map (joined_edges (t.size + w.size) e) firsts) (and_from e.accepts fuses a.1 h.1)
       (Accept-joined e firsts a.0 h.2))) h.0)
 
   -- what the edges of the middle part lead to
   pub crossing-Enter : (q : ℕ) (es : List (Edge B)) → Enter q (map (crossing t w u) es)
-      → ((y : ℕ) × (t.size + y ≡ q) × Enter y es) ⊎ (Accept es × Has (shift (t.size + w.size) u.starts) q)
+      → ((y : ℕ) × (t.size + y ≡ q) × Enter y es) ⊎ (Accept es × HasNumber (shift (t.size + w.size) u.starts) q)
   crossing-Enter q [] h = absurd h
   crossing-Enter q (e ∷ es) (inl h) =
-      elim (SomeOf-append (λ x. x ≡ q) (shift t.size e.enters) (picked e.accepts (shift (t.size + w.size) u.starts))
+      elim (SomeOf-append (λ x. x ≡ q) (shift t.size e.enters) (picked_if e.accepts (shift (t.size + w.size) u.starts))
       h.1) [
         | inl a ↦ let x = Has-shift t.size e.enters q a in inl (x.0, x.1, inl (h.0, x.2))
         | inr a ↦ let p =
@@ -179,21 +181,23 @@ module _ (B : Type 0) (fuses follows : Bool) (t w u : Table B) (holds : B → �
       elim (crossing-Enter q es h) [ inl x ↦ inl (x.0, x.1, inr x.2) | inr x ↦ inr (inr x.0, x.1) ]
 
   pub Enter-crossing : (q : ℕ) (es : List (Edge B)) → ((y : ℕ) × (t.size + y ≡ q) × Enter y es)
-      ⊎ (Accept es × Has (shift (t.size + w.size) u.starts) q) → Enter q (map (crossing t w u) es)
+      ⊎ (Accept es × HasNumber (shift (t.size + w.size) u.starts) q) → Enter q (map (crossing t w u) es)
   Enter-crossing q es (inl h) =
-      map-SomeOf (λ e. Fires holds i e × Has e.enters q) (crossing t w u) es
-      (SomeOf-each (λ e. Fires holds i e × Has e.enters h.0) (λ e. Fires holds i e × Has (crossing t w u e).enters q) es
+      map-SomeOf (λ e. Fires holds i e × HasNumber e.enters q) (crossing t w u) es
+      (SomeOf-each (λ e. Fires holds i e × HasNumber e.enters h.0)
+      (λ e. Fires holds i e × HasNumber (crossing t w u e).enters q) es
       (λ e a. (
         a.0,
-        append-SomeOf (λ x. x ≡ q) (shift t.size e.enters) (picked e.accepts
+        append-SomeOf (λ x. x ≡ q) (shift t.size e.enters) (picked_if e.accepts
             (shift (t.size + w.size) u.starts)) (inl (shift-Has t.size e.enters h.0 q h.1 a.1)),
       )) h.2)
   Enter-crossing q es (inr h) =
-      map-SomeOf (λ e. Fires holds i e × Has e.enters q) (crossing t w u) es
-      (SomeOf-each (λ e. Fires holds i e × (e.accepts ≡ true)) (λ e. Fires holds i e × Has (crossing t w u e).enters q)
+      map-SomeOf (λ e. Fires holds i e × HasNumber e.enters q) (crossing t w u) es
+      (SomeOf-each (λ e. Fires holds i e × (e.accepts ≡ true))
+      (λ e. Fires holds i e × HasNumber (crossing t w u e).enters q)
       es (λ e a. (
         a.0,
-        append-SomeOf (λ x. x ≡ q) (shift t.size e.enters) (picked e.accepts
+        append-SomeOf (λ x. x ≡ q) (shift t.size e.enters) (picked_if e.accepts
             (shift (t.size + w.size) u.starts))
             (inr (picked-SomeOf (λ x. x ≡ q) e.accepts (shift (t.size + w.size) u.starts) a.1 h.1)),
       )) h.0)
@@ -210,21 +214,22 @@ module _ (B : Type 0) (fuses follows : Bool) (t w u : Table B) (holds : B → �
       (λ e. Fires holds i e × ((crossing t w u e).accepts ≡ true)) es
       (λ e a. (a.0, and_from e.accepts u.empty a.1 empty)) h)
 
-module _ (B : Type 0) (fuses follows : Bool) (r g s : Plan B) (t w u : Table B) (sr : Spells r t) (sg : Spells g w)
-    (ss : Spells s u) where
+module _ (B : Type 0) (fuses follows : Bool) (r g s : Plan B) (t w u : Table B) (sr : NumbersStates r t)
+    (sg : NumbersStates g w)
+    (ss : NumbersStates s u) where
   abbrev whole : Table B
   whole = link_table fuses follows t w u
 
-  link-number : State r ⊎ (State g ⊎ State s) → ℕ
+  link-number : PlanState r ⊎ (PlanState g ⊎ PlanState s) → ℕ
   link-number (inl x) = sr.number x
   link-number (inr (inl y)) = t.size + sg.number y
   link-number (inr (inr z)) = t.size + w.size + ss.number z
 
-  front : (x : State r) → whole.row (sr.number x) ≡ flat_map (lead B fuses follows t w u (λ b k. true) 0)
+  front : (x : PlanState r) → whole.row (sr.number x) ≡ flat_map (lead B fuses follows t w u (λ b k. true) 0)
       (t.row (sr.number x))
   front x = rw (lt-ltb (sr.number x) t.size (sr.below x)) refl
 
-  middle : (y : State g) → whole.row (t.size + sg.number y) ≡ map (crossing t w u) (w.row (sg.number y))
+  middle : (y : PlanState g) → whole.row (t.size + sg.number y) ≡ map (crossing t w u) (w.row (sg.number y))
   middle y =
       let e : t.size + sg.number y - t.size ≡ sg.number y = omega arith in
       rw (
@@ -233,23 +238,24 @@ module _ (B : Type 0) (fuses follows : Bool) (r g s : Plan B) (t w u : Table B) 
       )
       (ap (λ p. map (crossing t w u) (w.row p)) e)
 
-  back : (z : State s) → whole.row (t.size + w.size + ss.number z)
-      ≡ map (shifted (t.size + w.size)) (u.row (ss.number z))
+  back : (z : PlanState s) → whole.row (t.size + w.size + ss.number z)
+      ≡ map (shifted_edge (t.size + w.size)) (u.row (ss.number z))
   back z =
       let e : t.size + w.size + ss.number z - (t.size + w.size) ≡ ss.number z = omega arith in
       rw (
         le-ltb (t.size + w.size + ss.number z) t.size (omega arith),
         le-ltb (t.size + w.size + ss.number z) (t.size + w.size) (omega arith),
       )
-      (ap (λ p. map (shifted (t.size + w.size)) (u.row p)) e)
+      (ap (λ p. map (shifted_edge (t.size + w.size)) (u.row p)) e)
 
-  link-below : (x : State r ⊎ (State g ⊎ State s)) → link-number x < t.size + w.size + u.size
+  link-below : (x : PlanState r ⊎ (PlanState g ⊎ PlanState s)) → link-number x < t.size + w.size + u.size
   unfolding link-number
   link-below (inl x) = omega (arith, sr.below x)
   link-below (inr (inl y)) = omega (arith, sg.below y)
   link-below (inr (inr z)) = omega (arith, ss.below z)
 
-  link-state : (p : ℕ) → p < t.size + w.size + u.size → (x : State r ⊎ (State g ⊎ State s)) × (link-number x ≡ p)
+  link-state : (p : ℕ) → p < t.size + w.size + u.size → (x : PlanState r ⊎ (PlanState g ⊎ PlanState s))
+      × (link-number x ≡ p)
   unfolding link-number
   link-state p below = elim (cases_lt p t.size) [
     | inl low ↦ let x = sr.state p low in (inl x.0, x.1)
@@ -259,8 +265,8 @@ module _ (B : Type 0) (fuses follows : Bool) (r g s : Plan B) (t w u : Table B) 
     ]
   ]
 
-  link-rises : (holds : B → ℕ → Bool) (x y : State r ⊎ (State g ⊎ State s)) (i : ℕ)
-      → Steps holds (link fuses follows r g s) x i y → link-number x < link-number y
+  link-rises : (holds : B → ℕ → Bool) (x y : PlanState r ⊎ (PlanState g ⊎ PlanState s)) (i : ℕ)
+      → StepsTo holds (link fuses follows r g s) x i y → link-number x < link-number y
   unfolding link-number
   link-rises holds (inl x) (inl y) i st = sr.rises holds x y i st
   link-rises holds (inl x) (inr (inl y)) i st = omega (arith, sr.below x)
@@ -273,10 +279,11 @@ module _ (B : Type 0) (fuses follows : Bool) (r g s : Plan B) (t w u : Table B) 
   link-rises holds (inr (inr x)) (inr (inr y)) i st = omega (arith, ss.rises holds x y i st)
 
   -- the first positions past the first part
-  onward-First : (q : ℕ) → Has (onward t w u) q → ((y : State g) × (t.size + sg.number y ≡ q) × First g y)
-      ⊎ ((z : State s) × (t.size + w.size + ss.number z ≡ q) × Nullable g × First s z)
+  onward-First : (q : ℕ) → HasNumber (onward t w u) q → ((y : PlanState g) × (t.size + sg.number y ≡ q) × First g y)
+      ⊎ ((z : PlanState s) × (t.size + w.size + ss.number z ≡ q) × Nullable g × First s z)
   onward-First q h =
-      elim (SomeOf-append (λ x. x ≡ q) (shift t.size w.starts) (picked w.empty (shift (t.size + w.size) u.starts)) h) [
+      elim (SomeOf-append (λ x. x ≡ q) (shift t.size w.starts)
+      (picked_if w.empty (shift (t.size + w.size) u.starts)) h) [
         | inl a ↦
             let x = Has-shift t.size w.starts q a in
             let y = (sg.starts x.0).0 x.2 in
@@ -288,36 +295,36 @@ module _ (B : Type 0) (fuses follows : Bool) (r g s : Plan B) (t w u : Table B) 
             inr (z.0, ap (λ n. t.size + w.size + n) z.1 ∙ x.1, sg.empty.0 p.0, z.2)
       ]
 
-  First-onward : (q : ℕ) → ((y : State g) × (t.size + sg.number y ≡ q) × First g y)
-      ⊎ ((z : State s) × (t.size + w.size + ss.number z ≡ q) × Nullable g × First s z) → Has (onward t w u) q
+  First-onward : (q : ℕ) → ((y : PlanState g) × (t.size + sg.number y ≡ q) × First g y)
+      ⊎ ((z : PlanState s) × (t.size + w.size + ss.number z ≡ q) × Nullable g × First s z) → HasNumber (onward t w u) q
   First-onward q (inl h) =
-      append-SomeOf (λ x. x ≡ q) (shift t.size w.starts) (picked w.empty (shift (t.size + w.size) u.starts))
+      append-SomeOf (λ x. x ≡ q) (shift t.size w.starts) (picked_if w.empty (shift (t.size + w.size) u.starts))
       (inl (shift-Has t.size w.starts (sg.number h.0) q h.1 ((sg.starts (sg.number h.0)).1 (h.0, refl, h.2))))
   First-onward q (inr h) =
-      append-SomeOf (λ x. x ≡ q) (shift t.size w.starts) (picked w.empty (shift (t.size + w.size) u.starts))
+      append-SomeOf (λ x. x ≡ q) (shift t.size w.starts) (picked_if w.empty (shift (t.size + w.size) u.starts))
       (inr (picked-SomeOf (λ x. x ≡ q) w.empty (shift (t.size + w.size) u.starts) (sg.empty.1 h.2)
       (shift-Has (t.size + w.size) u.starts (ss.number h.0) q h.1
       ((ss.starts (ss.number h.0)).1 (h.0, refl, h.3)))))
 
   -- the edges of the first positions of the last part
-  firsts-Steps : (holds : B → ℕ → Bool) (i y : ℕ) → EnterIn B holds i y (flat_map u.row u.starts) → (q : State s)
-      × (z : State s) × (ss.number z ≡ y) × First s q × Steps holds s q i z
+  firsts-Steps : (holds : B → ℕ → Bool) (i y : ℕ) → EnterIn B holds i y (flat_map u.row u.starts) → (q : PlanState s)
+      × (z : PlanState s) × (ss.number z ≡ y) × First s q × StepsTo holds s q i z
   firsts-Steps holds i y h =
       let a =
       SomeOf-Has (λ p. EnterIn B holds i y (u.row p)) u.starts
-      (SomeOf-flat (λ e. Fires holds i e × Has e.enters y) u.row u.starts h) in
+      (SomeOf-flat (λ e. Fires holds i e × HasNumber e.enters y) u.row u.starts h) in
       let q = (ss.starts a.0).0 a.1 in
       let z = (ss.enters holds q.0 i y).0 (subst (λ p. EnterIn B holds i y (u.row p)) (sym q.1) a.2) in
       (q.0, z.0, z.1, q.2, z.2)
 
-  Steps-firsts : (holds : B → ℕ → Bool) (i : ℕ) (q z : State s) → First s q → Steps holds s q i z
+  Steps-firsts : (holds : B → ℕ → Bool) (i : ℕ) (q z : PlanState s) → First s q → StepsTo holds s q i z
       → EnterIn B holds i (ss.number z) (flat_map u.row u.starts)
   Steps-firsts holds i q z f st =
-      flat-SomeOf (λ e. Fires holds i e × Has e.enters (ss.number z)) u.row u.starts
+      flat-SomeOf (λ e. Fires holds i e × HasNumber e.enters (ss.number z)) u.row u.starts
       (Has-SomeOf (λ p. EnterIn B holds i (ss.number z) (u.row p)) u.starts (ss.number q)
       ((ss.starts (ss.number q)).1 (q, refl, f)) ((ss.enters holds q i (ss.number z)).1 (z, refl, st)))
 
-  firsts-Ends : (holds : B → ℕ → Bool) (i : ℕ) → AcceptIn B holds i (flat_map u.row u.starts) → (q : State s)
+  firsts-Ends : (holds : B → ℕ → Bool) (i : ℕ) → AcceptIn B holds i (flat_map u.row u.starts) → (q : PlanState s)
       × First s q × Ends holds s q i
   firsts-Ends holds i h =
       let a =
@@ -326,18 +333,19 @@ module _ (B : Type 0) (fuses follows : Bool) (r g s : Plan B) (t w u : Table B) 
       let q = (ss.starts a.0).0 a.1 in
       (q.0, q.2, (ss.accepts holds q.0 i).0 (subst (λ p. AcceptIn B holds i (u.row p)) (sym q.1) a.2))
 
-  Ends-firsts : (holds : B → ℕ → Bool) (i : ℕ) (q : State s) → First s q → Ends holds s q i
+  Ends-firsts : (holds : B → ℕ → Bool) (i : ℕ) (q : PlanState s) → First s q → Ends holds s q i
       → AcceptIn B holds i (flat_map u.row u.starts)
   Ends-firsts holds i q f en =
       flat-SomeOf (λ e. Fires holds i e × (e.accepts ≡ true)) u.row u.starts
       (Has-SomeOf (λ p. AcceptIn B holds i (u.row p)) u.starts (ss.number q) ((ss.starts (ss.number q)).1 (q, refl, f))
       ((ss.accepts holds q i).1 en))
 
-  abbrev NextOf : (B → ℕ → Bool) → State r ⊎ (State g ⊎ State s) → ℕ → ℕ → Type 0
+  abbrev NextOf : (B → ℕ → Bool) → PlanState r ⊎ (PlanState g ⊎ PlanState s) → ℕ → ℕ → Type 0
   NextOf holds x i q =
-      (y : State r ⊎ (State g ⊎ State s)) × (link-number y ≡ q) × Steps holds (link fuses follows r g s) x i y
+      (y : PlanState r ⊎ (PlanState g ⊎ PlanState s)) × (link-number y ≡ q)
+      × StepsTo holds (link fuses follows r g s) x i y
 
-  link-enters : (holds : B → ℕ → Bool) (x : State r ⊎ (State g ⊎ State s)) (i q : ℕ)
+  link-enters : (holds : B → ℕ → Bool) (x : PlanState r ⊎ (PlanState g ⊎ PlanState s)) (i q : ℕ)
       → Enters holds whole (link-number x) i q ↔ NextOf holds x i q
   unfolding link-number
   link-enters holds (inl x) i q = (
@@ -382,7 +390,7 @@ module _ (B : Type 0) (fuses follows : Bool) (r g s : Plan B) (t w u : Table B) 
   )
     where
       fro : NextOf holds (inr (inl x)) i q → ((y : ℕ) × (t.size + y ≡ q) × EnterIn B holds i y (w.row (sg.number x)))
-          ⊎ (AcceptIn B holds i (w.row (sg.number x)) × Has (shift (t.size + w.size) u.starts) q)
+          ⊎ (AcceptIn B holds i (w.row (sg.number x)) × HasNumber (shift (t.size + w.size) u.starts) q)
       fro (inl y, e, st) = absurd st
       fro (inr (inl y), e, st) = inl (sg.number y, e, (sg.enters holds x i (sg.number y)).1 (y, refl, st))
       fro (inr (inr z), e, st) =
@@ -400,14 +408,15 @@ module _ (B : Type 0) (fuses follows : Bool) (r g s : Plan B) (t w u : Table B) 
     λ h. subst (EnterIn B holds i q) (sym (back x)) (fro h),
   )
     where
-      fro : NextOf holds (inr (inr x)) i q → EnterIn B holds i q (map (shifted (t.size + w.size)) (u.row (ss.number x)))
+      fro : NextOf holds (inr (inr x)) i q
+          → EnterIn B holds i q (map (shifted_edge (t.size + w.size)) (u.row (ss.number x)))
       fro (inl y, e, st) = absurd st
       fro (inr (inl y), e, st) = absurd st
       fro (inr (inr z), e, st) =
           Enter-shifted B holds i (t.size + w.size) q (ss.number z) (u.row (ss.number x)) e
           ((ss.enters holds x i (ss.number z)).1 (z, refl, st))
 
-  link-accepts : (holds : B → ℕ → Bool) (x : State r ⊎ (State g ⊎ State s)) (i : ℕ)
+  link-accepts : (holds : B → ℕ → Bool) (x : PlanState r ⊎ (PlanState g ⊎ PlanState s)) (i : ℕ)
       → Accepts holds whole (link-number x) i ↔ Ends holds (link fuses follows r g s) x i
   unfolding link-number
   link-accepts holds (inl x) i = (
@@ -438,11 +447,11 @@ module _ (B : Type 0) (fuses follows : Bool) (r g s : Plan B) (t w u : Table B) 
   )
 
   link-starts : (q : ℕ)
-      → Has whole.starts q ↔ ((x : State r ⊎ (State g ⊎ State s)) × (link-number x ≡ q)
+      → HasNumber whole.starts q ↔ ((x : PlanState r ⊎ (PlanState g ⊎ PlanState s)) × (link-number x ≡ q)
       × First (link fuses follows r g s) x)
   unfolding link-number
   link-starts q = (
-    λ h. elim (SomeOf-append (λ x. x ≡ q) t.starts (picked (follows && t.empty) (onward t w u)) h) [
+    λ h. elim (SomeOf-append (λ x. x ≡ q) t.starts (picked_if (follows && t.empty) (onward t w u)) h) [
       | inl a ↦ let x = (sr.starts q).0 a in (inl x.0, x.1, x.2)
       | inr a ↦
           let p = SomeOf-picked (λ x. x ≡ q) (follows && t.empty) (onward t w u) a in
@@ -455,21 +464,21 @@ module _ (B : Type 0) (fuses follows : Bool) (r g s : Plan B) (t w u : Table B) 
     fro,
   )
     where
-      fro : ((x : State r ⊎ (State g ⊎ State s)) × (link-number x ≡ q) × First (link fuses follows r g s) x)
-          → Has whole.starts q
+      fro : ((x : PlanState r ⊎ (PlanState g ⊎ PlanState s)) × (link-number x ≡ q) × First (link fuses follows r g s) x)
+          → HasNumber whole.starts q
       fro (inl x, e, f) =
-          append-SomeOf (λ x. x ≡ q) t.starts (picked (follows && t.empty) (onward t w u))
+          append-SomeOf (λ x. x ≡ q) t.starts (picked_if (follows && t.empty) (onward t w u))
           (inl ((sr.starts q).1 (x, e, f)))
       fro (inr (inl y), e, f) =
-          append-SomeOf (λ x. x ≡ q) t.starts (picked (follows && t.empty) (onward t w u))
+          append-SomeOf (λ x. x ≡ q) t.starts (picked_if (follows && t.empty) (onward t w u))
           (inr (picked-SomeOf (λ x. x ≡ q) (follows && t.empty) (onward t w u)
           (and_from follows t.empty f.0 (sr.empty.1 f.1)) (First-onward q (inl (y, e, f.2)))))
       fro (inr (inr z), e, f) =
-          append-SomeOf (λ x. x ≡ q) t.starts (picked (follows && t.empty) (onward t w u))
+          append-SomeOf (λ x. x ≡ q) t.starts (picked_if (follows && t.empty) (onward t w u))
           (inr (picked-SomeOf (λ x. x ≡ q) (follows && t.empty) (onward t w u)
           (and_from follows t.empty f.0 (sr.empty.1 f.1)) (First-onward q (inr (z, e, f.2, f.3)))))
 
-  pub link-spells : Spells (link fuses follows r g s) whole
+  pub link-spells : NumbersStates (link fuses follows r g s) whole
   link-spells = record {
     number = link-number;
     below = link-below;

@@ -4,7 +4,7 @@ use Rattle.std.proofs.Common.{◌++◌, refl, sym, ap, subst, arith}
 use Rattle.std.specs.Prelude.{IsTrue, map}
 use Rattle.std.proofs.lemmas.Bool.{cases_eq}
 use Rattle.std.specs.List.{flat_map}
-use Rattle.compiler_positions.specs.Tables.{SomeOf, EachOf, Has, shift, picked, numbers}
+use Rattle.compiler_positions.specs.Tables.{SomeOf, EachOf, HasNumber, shift, picked_if, numbers_from}
 
 pub SomeOf-each : {A : Type 0} (P Q : A → Type 0) (xs : List A) → ((x : A) → P x → Q x) → SomeOf P xs → SomeOf Q xs
 SomeOf-each P Q [] each h = h
@@ -47,44 +47,44 @@ flat-SomeOf P f [] h = h
 flat-SomeOf P f (x ∷ xs) (inl h) = append-SomeOf P (f x) (flat_map f xs) (inl h)
 flat-SomeOf P f (x ∷ xs) (inr h) = append-SomeOf P (f x) (flat_map f xs) (inr (flat-SomeOf P f xs h))
 
-pub SomeOf-picked : {A : Type 0} (P : A → Type 0) (b : Bool) (xs : List A) → SomeOf P (picked b xs) → IsTrue b
+pub SomeOf-picked : {A : Type 0} (P : A → Type 0) (b : Bool) (xs : List A) → SomeOf P (picked_if b xs) → IsTrue b
     × SomeOf P xs
 SomeOf-picked P true xs h = (refl, h)
 SomeOf-picked P false xs h = absurd h
 
 pub picked-SomeOf : {A : Type 0} (P : A → Type 0) (b : Bool) (xs : List A) → IsTrue b → SomeOf P xs
-    → SomeOf P (picked b xs)
+    → SomeOf P (picked_if b xs)
 picked-SomeOf P true xs e h = h
 picked-SomeOf P false xs e h = cc
 
 -- one that is there and passes
-pub SomeOf-Has : (P : ℕ → Type 0) (xs : List ℕ) → SomeOf P xs → (q : ℕ) × Has xs q × P q
+pub SomeOf-Has : (P : ℕ → Type 0) (xs : List ℕ) → SomeOf P xs → (q : ℕ) × HasNumber xs q × P q
 SomeOf-Has P [] h = absurd h
 SomeOf-Has P (x ∷ xs) (inl h) = (x, inl refl, h)
 SomeOf-Has P (x ∷ xs) (inr h) = let r = SomeOf-Has P xs h in (r.0, inr r.1, r.2)
 
-pub Has-SomeOf : (P : ℕ → Type 0) (xs : List ℕ) (q : ℕ) → Has xs q → P q → SomeOf P xs
+pub Has-SomeOf : (P : ℕ → Type 0) (xs : List ℕ) (q : ℕ) → HasNumber xs q → P q → SomeOf P xs
 Has-SomeOf P [] q h p = absurd h
 Has-SomeOf P (x ∷ xs) q (inl same) p = inl (subst P (sym same) p)
 Has-SomeOf P (x ∷ xs) q (inr h) p = inr (Has-SomeOf P xs q h p)
 
-pub Has-shift : (n : ℕ) (xs : List ℕ) (q : ℕ) → Has (shift n xs) q → (y : ℕ) × (n + y ≡ q) × Has xs y
+pub Has-shift : (n : ℕ) (xs : List ℕ) (q : ℕ) → HasNumber (shift n xs) q → (y : ℕ) × (n + y ≡ q) × HasNumber xs y
 Has-shift n [] q h = absurd h
 Has-shift n (x ∷ xs) q (inl h) = (x, h, inl refl)
 Has-shift n (x ∷ xs) q (inr h) = let r = Has-shift n xs q h in (r.0, r.1, inr r.2)
 
-pub shift-Has : (n : ℕ) (xs : List ℕ) (y q : ℕ) → n + y ≡ q → Has xs y → Has (shift n xs) q
+pub shift-Has : (n : ℕ) (xs : List ℕ) (y q : ℕ) → n + y ≡ q → HasNumber xs y → HasNumber (shift n xs) q
 shift-Has n [] y q e h = absurd h
 shift-Has n (x ∷ xs) y q e (inl h) = inl (ap (λ z. n + z) h ∙ e)
 shift-Has n (x ∷ xs) y q e (inr h) = inr (shift-Has n xs y q e h)
 
-pub Has-numbers : (first count q : ℕ) → Has (numbers first count) q → (first ≤ q) × (q < first + count)
+pub Has-numbers : (first count q : ℕ) → HasNumber (numbers_from first count) q → (first ≤ q) × (q < first + count)
 Has-numbers first zero q h = absurd h
 Has-numbers first (suc count) q (inl h) = (omega arith, omega arith)
 Has-numbers first (suc count) q (inr h) =
     let r = Has-numbers (first + 1) count q h in (omega (arith, r.0), omega (arith, r.1))
 
-pub numbers-Has : (first count q : ℕ) → first ≤ q → q < first + count → Has (numbers first count) q
+pub numbers-Has : (first count q : ℕ) → first ≤ q → q < first + count → HasNumber (numbers_from first count) q
 numbers-Has first zero q low high = absurd (omega arith)
 numbers-Has first (suc count) q low high = elim (cases_eq first q) [
   | inl same ↦ inl same

@@ -7,8 +7,9 @@ use Rattle.std.proofs.lemmas.Nat.{div-mul-add, mod-mul-add, div-add-mod'}
 use Rattle.std.proofs.lemmas.Bool.{cases_lt, cases_eq, cases_Bool, and_parts, and_from, or_cases, or_left, or_right}
 use Rattle.std.proofs.lemmas.Bool.{leb-true, le-leb, eqb-true, eq-eqb, both_ways}
 use Rattle.compiler_positions.specs.Plans.{Plan, loop}
-use Rattle.compiler_positions.specs.States.{State, Nullable, First, Ends, Steps}
-use Rattle.compiler_positions.specs.Tables.{Edge, Table, Has, Fires, Enters, Accepts, Spells, shift, picked, numbers}
+use Rattle.compiler_positions.specs.States.{PlanState, Nullable, First, Ends, StepsTo}
+use Rattle.compiler_positions.specs.Tables.{Edge, Table, HasNumber, Fires, Enters, Accepts, NumbersStates, shift}
+use Rattle.compiler_positions.specs.Tables.{picked_if, numbers_from}
 use Rattle.compiler_positions.specs.Tables.{copies}
 use Rattle.compiler_positions.specs.Tables.{looping, loop_table}
 use Rattle.compiler_positions.proofs.Lists.{SomeOf-each, map-SomeOf, SomeOf-append, append-SomeOf, SomeOf-flat}
@@ -20,10 +21,11 @@ use Rattle.compiler_positions.proofs.Tables.{EnterIn, AcceptIn}
 module _ (B : Type 0) (t : Table B) (least most : ℕ) (holds : B → ℕ → Bool) (i c : ℕ) where
   looping-Enter : (q : ℕ) (es : List (Edge B)) → EnterIn B holds i q (map (looping t least most c) es)
       → ((y : ℕ) × (c * t.size + y ≡ q) × EnterIn B holds i y es)
-      ⊎ (AcceptIn B holds i es × Has (copies t (c + 1) most) q)
+      ⊎ (AcceptIn B holds i es × HasNumber (copies t (c + 1) most) q)
   looping-Enter q [] h = absurd h
   looping-Enter q (e ∷ es) (inl h) =
-      elim (SomeOf-append (λ x. x ≡ q) (shift (c * t.size) e.enters) (picked e.accepts (copies t (c + 1) most)) h.1) [
+      elim (SomeOf-append (λ x. x ≡ q) (shift (c * t.size) e.enters)
+      (picked_if e.accepts (copies t (c + 1) most)) h.1) [
         | inl a ↦ let x = Has-shift (c * t.size) e.enters q a in inl (x.0, x.1, inl (h.0, x.2))
         | inr a ↦ let p = SomeOf-picked (λ x. x ≡ q) e.accepts (copies t (c + 1) most) a in inr (inl (h.0, p.0), p.1)
       ]
@@ -31,24 +33,24 @@ module _ (B : Type 0) (t : Table B) (least most : ℕ) (holds : B → ℕ → Bo
       elim (looping-Enter q es h) [ inl x ↦ inl (x.0, x.1, inr x.2) | inr x ↦ inr (inr x.0, x.1) ]
 
   Enter-looping : (q : ℕ) (es : List (Edge B)) → ((y : ℕ) × (c * t.size + y ≡ q) × EnterIn B holds i y es)
-      ⊎ (AcceptIn B holds i es × Has (copies t (c + 1) most) q)
+      ⊎ (AcceptIn B holds i es × HasNumber (copies t (c + 1) most) q)
       → EnterIn B holds i q (map (looping t least most c) es)
   Enter-looping q es (inl h) =
-      map-SomeOf (λ e. Fires holds i e × Has e.enters q) (looping t least most c) es
-      (SomeOf-each (λ e. Fires holds i e × Has e.enters h.0)
-      (λ e. Fires holds i e × Has (looping t least most c e).enters q) es
+      map-SomeOf (λ e. Fires holds i e × HasNumber e.enters q) (looping t least most c) es
+      (SomeOf-each (λ e. Fires holds i e × HasNumber e.enters h.0)
+      (λ e. Fires holds i e × HasNumber (looping t least most c e).enters q) es
       (λ e a. (
         a.0,
-        append-SomeOf (λ x. x ≡ q) (shift (c * t.size) e.enters) (picked e.accepts
+        append-SomeOf (λ x. x ≡ q) (shift (c * t.size) e.enters) (picked_if e.accepts
             (copies t (c + 1) most)) (inl (shift-Has (c * t.size) e.enters h.0 q h.1 a.1)),
       )) h.2)
   Enter-looping q es (inr h) =
-      map-SomeOf (λ e. Fires holds i e × Has e.enters q) (looping t least most c) es
+      map-SomeOf (λ e. Fires holds i e × HasNumber e.enters q) (looping t least most c) es
       (SomeOf-each (λ e. Fires holds i e × (e.accepts ≡ true))
-      (λ e. Fires holds i e × Has (looping t least most c e).enters q) es
+      (λ e. Fires holds i e × HasNumber (looping t least most c e).enters q) es
       (λ e a. (
         a.0,
-        append-SomeOf (λ x. x ≡ q) (shift (c * t.size) e.enters) (picked e.accepts
+        append-SomeOf (λ x. x ≡ q) (shift (c * t.size) e.enters) (picked_if e.accepts
             (copies t (c + 1) most)) (inr (picked-SomeOf (λ x. x ≡ q) e.accepts (copies t (c + 1) most) a.1 h.1)),
       )) h.0)
 
@@ -69,9 +71,9 @@ module _ (B : Type 0) (t : Table B) (least most : ℕ) (holds : B → ℕ → Bo
       (λ e. Fires holds i e × ((looping t least most c e).accepts ≡ true)) es
       (λ e a. (a.0, and_from e.accepts (nat_le least most && (nat_le least (c + 1) || t.empty)) a.1 on)) h)
 
-module _ (B : Type 0) (r : Plan B) (least most : ℕ) (t : Table B) (sr : Spells r t) where
+module _ (B : Type 0) (r : Plan B) (least most : ℕ) (t : Table B) (sr : NumbersStates r t) where
   abbrev Turn : Type 0
-  Turn = (c : ℕ) × State r × (c < most)
+  Turn = (c : ℕ) × PlanState r × (c < most)
 
   abbrev loop-number : Turn → ℕ
   loop-number x = x.0 * t.size + sr.number x.1
@@ -104,7 +106,7 @@ module _ (B : Type 0) (r : Plan B) (least most : ℕ) (t : Table B) (sr : Spells
       ]) in
       ((p / t.size, x.0, high), ap (λ k. p / t.size * t.size + k) x.1 ∙ split)
 
-  loop-rises : (holds : B → ℕ → Bool) (x y : Turn) (i : ℕ) → Steps holds (loop r least most) x i y
+  loop-rises : (holds : B → ℕ → Bool) (x y : Turn) (i : ℕ) → StepsTo holds (loop r least most) x i y
       → loop-number x < loop-number y
   loop-rises holds x y i (inl st) =
       let same : x.0 * t.size ≡ y.0 * t.size = ap (λ c. c * t.size) st.0 in
@@ -117,7 +119,8 @@ module _ (B : Type 0) (r : Plan B) (least most : ℕ) (t : Table B) (sr : Spells
   -- the first positions of the copies from one on
   abbrev Copy : ℕ → ℕ → Type 0
   Copy first q =
-      (c : ℕ) × (x : State r) × (first ≤ c) × (c < most) × ((c ≡ first) ⊎ Nullable r) × (c * t.size + sr.number x ≡ q)
+      (c : ℕ) × (x : PlanState r) × (first ≤ c) × (c < most) × ((c ≡ first) ⊎ Nullable r)
+      × (c * t.size + sr.number x ≡ q)
       × First r x
 
   count-copy : (first c : ℕ) → first ≤ c → c < first + (if t.empty then most - first else min 1 (most - first))
@@ -149,13 +152,13 @@ module _ (B : Type 0) (r : Plan B) (least most : ℕ) (t : Table B) (sr : Spells
         ]
   ]
 
-  copies-Copy : (first q : ℕ) → Has (copies t first most) q → Copy first q
+  copies-Copy : (first q : ℕ) → HasNumber (copies t first most) q → Copy first q
   copies-Copy first q h =
       let a =
-      SomeOf-Has (λ c. Has (shift (c * t.size) t.starts) q)
-      (numbers first (if t.empty then most - first else min 1 (most - first)))
+      SomeOf-Has (λ c. HasNumber (shift (c * t.size) t.starts) q)
+      (numbers_from first (if t.empty then most - first else min 1 (most - first)))
       (SomeOf-flat (λ x. x ≡ q) (λ c. shift (c * t.size) t.starts)
-      (numbers first (if t.empty then most - first else min 1 (most - first))) h) in
+      (numbers_from first (if t.empty then most - first else min 1 (most - first))) h) in
       let c : ℕ = a.0 in
       let range = Has-numbers first (if t.empty then most - first else min 1 (most - first)) c a.1 in
       let which = count-copy first c range.0 range.1 in
@@ -163,18 +166,18 @@ module _ (B : Type 0) (r : Plan B) (least most : ℕ) (t : Table B) (sr : Spells
       let x = (sr.starts k.0).0 k.2 in
       (c, x.0, range.0, which.0, which.1, ap (λ n. c * t.size + n) x.1 ∙ k.1, x.2)
 
-  Copy-copies : (first q : ℕ) → Copy first q → Has (copies t first most) q
+  Copy-copies : (first q : ℕ) → Copy first q → HasNumber (copies t first most) q
   Copy-copies first q h =
       flat-SomeOf (λ x. x ≡ q) (λ c. shift (c * t.size) t.starts)
-      (numbers first (if t.empty then most - first else min 1 (most - first)))
-      (Has-SomeOf (λ c. Has (shift (c * t.size) t.starts) q)
-      (numbers first (if t.empty then most - first else min 1 (most - first))) h.0
+      (numbers_from first (if t.empty then most - first else min 1 (most - first)))
+      (Has-SomeOf (λ c. HasNumber (shift (c * t.size) t.starts) q)
+      (numbers_from first (if t.empty then most - first else min 1 (most - first))) h.0
       (numbers-Has first (if t.empty then most - first else min 1 (most - first)) h.0 h.2
       (copy-count first h.0 h.2 h.3 h.4))
       (shift-Has (h.0 * t.size) t.starts (sr.number h.1) q h.5 ((sr.starts (sr.number h.1)).1 (h.1, refl, h.6))))
 
   loop-enters : (holds : B → ℕ → Bool) (x : Turn) (i q : ℕ) → Enters holds (loop_table t least most) (loop-number x) i q
-      ↔ ((y : Turn) × (loop-number y ≡ q) × Steps holds (loop r least most) x i y)
+      ↔ ((y : Turn) × (loop-number y ≡ q) × StepsTo holds (loop r least most) x i y)
   loop-enters holds x i q = (
     λ h. elim
         (looping-Enter B t least most holds i x.0 q (t.row (sr.number x.1))
@@ -190,9 +193,9 @@ module _ (B : Type 0) (r : Plan B) (least most : ℕ) (t : Table B) (sr : Spells
         (Enter-looping B t least most holds i x.0 q (t.row (sr.number x.1)) (fro h.0 h.1 h.2)),
   )
     where
-      fro : (y : Turn) → loop-number y ≡ q → Steps holds (loop r least most) x i y
+      fro : (y : Turn) → loop-number y ≡ q → StepsTo holds (loop r least most) x i y
           → ((k : ℕ) × (x.0 * t.size + k ≡ q) × EnterIn B holds i k (t.row (sr.number x.1)))
-          ⊎ (AcceptIn B holds i (t.row (sr.number x.1)) × Has (copies t (x.0 + 1) most) q)
+          ⊎ (AcceptIn B holds i (t.row (sr.number x.1)) × HasNumber (copies t (x.0 + 1) most) q)
       fro y e (inl st) =
           let same : x.0 * t.size ≡ y.0 * t.size = ap (λ c. c * t.size) st.0 in
           inl (
@@ -232,13 +235,14 @@ module _ (B : Type 0) (r : Plan B) (least most : ℕ) (t : Table B) (sr : Spells
         ]))),
   )
 
-  loop-starts : (q : ℕ) → Has (copies t 0 most) q ↔ ((x : Turn) × (loop-number x ≡ q) × First (loop r least most) x)
+  loop-starts : (q : ℕ) → HasNumber (copies t 0 most) q
+      ↔ ((x : Turn) × (loop-number x ≡ q) × First (loop r least most) x)
   loop-starts q = (
     λ h. let y = copies-Copy 0 q h in ((y.0, y.1, y.3), y.5, (y.3, y.4, y.6)),
     λ h. Copy-copies 0 q (h.0.0, h.0.1, omega arith, h.0.2, h.2.1, h.1, h.2.2),
   )
 
-  pub loop-spells : Spells (loop r least most) (loop_table t least most)
+  pub loop-spells : NumbersStates (loop r least most) (loop_table t least most)
   loop-spells = record {
     number = loop-number;
     below = loop-below;

@@ -6,11 +6,12 @@ use Rattle.std.proofs.Math.Nat.{mul-le-mul_right}
 use Rattle.std.proofs.lemmas.Nat.{div-mul-add, mod-mul-add, div-add-mod'}
 use Rattle.std.proofs.lemmas.Bool.{lt-ltb, le-ltb, cases_lt, cases_eq, and_parts, and_from}
 use Rattle.compiler_positions.specs.Plans.{Plan, all}
-use Rattle.compiler_positions.specs.States.{State, First, Ends, Steps}
+use Rattle.compiler_positions.specs.States.{PlanState, First, Ends, StepsTo}
 use Rattle.std.specs.List.{flat_map}
-use Rattle.compiler_positions.specs.Tables.{Edge, Table, SomeOf, Has, Fires, Enters, Accepts, Spells, shift, shifted}
-use Rattle.compiler_positions.specs.Tables.{picked}
-use Rattle.compiler_positions.specs.Tables.{products, paired, all_table}
+use Rattle.compiler_positions.specs.Tables.{Edge, Table, SomeOf, HasNumber, Fires, Enters, Accepts, NumbersStates}
+use Rattle.compiler_positions.specs.Tables.{shift, shifted_edge}
+use Rattle.compiler_positions.specs.Tables.{picked_if}
+use Rattle.compiler_positions.specs.Tables.{products, paired_edges, all_table}
 use Rattle.compiler_positions.proofs.Lists.{SomeOf-each, map-SomeOf, SomeOf-append, append-SomeOf, SomeOf-flat}
 use Rattle.compiler_positions.proofs.Lists.{flat-SomeOf}
 use Rattle.compiler_positions.proofs.Lists.{SomeOf-picked, picked-SomeOf, SomeOf-Has, Has-SomeOf, Has-shift, shift-Has}
@@ -18,19 +19,19 @@ use Rattle.compiler_positions.proofs.Lists.{EachOf-append, append-EachOf}
 use Rattle.compiler_positions.proofs.Tables.{EnterIn, AcceptIn, shifted-Enter, Enter-shifted, shifted-Accept}
 use Rattle.compiler_positions.proofs.Tables.{Accept-shifted}
 
-pub Has-products : (size : ℕ) (xs ys : List ℕ) (q : ℕ) → Has (products size xs ys) q → (x : ℕ) × (y : ℕ)
-    × (x * size + y ≡ q) × Has xs x × Has ys y
+pub Has-products : (size : ℕ) (xs ys : List ℕ) (q : ℕ) → HasNumber (products size xs ys) q → (x : ℕ) × (y : ℕ)
+    × (x * size + y ≡ q) × HasNumber xs x × HasNumber ys y
 Has-products size xs ys q h =
     let a =
-    SomeOf-Has (λ x. Has (shift (x * size) ys) q) xs (SomeOf-flat (λ z. z ≡ q) (λ x. shift (x * size) ys) xs h) in
+    SomeOf-Has (λ x. HasNumber (shift (x * size) ys) q) xs (SomeOf-flat (λ z. z ≡ q) (λ x. shift (x * size) ys) xs h) in
     let b = Has-shift (a.0 * size) ys q a.2 in
     (a.0, b.0, b.1, a.1, b.2)
 
-pub products-Has : (size : ℕ) (xs ys : List ℕ) (x y q : ℕ) → x * size + y ≡ q → Has xs x → Has ys y
-    → Has (products size xs ys) q
+pub products-Has : (size : ℕ) (xs ys : List ℕ) (x y q : ℕ) → x * size + y ≡ q → HasNumber xs x → HasNumber ys y
+    → HasNumber (products size xs ys) q
 products-Has size xs ys x y q e hx hy =
     flat-SomeOf (λ z. z ≡ q) (λ x. shift (x * size) ys) xs
-    (Has-SomeOf (λ x. Has (shift (x * size) ys) q) xs x hx (shift-Has (x * size) ys y q e hy))
+    (Has-SomeOf (λ x. HasNumber (shift (x * size) ys) q) xs x hx (shift-Has (x * size) ys y q e hy))
 
 module _ (B : Type 0) (t u : Table B) (holds : B → ℕ → Bool) (i : ℕ) where
   abbrev Enter : ℕ → List (Edge B) → Type 0
@@ -40,27 +41,27 @@ module _ (B : Type 0) (t u : Table B) (holds : B → ℕ → Bool) (i : ℕ) whe
   Accept = AcceptIn B holds i
 
   abbrev pub pair_rows : List (Edge B) → List (Edge B) → List (Edge B)
-  pair_rows es fs = flat_map (λ e. map (paired t u e) fs) es
+  pair_rows es fs = flat_map (λ e. map (paired_edges t u e) fs) es
 
   -- what an edge with one of these leads to
   abbrev Beside : ℕ → Edge B → List (Edge B) → Type 0
   Beside q e fs =
       Fires holds i e
-      × (((x : ℕ) × (y : ℕ) × (x * u.size + y ≡ q) × Has e.enters x × Enter y fs)
-      ⊎ (((x : ℕ) × (t.size * u.size + x ≡ q) × Has e.enters x × Accept fs)
+      × (((x : ℕ) × (y : ℕ) × (x * u.size + y ≡ q) × HasNumber e.enters x × Enter y fs)
+      ⊎ (((x : ℕ) × (t.size * u.size + x ≡ q) × HasNumber e.enters x × Accept fs)
       ⊎ ((y : ℕ) × (t.size * u.size + t.size + y ≡ q) × (e.accepts ≡ true) × Enter y fs)))
 
-  paired-Beside : (q : ℕ) (e : Edge B) (fs : List (Edge B)) → Enter q (map (paired t u e) fs) → Beside q e fs
+  paired-Beside : (q : ℕ) (e : Edge B) (fs : List (Edge B)) → Enter q (map (paired_edges t u e) fs) → Beside q e fs
   paired-Beside q e [] h = absurd h
   paired-Beside q e (f ∷ fs) (inl h) =
       let p = EachOf-append (λ b. IsTrue (holds b i)) e.wanted f.wanted h.0 in
       elim (SomeOf-append (λ z. z ≡ q) (products u.size e.enters f.enters)
-      (picked f.accepts (shift (t.size * u.size) e.enters) ++ picked e.accepts
+      (picked_if f.accepts (shift (t.size * u.size) e.enters) ++ picked_if e.accepts
       (shift (t.size * u.size + t.size) f.enters)) h.1) [
         | inl a ↦ let k = Has-products u.size e.enters f.enters q a in (p.0, inl (k.0, k.1, k.2, k.3, inl (p.1, k.4)))
         | inr a ↦
-            elim (SomeOf-append (λ z. z ≡ q) (picked f.accepts (shift (t.size * u.size) e.enters))
-            (picked e.accepts (shift (t.size * u.size + t.size) f.enters)) a) [
+            elim (SomeOf-append (λ z. z ≡ q) (picked_if f.accepts (shift (t.size * u.size) e.enters))
+            (picked_if e.accepts (shift (t.size * u.size + t.size) f.enters)) a) [
               | inl b ↦
                   let k = SomeOf-picked (λ z. z ≡ q) f.accepts (shift (t.size * u.size) e.enters) b in
                   let x = Has-shift (t.size * u.size) e.enters q k.1 in
@@ -90,7 +91,8 @@ module _ (B : Type 0) (t u : Table B) (holds : B → ℕ → Bool) (i : ℕ) whe
   pub pair-Enter : (q : ℕ) (es fs : List (Edge B)) → Enter q (pair_rows es fs) → Pairing q es fs
   pair-Enter q [] fs h = absurd h
   pair-Enter q (e ∷ es) fs h =
-      elim (SomeOf-append (λ e. Fires holds i e × Has e.enters q) (map (paired t u e) fs) (pair_rows es fs) h) [
+      elim (SomeOf-append (λ e. Fires holds i e × HasNumber e.enters q) (map (paired_edges t u e) fs)
+      (pair_rows es fs) h) [
         | inl a ↦
             let b = paired-Beside q e fs a in
             elim b.1 [
@@ -107,56 +109,57 @@ module _ (B : Type 0) (t u : Table B) (holds : B → ℕ → Bool) (i : ℕ) whe
       ]
 
   -- an edge beside each of these
-  pair-each : (P Q R : Edge B → Type 0) (es fs : List (Edge B)) → ((e f : Edge B) → P e → Q f → R (paired t u e f))
+  pair-each : (P Q R : Edge B → Type 0) (es fs : List (Edge B))
+      → ((e f : Edge B) → P e → Q f → R (paired_edges t u e f))
       → SomeOf P es → SomeOf Q fs → SomeOf R (pair_rows es fs)
   pair-each P Q R es fs each hp hq =
-      flat-SomeOf R (λ e. map (paired t u e) fs) es
-      (SomeOf-each P (λ e. SomeOf R (map (paired t u e) fs)) es
-      (λ e p. map-SomeOf R (paired t u e) fs
-      (SomeOf-each Q (λ f. R (paired t u e f)) fs (λ f q. each e f p q) hq)) hp)
+      flat-SomeOf R (λ e. map (paired_edges t u e) fs) es
+      (SomeOf-each P (λ e. SomeOf R (map (paired_edges t u e) fs)) es
+      (λ e p. map-SomeOf R (paired_edges t u e) fs
+      (SomeOf-each Q (λ f. R (paired_edges t u e f)) fs (λ f q. each e f p q) hq)) hp)
 
   pub Enter-pair : (q : ℕ) (es fs : List (Edge B)) → Pairing q es fs → Enter q (pair_rows es fs)
   Enter-pair q es fs (inl h) =
-      pair-each (λ e. Fires holds i e × Has e.enters h.0) (λ f. Fires holds i f × Has f.enters h.1)
-      (λ e. Fires holds i e × Has e.enters q) es fs
+      pair-each (λ e. Fires holds i e × HasNumber e.enters h.0) (λ f. Fires holds i f × HasNumber f.enters h.1)
+      (λ e. Fires holds i e × HasNumber e.enters q) es fs
       (λ e f a b. (
         append-EachOf (λ b. IsTrue (holds b i)) e.wanted f.wanted a.0 b.0,
         append-SomeOf (λ z. z ≡ q) (products u.size e.enters f.enters)
-            (picked f.accepts (shift (t.size * u.size) e.enters) ++ picked e.accepts
+            (picked_if f.accepts (shift (t.size * u.size) e.enters) ++ picked_if e.accepts
             (shift (t.size * u.size + t.size) f.enters))
             (inl (products-Has u.size e.enters f.enters h.0 h.1 q h.2 a.1 b.1)),
       ))
       h.3 h.4
   Enter-pair q es fs (inr (inl h)) =
-      pair-each (λ e. Fires holds i e × Has e.enters h.0) (λ f. Fires holds i f × (f.accepts ≡ true))
-      (λ e. Fires holds i e × Has e.enters q) es fs
+      pair-each (λ e. Fires holds i e × HasNumber e.enters h.0) (λ f. Fires holds i f × (f.accepts ≡ true))
+      (λ e. Fires holds i e × HasNumber e.enters q) es fs
       (λ e f a b. (
         append-EachOf (λ b. IsTrue (holds b i)) e.wanted f.wanted a.0 b.0,
         append-SomeOf (λ z. z ≡ q) (products u.size e.enters f.enters)
-            (picked f.accepts (shift (t.size * u.size) e.enters) ++ picked e.accepts
+            (picked_if f.accepts (shift (t.size * u.size) e.enters) ++ picked_if e.accepts
             (shift (t.size * u.size + t.size) f.enters))
-            (inr (append-SomeOf (λ z. z ≡ q) (picked f.accepts (shift (t.size * u.size) e.enters))
-            (picked e.accepts (shift (t.size * u.size + t.size) f.enters))
+            (inr (append-SomeOf (λ z. z ≡ q) (picked_if f.accepts (shift (t.size * u.size) e.enters))
+            (picked_if e.accepts (shift (t.size * u.size + t.size) f.enters))
             (inl (picked-SomeOf (λ z. z ≡ q) f.accepts (shift (t.size * u.size) e.enters) b.1
             (shift-Has (t.size * u.size) e.enters h.0 q h.1 a.1))))),
       ))
       h.2 h.3
   Enter-pair q es fs (inr (inr h)) =
-      pair-each (λ e. Fires holds i e × (e.accepts ≡ true)) (λ f. Fires holds i f × Has f.enters h.0)
-      (λ e. Fires holds i e × Has e.enters q) es fs
+      pair-each (λ e. Fires holds i e × (e.accepts ≡ true)) (λ f. Fires holds i f × HasNumber f.enters h.0)
+      (λ e. Fires holds i e × HasNumber e.enters q) es fs
       (λ e f a b. (
         append-EachOf (λ b. IsTrue (holds b i)) e.wanted f.wanted a.0 b.0,
         append-SomeOf (λ z. z ≡ q) (products u.size e.enters f.enters)
-            (picked f.accepts (shift (t.size * u.size) e.enters) ++ picked e.accepts
+            (picked_if f.accepts (shift (t.size * u.size) e.enters) ++ picked_if e.accepts
             (shift (t.size * u.size + t.size) f.enters))
-            (inr (append-SomeOf (λ z. z ≡ q) (picked f.accepts (shift (t.size * u.size) e.enters))
-            (picked e.accepts (shift (t.size * u.size + t.size) f.enters))
+            (inr (append-SomeOf (λ z. z ≡ q) (picked_if f.accepts (shift (t.size * u.size) e.enters))
+            (picked_if e.accepts (shift (t.size * u.size + t.size) f.enters))
             (inr (picked-SomeOf (λ z. z ≡ q) e.accepts (shift (t.size * u.size + t.size) f.enters) a.1
             (shift-Has (t.size * u.size + t.size) f.enters h.0 q h.1 b.1))))),
       ))
       h.2 h.3
 
-  paired-Accept : (e : Edge B) (fs : List (Edge B)) → Accept (map (paired t u e) fs)
+  paired-Accept : (e : Edge B) (fs : List (Edge B)) → Accept (map (paired_edges t u e) fs)
       → (Fires holds i e × (e.accepts ≡ true)) × Accept fs
   paired-Accept e [] h = absurd h
   paired-Accept e (f ∷ fs) (inl h) =
@@ -168,7 +171,8 @@ module _ (B : Type 0) (t u : Table B) (holds : B → ℕ → Bool) (i : ℕ) whe
   pub pair-Accept : (es fs : List (Edge B)) → Accept (pair_rows es fs) → Accept es × Accept fs
   pair-Accept [] fs h = absurd h
   pair-Accept (e ∷ es) fs h =
-      elim (SomeOf-append (λ e. Fires holds i e × (e.accepts ≡ true)) (map (paired t u e) fs) (pair_rows es fs) h) [
+      elim (SomeOf-append (λ e. Fires holds i e × (e.accepts ≡ true)) (map (paired_edges t u e) fs)
+      (pair_rows es fs) h) [
         | inl a ↦ let b = paired-Accept e fs a in (inl b.0, b.1)
         | inr a ↦ let b = pair-Accept es fs a in (inr b.0, b.1)
       ]
@@ -181,9 +185,9 @@ module _ (B : Type 0) (t u : Table B) (holds : B → ℕ → Bool) (i : ℕ) whe
       (append-EachOf (λ b. IsTrue (holds b i)) e.wanted f.wanted a.0 b.0, and_from e.accepts f.accepts a.1 b.1))
       he hf
 
-module _ (B : Type 0) (r s : Plan B) (t u : Table B) (sr : Spells r t) (ss : Spells s u) where
+module _ (B : Type 0) (r s : Plan B) (t u : Table B) (sr : NumbersStates r t) (ss : NumbersStates s u) where
   abbrev Both : Type 0
-  Both = (State r × State s) ⊎ (State r ⊎ State s)
+  Both = (PlanState r × PlanState s) ⊎ (PlanState r ⊎ PlanState s)
 
   abbrev grid : ℕ
   grid = t.size * u.size
@@ -203,21 +207,21 @@ module _ (B : Type 0) (r s : Plan B) (t u : Table B) (sr : Spells r t) (ss : Spe
       ≡ pair_rows B t u (λ b k. true) 0 (t.row x) (u.row y)
   pairs x y bx by =
       rw (lt-ltb (x * u.size + y) grid (in-grid x y bx by))
-      (ap (λ k. flat_map (λ e. map (paired t u e) (u.row k)) (t.row ((x * u.size + y) / u.size)))
+      (ap (λ k. flat_map (λ e. map (paired_edges t u e) (u.row k)) (t.row ((x * u.size + y) / u.size)))
       (mod-mul-add x u.size y by)
-      ∙ ap (λ k. flat_map (λ e. map (paired t u e) (u.row y)) (t.row k)) (div-mul-add x u.size y by))
+      ∙ ap (λ k. flat_map (λ e. map (paired_edges t u e) (u.row y)) (t.row k)) (div-mul-add x u.size y by))
 
-  alone : (x : ℕ) → x < t.size → (all_table t u).row (grid + x) ≡ map (shifted grid) (t.row x)
+  alone : (x : ℕ) → x < t.size → (all_table t u).row (grid + x) ≡ map (shifted_edge grid) (t.row x)
   alone x bx =
       let e : grid + x - grid ≡ x = omega arith in
       rw (le-ltb (grid + x) grid (omega arith), lt-ltb (grid + x) (grid + t.size) (omega arith))
-      (ap (λ p. map (shifted grid) (t.row p)) e)
+      (ap (λ p. map (shifted_edge grid) (t.row p)) e)
 
-  alone' : (y : ℕ) → (all_table t u).row (grid + t.size + y) ≡ map (shifted (grid + t.size)) (u.row y)
+  alone' : (y : ℕ) → (all_table t u).row (grid + t.size + y) ≡ map (shifted_edge (grid + t.size)) (u.row y)
   alone' y =
       let e : grid + t.size + y - (grid + t.size) ≡ y = omega arith in
       rw (le-ltb (grid + t.size + y) grid (omega arith), le-ltb (grid + t.size + y) (grid + t.size) (omega arith))
-      (ap (λ p. map (shifted (grid + t.size)) (u.row p)) e)
+      (ap (λ p. map (shifted_edge (grid + t.size)) (u.row p)) e)
 
   all-below : (x : Both) → all-number x < grid + t.size + u.size
   unfolding all-number
@@ -250,7 +254,7 @@ module _ (B : Type 0) (r s : Plan B) (t u : Table B) (sr : Spells r t) (ss : Spe
     ]
   ]
 
-  all-rises : (holds : B → ℕ → Bool) (x y : Both) (i : ℕ) → Steps holds (all r s) x i y → all-number x < all-number y
+  all-rises : (holds : B → ℕ → Bool) (x y : Both) (i : ℕ) → StepsTo holds (all r s) x i y → all-number x < all-number y
   unfolding all-number
   all-rises holds (inl x) (inl y) i st =
       let up = sr.rises holds x.0 y.0 i st.0 in
@@ -269,7 +273,7 @@ module _ (B : Type 0) (r s : Plan B) (t u : Table B) (sr : Spells r t) (ss : Spe
   all-rises holds (inr (inr x)) (inr (inr y)) i st = omega (arith, ss.rises holds x y i st)
 
   abbrev NextOf : (B → ℕ → Bool) → Both → ℕ → ℕ → Type 0
-  NextOf holds x i q = (y : Both) × (all-number y ≡ q) × Steps holds (all r s) x i y
+  NextOf holds x i q = (y : Both) × (all-number y ≡ q) × StepsTo holds (all r s) x i y
 
   all-enters : (holds : B → ℕ → Bool) (x : Both) (i q : ℕ) → Enters holds (all_table t u) (all-number x) i q
       ↔ NextOf holds x i q
@@ -323,7 +327,7 @@ module _ (B : Type 0) (r s : Plan B) (t u : Table B) (sr : Spells r t) (ss : Spe
     λ h. subst (EnterIn B holds i q) (sym (alone (sr.number x) (sr.below x))) (fro h),
   )
     where
-      fro : NextOf holds (inr (inl x)) i q → EnterIn B holds i q (map (shifted grid) (t.row (sr.number x)))
+      fro : NextOf holds (inr (inl x)) i q → EnterIn B holds i q (map (shifted_edge grid) (t.row (sr.number x)))
       fro (inl y, e, st) = absurd st
       fro (inr (inl y), e, st) =
           Enter-shifted B holds i grid q (sr.number y) (t.row (sr.number x)) e
@@ -339,7 +343,8 @@ module _ (B : Type 0) (r s : Plan B) (t u : Table B) (sr : Spells r t) (ss : Spe
     λ h. subst (EnterIn B holds i q) (sym (alone' (ss.number x))) (fro h),
   )
     where
-      fro : NextOf holds (inr (inr x)) i q → EnterIn B holds i q (map (shifted (grid + t.size)) (u.row (ss.number x)))
+      fro : NextOf holds (inr (inr x)) i q
+          → EnterIn B holds i q (map (shifted_edge (grid + t.size)) (u.row (ss.number x)))
       fro (inl y, e, st) = absurd st
       fro (inr (inl y), e, st) = absurd st
       fro (inr (inr y), e, st) =
@@ -374,12 +379,12 @@ module _ (B : Type 0) (r s : Plan B) (t u : Table B) (sr : Spells r t) (ss : Spe
         (Accept-shifted B holds i (grid + t.size) (u.row (ss.number x)) ((ss.accepts holds x i).1 h)),
   )
 
-  all-starts : (q : ℕ) → Has (all_table t u).starts q ↔ ((x : Both) × (all-number x ≡ q) × First (all r s) x)
+  all-starts : (q : ℕ) → HasNumber (all_table t u).starts q ↔ ((x : Both) × (all-number x ≡ q) × First (all r s) x)
   unfolding all-number
   all-starts q = (
     λ h. elim
         (SomeOf-append (λ z. z ≡ q) (products u.size t.starts u.starts)
-        (picked u.empty (shift grid t.starts) ++ picked t.empty (shift (grid + t.size) u.starts)) h) [
+        (picked_if u.empty (shift grid t.starts) ++ picked_if t.empty (shift (grid + t.size) u.starts)) h) [
           | inl a ↦
               let k = Has-products u.size t.starts u.starts q a in
               let x = (sr.starts k.0).0 k.3 in
@@ -389,8 +394,8 @@ module _ (B : Type 0) (r s : Plan B) (t u : Table B) (sr : Spells r t) (ss : Spe
                 (x.2, y.2),
               )
           | inr a ↦
-              elim (SomeOf-append (λ z. z ≡ q) (picked u.empty (shift grid t.starts))
-              (picked t.empty (shift (grid + t.size) u.starts)) a) [
+              elim (SomeOf-append (λ z. z ≡ q) (picked_if u.empty (shift grid t.starts))
+              (picked_if t.empty (shift (grid + t.size) u.starts)) a) [
                 | inl b ↦
                     let p = SomeOf-picked (λ z. z ≡ q) u.empty (shift grid t.starts) b in
                     let k = Has-shift grid t.starts q p.1 in
@@ -406,28 +411,28 @@ module _ (B : Type 0) (r s : Plan B) (t u : Table B) (sr : Spells r t) (ss : Spe
     fro,
   )
     where
-      fro : ((x : Both) × (all-number x ≡ q) × First (all r s) x) → Has (all_table t u).starts q
+      fro : ((x : Both) × (all-number x ≡ q) × First (all r s) x) → HasNumber (all_table t u).starts q
       fro (inl x, e, f) =
           append-SomeOf (λ z. z ≡ q) (products u.size t.starts u.starts)
-          (picked u.empty (shift grid t.starts) ++ picked t.empty (shift (grid + t.size) u.starts))
+          (picked_if u.empty (shift grid t.starts) ++ picked_if t.empty (shift (grid + t.size) u.starts))
           (inl (products-Has u.size t.starts u.starts (sr.number x.0) (ss.number x.1) q e
           ((sr.starts (sr.number x.0)).1 (x.0, refl, f.0)) ((ss.starts (ss.number x.1)).1 (x.1, refl, f.1))))
       fro (inr (inl x), e, f) =
           append-SomeOf (λ z. z ≡ q) (products u.size t.starts u.starts)
-          (picked u.empty (shift grid t.starts) ++ picked t.empty (shift (grid + t.size) u.starts))
-          (inr (append-SomeOf (λ z. z ≡ q) (picked u.empty (shift grid t.starts))
-          (picked t.empty (shift (grid + t.size) u.starts))
+          (picked_if u.empty (shift grid t.starts) ++ picked_if t.empty (shift (grid + t.size) u.starts))
+          (inr (append-SomeOf (λ z. z ≡ q) (picked_if u.empty (shift grid t.starts))
+          (picked_if t.empty (shift (grid + t.size) u.starts))
           (inl (picked-SomeOf (λ z. z ≡ q) u.empty (shift grid t.starts) (ss.empty.1 f.1)
           (shift-Has grid t.starts (sr.number x) q e ((sr.starts (sr.number x)).1 (x, refl, f.0)))))))
       fro (inr (inr y), e, f) =
           append-SomeOf (λ z. z ≡ q) (products u.size t.starts u.starts)
-          (picked u.empty (shift grid t.starts) ++ picked t.empty (shift (grid + t.size) u.starts))
-          (inr (append-SomeOf (λ z. z ≡ q) (picked u.empty (shift grid t.starts))
-          (picked t.empty (shift (grid + t.size) u.starts))
+          (picked_if u.empty (shift grid t.starts) ++ picked_if t.empty (shift (grid + t.size) u.starts))
+          (inr (append-SomeOf (λ z. z ≡ q) (picked_if u.empty (shift grid t.starts))
+          (picked_if t.empty (shift (grid + t.size) u.starts))
           (inr (picked-SomeOf (λ z. z ≡ q) t.empty (shift (grid + t.size) u.starts) (sr.empty.1 f.0)
           (shift-Has (grid + t.size) u.starts (ss.number y) q e ((ss.starts (ss.number y)).1 (y, refl, f.1)))))))
 
-  pub all-spells : Spells (all r s) (all_table t u)
+  pub all-spells : NumbersStates (all r s) (all_table t u)
   all-spells = record {
     number = all-number;
     below = all-below;

@@ -16,14 +16,16 @@ use Rattle.assertions.specs.Written.{IsOrdered}
 use Rattle.assertions.specs.Emptiness.{admits_empty}
 use Rattle.compiler_positions.specs.Plans.{Plan, tick, skip, any, all, pair, under, loop, link, apart, moving, weighs}
 use Rattle.compiler_positions.specs.Plans.{plan}
-use Rattle.compiler_positions.specs.Living.{is_kept, sifted}
-use Rattle.compiler_positions.specs.States.{State, First}
-use Rattle.compiler_positions.specs.Tables.{Edge, Table, SomeOf, EachOf, Has, Fires, IsRising, table_of, tick_table}
+use Rattle.compiler_positions.specs.Living.{is_position_kept, sifted}
+use Rattle.compiler_positions.specs.States.{PlanState, First}
+use Rattle.compiler_positions.specs.Tables.{Edge, Table, SomeOf, EachOf, HasNumber, Fires, IsRising, plan_table}
+use Rattle.compiler_positions.specs.Tables.{tick_table}
 use Rattle.compiler_positions.specs.Tables.{loop_table}
 use Rattle.compiler_positions.specs.Tables.{shift}
-use Rattle.compiler_positions.specs.Sections.{edge_size, numbered, coded, rows_of}
+use Rattle.compiler_positions.specs.Sections.{edge_size, numbered_edge, coded, rows_from}
 use Rattle.compiler_positions.specs.Sequences.{atom_of, listed_for, kept_for, at_least_own}
-use Rattle.compiler_positions.specs.Rows.{TableData, IsPlaced, listed, edges_size, rows_size, row_at, joined_data}
+use Rattle.compiler_positions.specs.Rows.{TableData, IsClosedTable, listed, edges_size, rows_size, edges_at}
+use Rattle.compiler_positions.specs.Rows.{joined_data}
 use Rattle.compiler_positions.specs.Rows.{fused_data}
 use Rattle.compiler_positions.specs.Rows.{still_data, tick_data, either_data, during_data, link_data, repeat_data}
 use Rattle.compiler_positions.specs.Rows.{both_data}
@@ -40,7 +42,7 @@ use Rattle.compiler_positions.proofs.ListedLaws.{listed-all, listed-pair}
 
 -- rising tables are placed
 
-Has-EachOf : (P : ℕ → Type 0) (qs : List ℕ) → ((q : ℕ) → Has qs q → P q) → EachOf P qs
+Has-EachOf : (P : ℕ → Type 0) (qs : List ℕ) → ((q : ℕ) → HasNumber qs q → P q) → EachOf P qs
 Has-EachOf P [] each = tt
 Has-EachOf P (q ∷ qs) each = (each q (inl refl), Has-EachOf P qs (λ p has. each p (inr has)))
 
@@ -48,18 +50,18 @@ module _ (B : Type 0) (atom : B → Option ℕ) (t : Table B) (up : IsRising t) 
   abbrev Near : List (Edge ℕ) → Type 0
   Near row = EachOf (λ (e : Edge ℕ). EachOf (λ q. q < t.size) e.enters) row
 
-  row-near : (es : List (Edge B)) → ((q : ℕ) → SomeOf (λ (e : Edge B). Has e.enters q) es → q < t.size)
-      → Near (map (numbered atom) es)
+  row-near : (es : List (Edge B)) → ((q : ℕ) → SomeOf (λ (e : Edge B). HasNumber e.enters q) es → q < t.size)
+      → Near (map (numbered_edge atom) es)
   row-near [] each = tt
   row-near (e ∷ es) each =
       (Has-EachOf (λ q. q < t.size) e.enters (λ q has. each q (inl has)), row-near es (λ q has. each q (inr has)))
 
-  rows-near : (p n : ℕ) → p + n ≤ t.size → EachOf Near (rows_of (coded atom t) p n)
+  rows-near : (p n : ℕ) → p + n ≤ t.size → EachOf Near (rows_from (coded atom t) p n)
   rows-near p zero within = tt
   rows-near p (suc n) within =
       (row-near (t.row p) (λ q has. (up.enters p q (omega arith) has).1), rows-near (p + 1) n (omega arith))
 
-  pub placed : t.size ≤ 127 → IsPlaced (listed atom t)
+  pub placed : t.size ≤ 127 → IsClosedTable (listed atom t)
   placed few =
       let count : length (listed atom t).rows ≡ t.size = rows_of-length (coded atom t) 0 t.size in
       record {
@@ -72,15 +74,15 @@ module _ (B : Type 0) (atom : B → Option ℕ) (t : Table B) (up : IsRising t) 
       }
 
   -- a start with an edge that leads on
-  starts-some : (q : ℕ) → Has t.starts q → 1 ≤ length t.starts
+  starts-some : (q : ℕ) → HasNumber t.starts q → 1 ≤ length t.starts
   starts-some q has = some t.starts has
     where
-      some : (qs : List ℕ) → Has qs q → 1 ≤ length qs
+      some : (qs : List ℕ) → HasNumber qs q → 1 ≤ length qs
       some [] h = absurd h
       some (x ∷ xs) h = omega arith
 
 abbrev table_for : Written Boolean → Table Boolean
-table_for w = table_of (plan One w)
+table_for w = plan_table (plan One w)
 
 rises : (w : Written Boolean) → IsRising (table_for w)
 rises w = rising Boolean (plan One w) (table_for w) (spelling Boolean (plan One w))
@@ -93,7 +95,7 @@ abbrev L : Written Boolean → TableData
 L w = listed_for w
 
 -- where no match takes a tick
-still-moving : (t e : Bool) (p : Plan Boolean) → t ≡ false → listed atom_of (table_of (moving t e p)) ≡ still_data e
+still-moving : (t e : Bool) (p : Plan Boolean) → t ≡ false → listed atom_of (plan_table (moving t e p)) ≡ still_data e
 still-moving true e p is = cc
 still-moving false true p is = refl
 still-moving false false p is = refl
@@ -118,7 +120,7 @@ still-for (intersect r s) still =
 still-for (throughout b r) still =
     still-moving (weighs (throughout b r)) (admits_empty (throughout b r)) (under b (plan One r)) still
 
-pub placed-for : (w : Written Boolean) → IsOrdered w → weight w ≤ 127 → IsPlaced (L w)
+pub placed-for : (w : Written Boolean) → IsOrdered w → weight w ≤ 127 → IsClosedTable (L w)
 placed-for w ordered bound =
     placed Boolean atom_of (table_for w) (rises w) (omega (arith, size-weight One w ordered, bound))
 
@@ -126,11 +128,11 @@ placed-for w ordered bound =
 pub kept-for : (w : Written Boolean) → listed atom_of (sifted (table_for w)) ≡ kept_for w
 kept-for w = listed-sifted Boolean atom_of (table_for w)
 
-pub kept-placed : (w : Written Boolean) → IsOrdered w → weight w ≤ 127 → IsPlaced (kept_for w)
+pub kept-placed : (w : Written Boolean) → IsOrdered w → weight w ≤ 127 → IsClosedTable (kept_for w)
 kept-placed w ordered bound =
-    subst IsPlaced (kept-for w)
+    subst IsClosedTable (kept-for w)
     (placed Boolean atom_of (sifted (table_for w)) (sifted-rising Boolean (table_for w) (rises w))
-    (omega (arith, rank-few (is_kept (table_for w)) (table_for w).size, size-weight One w ordered, bound)))
+    (omega (arith, rank-few (is_position_kept (table_for w)) (table_for w).size, size-weight One w ordered, bound)))
 
 pub length-for : (w : Written Boolean) → IsOrdered w → length (L w).rows ≤ weight w
 length-for w ordered =
@@ -140,27 +142,27 @@ length-for w ordered =
 
 pub made-or : (r s : Written Boolean) → IsTrue (weighs (or r s)) → L (or r s) ≡ either_data (L r) (L s)
 made-or r s takes =
-    ap (λ p. listed atom_of (table_of p))
+    ap (λ p. listed atom_of (plan_table p))
     (moving-true (weighs (or r s)) (admits_empty (or r s)) (any (plan One r) (plan One s)) takes)
     ∙ listed-any Boolean atom_of (table_for r) (table_for s)
 
 pub made-and : (r s : Written Boolean) → IsTrue (weighs (and r s)) → L (and r s) ≡ both_data (L r) (L s)
 made-and r s takes =
-    ap (λ p. listed atom_of (table_of p))
+    ap (λ p. listed atom_of (plan_table p))
     (moving-true (weighs (and r s)) (admits_empty (and r s)) (all (plan One r) (plan One s)) takes)
     ∙ listed-all Boolean atom_of (table_for r) (table_for s)
 
 pub made-intersect : (r s : Written Boolean) → IsTrue (weighs (intersect r s)) → L (intersect r s)
     ≡ pair_data (L r) (L s)
 made-intersect r s takes =
-    ap (λ p. listed atom_of (table_of p))
+    ap (λ p. listed atom_of (plan_table p))
     (moving-true (weighs (intersect r s)) (admits_empty (intersect r s)) (pair (plan One r) (plan One s)) takes)
     ∙ listed-pair Boolean atom_of (table_for r) (table_for s)
 
 pub made-repeat : (r : Written Boolean) (least most : ℕ) → IsTrue (weighs (repeat r least most))
     → L (repeat r least most) ≡ repeat_data (L r) least most
 made-repeat r least most takes =
-    ap (λ p. listed atom_of (table_of p))
+    ap (λ p. listed atom_of (plan_table p))
     (moving-true (weighs (repeat r least most)) (admits_empty (repeat r least most))
     (loop (plan One r) least most) takes)
     ∙ listed-loop Boolean atom_of (table_for r) least most
@@ -168,7 +170,7 @@ made-repeat r least most takes =
 pub made-throughout : (b : Boolean) (r : Written Boolean) → IsTrue (weighs (throughout b r)) → L (throughout b r)
     ≡ during_data (atom_of b) (L r)
 made-throughout b r takes =
-    ap (λ p. listed atom_of (table_of p))
+    ap (λ p. listed atom_of (plan_table p))
     (moving-true (weighs (throughout b r)) (admits_empty (throughout b r)) (under b (plan One r)) takes)
     ∙ listed-under Boolean atom_of b (table_for r)
 
@@ -179,10 +181,10 @@ made-ticks least most = listed-loop Boolean atom_of (tick_table One) least most
 pub made-lead : (s : Written Boolean) (least most : ℕ) → IsTrue (weighs (lead least most s))
     → L (lead least most s) ≡ lead_in_data least most (L s)
 made-lead s least most takes =
-    ap (λ p. listed atom_of (table_of p))
+    ap (λ p. listed atom_of (plan_table p))
     (moving-true (weighs (lead least most s)) (admits_empty (lead least most s))
     (link false true (loop (tick One) least most) skip (plan One s)) takes)
-    ∙ listed-link Boolean atom_of false true (loop_table (tick_table One) least most) (table_of {B = Boolean} skip)
+    ∙ listed-link Boolean atom_of false true (loop_table (tick_table One) least most) (plan_table {B = Boolean} skip)
     (table_for s) (rises s)
     ∙ ap (λ t. link_data false true t (still_data true) (L s)) (made-ticks least most)
 
@@ -194,38 +196,39 @@ gap-some : (least most : ℕ) → gap_data least (suc most) ≡ repeat_data (tic
 gap-some least most =
     ap (λ b. if b then still_data true else repeat_data (tick_data None) (least - 1) (suc most - 1)) (never-zero most)
 
-made-apart : (p q : Plan Boolean) (least most : ℕ) → least ≤ most → IsRising (table_of q) →
-    listed atom_of (table_of (apart One p q least most)) ≡ apart_data (listed atom_of (table_of p))
-    (listed atom_of (table_of q)) least most
+made-apart : (p q : Plan Boolean) (least most : ℕ) → least ≤ most → IsRising (plan_table q) →
+    listed atom_of (plan_table (apart One p q least most)) ≡ apart_data (listed atom_of (plan_table p))
+    (listed atom_of (plan_table q)) least most
 made-apart p q zero zero le up =
-    listed-link Boolean atom_of true false (table_of p) (table_of {B = Boolean} skip) (table_of q) up
+    listed-link Boolean atom_of true false (plan_table p) (plan_table {B = Boolean} skip) (plan_table q) up
 made-apart p q zero (suc most) le up =
     let some : nat_le 1 (suc most) ≡ true = le-leb 1 (suc most) (omega arith) in
     let less : most ≡ suc most - 1 = omega arith in
-    listed-link Boolean atom_of true true (table_of p) (loop_table (tick_table One) 0 most) (table_of q) up
-    ∙ ap (λ g. link_data true true (listed atom_of (table_of p)) g (listed atom_of (table_of q)))
+    listed-link Boolean atom_of true true (plan_table p) (loop_table (tick_table One) 0 most) (plan_table q) up
+    ∙ ap (λ g. link_data true true (listed atom_of (plan_table p)) g (listed atom_of (plan_table q)))
     (made-ticks 0 most ∙ ap (repeat_data (tick_data None) 0) less ∙ sym (gap-some 0 most))
-    ∙ ap (λ b. link_data true b (listed atom_of (table_of p)) (gap_data 0 (suc most))
-    (listed atom_of (table_of q))) (sym some)
+    ∙ ap (λ b. link_data true b (listed atom_of (plan_table p)) (gap_data 0 (suc most))
+    (listed atom_of (plan_table q))) (sym some)
 made-apart p q (suc least) zero le up = absurd (omega arith)
 made-apart p q (suc least) (suc most) le up =
     let some : nat_le 1 (suc most) ≡ true = le-leb 1 (suc most) (omega arith) in
     let less : least ≡ suc least - 1 = omega arith in
-    listed-link Boolean atom_of false true (table_of p) (loop_table (tick_table One) least (suc most - 1)) (table_of q)
+    listed-link Boolean atom_of false true (plan_table p) (loop_table (tick_table One) least (suc most - 1))
+    (plan_table q)
     up
-    ∙ ap (λ g. link_data false true (listed atom_of (table_of p)) g (listed atom_of (table_of q)))
+    ∙ ap (λ g. link_data false true (listed atom_of (plan_table p)) g (listed atom_of (plan_table q)))
     (made-ticks least (suc most - 1) ∙ ap (λ k. repeat_data (tick_data None) k (suc most - 1)) less
     ∙ sym (gap-some (suc least) most))
-    ∙ ap (λ b. link_data b true (listed atom_of (table_of p)) (gap_data (suc least) (suc most))
-    (listed atom_of (table_of q))) (sym (never-zero least))
-    ∙ ap (λ b. link_data (suc least == 0) b (listed atom_of (table_of p)) (gap_data (suc least) (suc most))
-    (listed atom_of (table_of q))) (sym some)
+    ∙ ap (λ b. link_data b true (listed atom_of (plan_table p)) (gap_data (suc least) (suc most))
+    (listed atom_of (plan_table q))) (sym (never-zero least))
+    ∙ ap (λ b. link_data (suc least == 0) b (listed atom_of (plan_table p)) (gap_data (suc least) (suc most))
+    (listed atom_of (plan_table q))) (sym some)
 
 pub made-delay : (r s : Written Boolean) (least most : ℕ) → IsOrdered (delay r least most s)
     → IsTrue (weighs (delay r least most s)) →
     L (delay r least most s) ≡ apart_data (L r) (L s) least most
 made-delay r s least most ordered takes =
-    ap (λ p. listed atom_of (table_of p))
+    ap (λ p. listed atom_of (plan_table p))
     (moving-true (weighs (delay r least most s)) (admits_empty (delay r least most s))
     (apart One (plan One r) (plan One s) least most) takes)
     ∙ made-apart (plan One r) (plan One s) least most ordered.0 (rises s)
@@ -277,20 +280,20 @@ ticks-length least most =
     ap (λ (d : TableData). length d.rows) (sym (made-ticks least most))
     ∙ rows_of-length (coded atom_of (loop_table (tick_table One) least most)) 0 (most * 1) ∙ one
 
-pub ticks-placed : (least most : ℕ) → most ≤ 127 → IsPlaced (repeat_data (tick_data None) least most)
+pub ticks-placed : (least most : ℕ) → most ≤ 127 → IsClosedTable (repeat_data (tick_data None) least most)
 ticks-placed least most few =
     let one : most * 1 ≡ most = omega arith in
-    subst IsPlaced (made-ticks least most)
+    subst IsClosedTable (made-ticks least most)
     (placed Boolean atom_of (loop_table (tick_table One) least most) (ticks-rising least most)
     (omega (arith, one)))
 
-pub still-placed : (empty : Bool) → IsPlaced (still_data empty)
+pub still-placed : (empty : Bool) → IsClosedTable (still_data empty)
 still-placed empty = record { few = omega arith; starts = tt; enters = tt }
 
-pub gap-placed : (least most : ℕ) → most ≤ 127 → IsPlaced (gap_data least most)
+pub gap-placed : (least most : ℕ) → most ≤ 127 → IsClosedTable (gap_data least most)
 gap-placed least zero few = still-placed true
 gap-placed least (suc most) few =
-    subst IsPlaced (sym (gap-some least most)) (ticks-placed (least - 1) (suc most - 1) (omega arith))
+    subst IsClosedTable (sym (gap-some least most)) (ticks-placed (least - 1) (suc most - 1) (omega arith))
 
 pub gap-length : (least most : ℕ) → length (gap_data least most).rows ≤ most
 gap-length least zero = omega arith

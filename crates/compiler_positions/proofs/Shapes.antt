@@ -12,11 +12,12 @@ use Rattle.bytecode.specs.declared.block_instr.BlockInstr.TheVariants.{AcceptFir
 use Rattle.bytecode.specs.declared.flow.Flow.TheVariants.{Stops}
 use Rattle.bytecode.specs.Instructions.{LeadsTo, block_flow}
 use Rattle.verifier_inference.specs.Rules.{block_rules}
-use Rattle.verifier_inference.specs.Typing.{IsFine, IsTyped}
+use Rattle.verifier_inference.specs.Typing.{IsFine, IsCodeTyped}
 use Rattle.verifier_inference.specs.Sections.{AreTyped, IsSection}
-use Rattle.compiler_positions.specs.Tables.{Edge, Table, SomeOf, EachOf, Has, IsRising}
-use Rattle.compiler_positions.specs.Sections.{edge_size, guards, enter_all, accept_if, edge_code, block_of, blocks_of}
-use Rattle.compiler_positions.specs.Sections.{bits, with_atom, atoms_of, numbered, coded, rows_of, section_of}
+use Rattle.compiler_positions.specs.Tables.{Edge, Table, SomeOf, EachOf, HasNumber, IsRising}
+use Rattle.compiler_positions.specs.Sections.{edge_size, guards, enter_all, accept_if, edge_code, position_block}
+use Rattle.compiler_positions.specs.Sections.{position_blocks}
+use Rattle.compiler_positions.specs.Sections.{bits, with_atom, atoms_of, numbered_edge, coded, rows_from, section_of}
 use Rattle.compiler_positions.specs.Laws.{IsThere}
 use Rattle.compiler_positions.proofs.Lists.{SomeOf-map}
 
@@ -40,12 +41,12 @@ edge-length base e =
     ∙ ap (λ n. n + length (accept_if e.accepts)) (enter_all-length e.enters)
     ∙ ap (λ n. length e.enters + n) (accept_if-length e.accepts))
 
-pub block-positive : (base : ℕ) (es : List (Edge ℕ)) → 1 ≤ length (block_of base es)
+pub block-positive : (base : ℕ) (es : List (Edge ℕ)) → 1 ≤ length (position_block base es)
 block-positive base [] = omega arith
 block-positive base (e ∷ es) =
     omega (
       arith,
-      length-append (edge_code base e) (block_of (base + edge_size e) es),
+      length-append (edge_code base e) (position_block (base + edge_size e) es),
       block-positive (base + edge_size e) es,
     )
 
@@ -86,7 +87,7 @@ module _ (section atoms positions p end : ℕ) where
   guards-good target pc (n ∷ ns) there within before =
       ((there.0, omega arith, before), guards-good target (pc + 1) ns there.1 (omega arith) before)
 
-  enters-good : (pc : ℕ) (qs : List ℕ) → ((q : ℕ) → Has qs q → (p < q) × (q < positions)) → pc + length qs < end
+  enters-good : (pc : ℕ) (qs : List ℕ) → ((q : ℕ) → HasNumber qs q → (p < q) × (q < positions)) → pc + length qs < end
       → AreGood pc (enter_all qs)
   enters-good pc [] up before = tt
   enters-good pc (q ∷ qs) up before =
@@ -98,25 +99,25 @@ module _ (section atoms positions p end : ℕ) where
   accept-good pc false before = tt
 
   block-good : (base : ℕ) (es : List (Edge ℕ)) → EachOf (λ (e : Edge ℕ). EachOf (λ n. n < atoms) e.wanted) es
-      → ((q : ℕ) → SomeOf (λ (e : Edge ℕ). Has e.enters q) es → (p < q) × (q < positions))
-      → base + length (block_of base es) ≡ end → AreGood base (block_of base es)
+      → ((q : ℕ) → SomeOf (λ (e : Edge ℕ). HasNumber e.enters q) es → (p < q) × (q < positions))
+      → base + length (position_block base es) ≡ end → AreGood base (position_block base es)
   block-good base [] there up ends = (ends, tt)
   block-good base (e ∷ es) there up ends =
       let size = edge-length base e in
-      let whole = length-append (edge_code base e) (block_of (base + edge_size e) es) in
+      let whole = length-append (edge_code base e) (position_block (base + edge_size e) es) in
       let later = block-positive (base + edge_size e) es in
       let tail : List BlockInstr = enter_all e.enters ++ accept_if e.accepts in
       let from : ℕ = base + length (guards (base + edge_size e) e.wanted) in
       let front = guards-length (base + edge_size e) e.wanted in
       let entered = enter_all-length e.enters in
-      AreGood-append base (edge_code base e) (block_of (base + edge_size e) es)
+      AreGood-append base (edge_code base e) (position_block (base + edge_size e) es)
       (AreGood-append base (guards (base + edge_size e) e.wanted) tail
       (guards-good (base + edge_size e) base e.wanted there.0 (omega arith) (omega (arith, size, whole, later, ends)))
       (AreGood-append from (enter_all e.enters) (accept_if e.accepts)
       (enters-good from e.enters (λ q has. up q (inl has)) (omega (arith, size, whole, later, ends, front)))
       (accept-good (from + length (enter_all e.enters)) e.accepts
       (omega (arith, size, whole, later, ends, front, entered)))))
-      (subst (λ n. AreGood (base + n) (block_of (base + edge_size e) es)) (sym size)
+      (subst (λ n. AreGood (base + n) (position_block (base + edge_size e) es)) (sym size)
       (block-good (base + edge_size e) es there.1 (λ q has. up q (inr has)) (omega (arith, size, whole, ends))))
 
   -- such an instruction is typed, by the table of empty lists
@@ -179,10 +180,10 @@ some-at (i ∷ is) (suc k) below = some-at is k (omega arith)
 
 module _ (section atoms positions : ℕ) where
   block-typed : (p base : ℕ) (es : List (Edge ℕ)) → EachOf (λ (e : Edge ℕ). EachOf (λ n. n < atoms) e.wanted) es
-      → ((q : ℕ) → SomeOf (λ (e : Edge ℕ). Has e.enters q) es → (p < q) × (q < positions))
-      → IsTyped (block_rules section atoms positions p) base (block_of base es) (λ n. [])
+      → ((q : ℕ) → SomeOf (λ (e : Edge ℕ). HasNumber e.enters q) es → (p < q) × (q < positions))
+      → IsCodeTyped (block_rules section atoms positions p) base (position_block base es) (λ n. [])
   block-typed p base es there up =
-      let code : List BlockInstr = block_of base es in
+      let code : List BlockInstr = position_block base es in
       let end : ℕ = base + length code in
       let some = block-positive base es in
       let good = block-good section atoms positions p end base es there up refl in
@@ -207,20 +208,22 @@ module _ (section atoms positions : ℕ) where
 
   blocks-typed : (row : ℕ → List (Edge ℕ)) (p base count : ℕ)
       → ((k : ℕ) → EachOf (λ (e : Edge ℕ). EachOf (λ n. n < atoms) e.wanted) (row k))
-      → ((k q : ℕ) → k < p + count → SomeOf (λ (e : Edge ℕ). Has e.enters q) (row k) → (k < q) × (q < positions))
-      → AreTyped section atoms positions p base (blocks_of base (rows_of row p count))
+      → ((k q : ℕ) → k < p + count → SomeOf (λ (e : Edge ℕ). HasNumber e.enters q) (row k) → (k < q) × (q < positions))
+      → AreTyped section atoms positions p base (position_blocks base (rows_from row p count))
   blocks-typed row p base zero there up = tt
   blocks-typed row p base (suc count) there up = (
     block-typed p base (row p) (there p) (λ q has. up p q (omega arith) has),
-    blocks-typed row (p + 1) (base + length (block_of base (row p))) count there
+    blocks-typed row (p + 1) (base + length (position_block base (row p))) count there
         (λ k q below has. up k q (omega arith) has),
   )
 
-pub blocks-length : (row : ℕ → List (Edge ℕ)) (base p count : ℕ) → length (blocks_of base (rows_of row p count)) ≡ count
+pub blocks-length : (row : ℕ → List (Edge ℕ)) (base p count : ℕ) → length (position_blocks base (rows_from row p count))
+    ≡ count
 blocks-length row base p zero = refl
-blocks-length row base p (suc count) = ap suc (blocks-length row (base + length (block_of base (row p))) (p + 1) count)
+blocks-length row base p (suc count) = ap suc
+    (blocks-length row (base + length (position_block base (row p))) (p + 1) count)
 
-bits-below : (n : ℕ) (qs : List ℕ) → ((q : ℕ) → Has qs q → q < n) → bits qs < 2 ^ n
+bits-below : (n : ℕ) (qs : List ℕ) → ((q : ℕ) → HasNumber qs q → q < n) → bits qs < 2 ^ n
 bits-below n [] below = pow_pos n
 bits-below n (q ∷ qs) below =
     or_lt n (bits qs) (2 ^ q) (bits-below n qs (λ r has. below r (inr has))) (pow-lt (below q (inl refl)))
@@ -237,7 +240,7 @@ atoms-there atoms atom (b ∷ bs) there = more (atom b) there.0 (atoms-there ato
 
 edges-there : {B : Type 0} (atoms : ℕ) (atom : B → Option ℕ) (es : List (Edge B))
     → EachOf (λ (e : Edge B). EachOf (λ b. IsThere atoms (atom b)) e.wanted) es →
-    EachOf (λ (e : Edge ℕ). EachOf (λ n. n < atoms) e.wanted) (map (numbered atom) es)
+    EachOf (λ (e : Edge ℕ). EachOf (λ n. n < atoms) e.wanted) (map (numbered_edge atom) es)
 edges-there atoms atom [] there = tt
 edges-there atoms atom (e ∷ es) there = (atoms-there atoms atom e.wanted there.0, edges-there atoms atom es there.1)
 
@@ -251,6 +254,6 @@ is-section B t rising section atoms atom there =
           (blocks-typed section atoms t.size (coded atom t) 0 0 t.size
           (λ k. edges-there atoms atom (t.row k) (there k))
           (λ k q below has. rising.enters k q (omega arith)
-          (SomeOf-map (λ (e : Edge ℕ). Has e.enters q) (numbered atom) (t.row k) has)));
+          (SomeOf-map (λ (e : Edge ℕ). HasNumber e.enters q) (numbered_edge atom) (t.row k) has)));
       start = subst (λ n. bits t.starts < 2 ^ n) (sym size) (bits-below t.size t.starts (λ q h. rising.starts q h));
     }

@@ -7,31 +7,34 @@ use Rattle.std.specs.Prelude.{map, IsTrue}
 use Rattle.std.proofs.Math.Nat.{mul-le-mul_right, mul-le-mul_left}
 use Rattle.std.proofs.lemmas.Nat.{div-add-mod'}
 use Rattle.std.proofs.lemmas.Bool.{lt-ltb, le-ltb, ltb-true, cases_lt, cases_eq, cases_Bool}
-use Rattle.verifier_inference.specs.Sections.{size_of}
+use Rattle.verifier_inference.specs.Sections.{instructions_in}
 use Rattle.assertions.specs.declared.sequence.Boolean.{Boolean}
 use Rattle.assertions.specs.Written.{Written, boolean, delay, lead, repeat, or, and, intersect, throughout}
 use Rattle.assertions.specs.Written.{weight, IsOrdered}
 use Rattle.compiler_positions.specs.Plans.{Plan, tick, skip, any, under, loop, link, moving, weighs, plan}
 use Rattle.assertions.specs.Emptiness.{admits_empty}
 use Rattle.std.specs.List.{flat_map}
-use Rattle.compiler_positions.specs.Tables.{Edge, Table, shift, shifted, picked, numbers, tick_table, skip_table}
+use Rattle.compiler_positions.specs.Tables.{Edge, Table, shift, shifted_edge, picked_if, numbers_from, tick_table}
+use Rattle.compiler_positions.specs.Tables.{skip_table}
 use Rattle.compiler_positions.specs.Tables.{any_table}
-use Rattle.compiler_positions.specs.Tables.{wanting, under_table, onward, leading, joined, fusing, crossing, link_table}
+use Rattle.compiler_positions.specs.Tables.{wanting, under_table, onward, leading, joined_edges, fusing, crossing}
+use Rattle.compiler_positions.specs.Tables.{link_table}
 use Rattle.compiler_positions.specs.Tables.{copies}
-use Rattle.compiler_positions.specs.Tables.{looping, loop_table, table_of, IsRising}
-use Rattle.compiler_positions.specs.Sections.{edge_size, block_of, edge_code, blocks_of, rows_of, with_atom, atoms_of}
-use Rattle.compiler_positions.specs.Sections.{numbered}
+use Rattle.compiler_positions.specs.Tables.{looping, loop_table, plan_table, IsRising}
+use Rattle.compiler_positions.specs.Sections.{edge_size, position_block, edge_code, position_blocks, rows_from}
+use Rattle.compiler_positions.specs.Sections.{with_atom, atoms_of}
+use Rattle.compiler_positions.specs.Sections.{numbered_edge}
 use Rattle.compiler_positions.specs.Sections.{coded}
 use Rattle.compiler_positions.specs.Laws.{IsPlain, booleans, section_for, SectionIsShort}
 use Rattle.compiler_positions.proofs.Shapes.{edge-length}
 use Rattle.compiler_positions.proofs.Theorem.{size-weight}
-use Rattle.compiler_positions.specs.Living.{is_kept, rank, sift, sifted_edge, sifted}
+use Rattle.compiler_positions.specs.Living.{is_position_kept, kept_below, sift, sifted_edge, sifted}
 use Rattle.compiler_positions.proofs.Rising.{rising}
 use Rattle.compiler_positions.proofs.Spelling.{spelling}
 use Rattle.compiler_positions.proofs.Sifting.{if-true, if-false, rank-up, rank-next, rank-few, from, from-kept}
 use Rattle.assertions.specs.declared.sequence.Boolean.TheVariants.{One}
 use Rattle.compiler_positions.specs.Rows.{rows_size}
-use Rattle.compiler_positions.specs.Sequences.{atom_of, listed_for, at_least_own, largest}
+use Rattle.compiler_positions.specs.Sequences.{atom_of, listed_for, at_least_own, largest_place}
 use Rattle.compiler_positions.proofs.BlockLaws as blocks
 
 -- In rising order from low on, all below high.
@@ -63,7 +66,7 @@ Climbs-shift n low high (q ∷ qs) h =
     (omega (arith, h.0), subst (λ k. Climbs k (n + high) (shift n qs)) e (Climbs-shift n (q + 1) high qs h.1))
 
 Climbs-picked : (low high : ℕ) (b : Bool) (qs : List ℕ) → low ≤ high → Climbs low high qs
-    → Climbs low high (picked b qs)
+    → Climbs low high (picked_if b qs)
 Climbs-picked low high true qs le h = h
 Climbs-picked low high false qs le h = le
 
@@ -102,10 +105,10 @@ module _ (B : Type 0) where
   }
 
   shifted-single : (most n low high : ℕ) (es : List (Edge B)) → IsSingle most low high es
-      → IsSingle most (n + low) (n + high) (map (shifted n) es)
+      → IsSingle most (n + low) (n + high) (map (shifted_edge n) es)
   shifted-single most n low high es s = record {
-    edge = shifted n s.edge;
-    alone = ap (map (shifted n)) s.alone;
+    edge = shifted_edge n s.edge;
+    alone = ap (map (shifted_edge n)) s.alone;
     wanted = s.wanted;
     enters = Climbs-shift n low high s.edge.enters s.enters;
   }
@@ -131,7 +134,7 @@ module _ (B : Type 0) where
           let s =
           shifted-single most t.size (p - t.size + 1) u.size (u.row (p - t.size))
           (b.row (p - t.size) (omega arith)) in
-          let here : (any_table t u).row p ≡ map (shifted t.size) (u.row (p - t.size)) =
+          let here : (any_table t u).row p ≡ map (shifted_edge t.size) (u.row (p - t.size)) =
           rw (le-ltb p t.size high) refl in
           let e : t.size + (p - t.size + 1) ≡ p + 1 = omega arith in
           record {
@@ -170,7 +173,7 @@ module _ (B : Type 0) where
     onward-climbs =
         let e : t.size + 0 ≡ t.size = omega arith in
         Climbs-append t.size (t.size + g.size) (t.size + g.size + u.size) (shift t.size g.starts)
-        (picked g.empty (shift (t.size + g.size) u.starts))
+        (picked_if g.empty (shift (t.size + g.size) u.starts))
         (subst (λ k. Climbs k (t.size + g.size) (shift t.size g.starts)) e
         (Climbs-shift t.size 0 g.size g.starts c.starts))
         (Climbs-picked (t.size + g.size) (t.size + g.size + u.size) g.empty (shift (t.size + g.size) u.starts)
@@ -180,14 +183,15 @@ module _ (B : Type 0) where
         ≡ leading true t g u e ∷ []
     lead-alone e = ap (λ x. leading true t g u e ∷ x) (none e.accepts)
       where
-        none : (x : Bool) → picked (x && false) (map (joined (t.size + g.size) e) (flat_map u.row u.starts)) ++ [] ≡ []
+        none : (x : Bool) → picked_if (x && false) (map (joined_edges (t.size + g.size) e) (flat_map u.row u.starts))
+            ++ [] ≡ []
         none true = refl
         none false = refl
 
     link-single : AreSingle most whole
     link-single = record {
       starts =
-          Climbs-append 0 t.size (t.size + g.size + u.size) t.starts (picked (true && t.empty) (onward t g u))
+          Climbs-append 0 t.size (t.size + g.size + u.size) t.starts (picked_if (true && t.empty) (onward t g u))
           a.starts (Climbs-picked t.size (t.size + g.size + u.size) (true && t.empty) (onward t g u) (omega arith)
           onward-climbs);
       row = λ p below. (elim (cases_lt p t.size) [
@@ -202,7 +206,7 @@ module _ (B : Type 0) where
               wanted = s.wanted;
               enters =
                   Climbs-append (p + 1) t.size (t.size + g.size + u.size) s.edge.enters
-                  (picked (s.edge.accepts && true) (onward t g u)) s.enters
+                  (picked_if (s.edge.accepts && true) (onward t g u)) s.enters
                   (Climbs-picked t.size (t.size + g.size + u.size) (s.edge.accepts && true) (onward t g u)
                   (omega arith) onward-climbs);
             }
@@ -218,7 +222,7 @@ module _ (B : Type 0) where
                 wanted = s.wanted;
                 enters =
                     Climbs-append (p + 1) (t.size + g.size) (t.size + g.size + u.size) (shift t.size s.edge.enters)
-                    (picked s.edge.accepts (shift (t.size + g.size) u.starts))
+                    (picked_if s.edge.accepts (shift (t.size + g.size) u.starts))
                     (subst (λ k. Climbs k (t.size + g.size) (shift t.size s.edge.enters)) e
                     (Climbs-shift t.size (p - t.size + 1) g.size s.edge.enters s.enters))
                     (Climbs-picked (t.size + g.size) (t.size + g.size + u.size) s.edge.accepts
@@ -228,7 +232,7 @@ module _ (B : Type 0) where
               let s =
               shifted-single most (t.size + g.size) (p - (t.size + g.size) + 1) u.size
               (u.row (p - (t.size + g.size))) (b.row (p - (t.size + g.size)) (omega arith)) in
-              let here : whole.row p ≡ map (shifted (t.size + g.size)) (u.row (p - (t.size + g.size))) =
+              let here : whole.row p ≡ map (shifted_edge (t.size + g.size)) (u.row (p - (t.size + g.size))) =
               rw (le-ltb p t.size high, le-ltb p (t.size + g.size) higher) refl in
               let e : t.size + g.size + (p - (t.size + g.size) + 1) ≡ p + 1 = omega arith in
               record {
@@ -244,7 +248,7 @@ module _ (B : Type 0) where
   module _ (most : ℕ) (t : Table B) (a : AreSingle most t) (least turns : ℕ) where
     flat-climbs : (first count : ℕ)
         → Climbs (first * t.size) ((first + count) * t.size)
-        (flat_map (λ c. shift (c * t.size) t.starts) (numbers first count))
+        (flat_map (λ c. shift (c * t.size) t.starts) (numbers_from first count))
     flat-climbs first zero = let e : first + 0 ≡ first = omega arith in mul-le-mul_right t.size (omega arith)
     flat-climbs first (suc count) =
         let e : first + 1 + count ≡ first + suc count = omega arith in
@@ -252,13 +256,13 @@ module _ (B : Type 0) where
         let next : first * t.size + t.size ≡ (first + 1) * t.size = omega arith in
         Climbs-append (first * t.size) ((first + 1) * t.size) ((first + suc count) * t.size)
         (shift (first * t.size) t.starts)
-        (flat_map (λ c. shift (c * t.size) t.starts) (numbers (first + 1) count))
+        (flat_map (λ c. shift (c * t.size) t.starts) (numbers_from (first + 1) count))
         (subst (λ k. Climbs (first * t.size) k (shift (first * t.size) t.starts)) next
         (subst (λ k. Climbs k (first * t.size + t.size) (shift (first * t.size) t.starts)) z
         (Climbs-shift (first * t.size) 0 t.size t.starts a.starts)))
         (subst
         (λ k. Climbs ((first + 1) * t.size) (k * t.size)
-        (flat_map (λ c. shift (c * t.size) t.starts) (numbers (first + 1) count))) e
+        (flat_map (λ c. shift (c * t.size) t.starts) (numbers_from (first + 1) count))) e
         (flat-climbs (first + 1) count))
 
     copies-climbs : (first : ℕ) → first ≤ turns → Climbs (first * t.size) (turns * t.size) (copies t first turns)
@@ -302,7 +306,7 @@ module _ (B : Type 0) where
             wanted = s.wanted;
             enters =
                 Climbs-append (p + 1) ((c + 1) * t.size) (turns * t.size) (shift (c * t.size) s.edge.enters)
-                (picked s.edge.accepts (copies t (c + 1) turns))
+                (picked_if s.edge.accepts (copies t (c + 1) turns))
                 (subst (λ n. Climbs (p + 1) n (shift (c * t.size) s.edge.enters)) next
                 (subst (λ n. Climbs n (c * t.size + t.size) (shift (c * t.size) s.edge.enters)) begin
                 (Climbs-shift (c * t.size) (k + 1) t.size s.edge.enters s.enters)))
@@ -314,21 +318,25 @@ module _ (B : Type 0) where
   -- what is kept of it
   module _ (most : ℕ) (t : Table B) (a : AreSingle most t) (up : IsRising t) where
     Climbs-sift : (low high : ℕ) (qs : List ℕ) → Climbs low high qs
-        → Climbs (rank (is_kept t) low) (rank (is_kept t) high) (sift (is_kept t) qs)
-    Climbs-sift low high [] h = rank-up (is_kept t) low high h
-    Climbs-sift low high (q ∷ qs) h = elim (cases_Bool (is_kept t q)) [
+        → Climbs (kept_below (is_position_kept t) low) (kept_below (is_position_kept t) high)
+        (sift (is_position_kept t) qs)
+    Climbs-sift low high [] h = rank-up (is_position_kept t) low high h
+    Climbs-sift low high (q ∷ qs) h = elim (cases_Bool (is_position_kept t q)) [
       | inl on ↦
-          let next : rank (is_kept t) (q + 1) ≡ rank (is_kept t) q + 1 = rank-next (is_kept t) q on in
-          subst (λ b. Climbs (rank (is_kept t) low) (rank (is_kept t) high)
-          (picked b (rank (is_kept t) q ∷ []) ++ sift (is_kept t) qs)) (sym on) (
-            rank-up (is_kept t) low q h.0,
-            subst (λ k. Climbs k (rank (is_kept t) high) (sift (is_kept t) qs)) next (Climbs-sift (q + 1) high qs h.1),
+          let next : kept_below (is_position_kept t) (q + 1)
+          ≡ kept_below (is_position_kept t) q + 1 = rank-next (is_position_kept t) q on in
+          subst (λ b. Climbs (kept_below (is_position_kept t) low) (kept_below (is_position_kept t) high)
+          (picked_if b (kept_below (is_position_kept t) q ∷ []) ++ sift (is_position_kept t) qs)) (sym on) (
+            rank-up (is_position_kept t) low q h.0,
+            subst (λ k. Climbs k (kept_below (is_position_kept t) high) (sift (is_position_kept t) qs)) next
+                (Climbs-sift (q + 1) high qs h.1),
           )
       | inr off ↦
-          subst (λ b. Climbs (rank (is_kept t) low) (rank (is_kept t) high)
-          (picked b (rank (is_kept t) q ∷ []) ++ sift (is_kept t) qs)) (sym off)
-          (Climbs-low (rank (is_kept t) low) (rank (is_kept t) (q + 1)) (rank (is_kept t) high) (sift (is_kept t) qs)
-          (rank-up (is_kept t) low (q + 1) (omega (arith, h.0))) (Climbs-sift (q + 1) high qs h.1))
+          subst (λ b. Climbs (kept_below (is_position_kept t) low) (kept_below (is_position_kept t) high)
+          (picked_if b (kept_below (is_position_kept t) q ∷ []) ++ sift (is_position_kept t) qs)) (sym off)
+          (Climbs-low (kept_below (is_position_kept t) low) (kept_below (is_position_kept t) (q + 1))
+          (kept_below (is_position_kept t) high) (sift (is_position_kept t) qs)
+          (rank-up (is_position_kept t) low (q + 1) (omega (arith, h.0))) (Climbs-sift (q + 1) high qs h.1))
     ]
 
     sifted-single : AreSingle most (sifted t)
@@ -338,13 +346,15 @@ module _ (B : Type 0) where
           let f = from-kept B t up q below in
           let p : ℕ = from B t up q in
           let s = a.row p f.0 in
-          let next : rank (is_kept t) (p + 1) ≡ q + 1 = omega (arith, rank-next (is_kept t) p f.1, f.2) in
+          let next : kept_below (is_position_kept t) (p + 1)
+          ≡ q + 1 = omega (arith, rank-next (is_position_kept t) p f.1, f.2) in
           record {
-            edge = sifted_edge (is_kept t) s.edge;
-            alone = ap (map (sifted_edge (is_kept t))) s.alone;
+            edge = sifted_edge (is_position_kept t) s.edge;
+            alone = ap (map (sifted_edge (is_position_kept t))) s.alone;
             wanted = s.wanted;
             enters =
-                subst (λ k. Climbs k (rank (is_kept t) t.size) (sift (is_kept t) s.edge.enters)) next
+                subst (λ k. Climbs k (kept_below (is_position_kept t) t.size)
+                (sift (is_position_kept t) s.edge.enters)) next
                 (Climbs-sift (p + 1) t.size s.edge.enters s.enters);
           };
     }
@@ -360,53 +370,53 @@ booleans-positive (intersect r s) = omega (arith, booleans-positive r)
 booleans-positive (throughout b r) = omega arith
 
 ticks-single : (true_one : Boolean) (most least turns : ℕ) → 1 ≤ most
-    → AreSingle most (table_of (loop (tick true_one) least turns))
+    → AreSingle most (plan_table (loop (tick true_one) least turns))
 ticks-single true_one most least turns le =
     loop-single Boolean most (tick_table true_one) (tick-single Boolean true_one most le) least turns
 
-moving-single : (most : ℕ) (t e : Bool) (p : Plan Boolean) → AreSingle most (table_of p)
-    → AreSingle most (table_of (moving t e p))
+moving-single : (most : ℕ) (t e : Bool) (p : Plan Boolean) → AreSingle most (plan_table p)
+    → AreSingle most (plan_table (moving t e p))
 moving-single most true e p single = single
 moving-single most false true p single = skip-single Boolean most
 moving-single most false false p single =
     record { starts = omega arith; row = λ q below. absurd (omega (arith, below)) }
 
 plain-single : (true_one : Boolean) (w : Written Boolean) → IsPlain w
-    → AreSingle (booleans w) (table_of (plan true_one w))
+    → AreSingle (booleans w) (plan_table (plan true_one w))
 plain-single true_one (boolean b) plain = tick-single Boolean b 1 (omega arith)
 plain-single true_one (delay r zero most s) plain = absurd (omega (arith, plain.0))
 plain-single true_one (delay r (suc least) most s) plain =
     let m : ℕ = booleans r + booleans s in
     moving-single m (weighs (delay r (suc least) most s)) (admits_empty (delay r (suc least) most s))
     (link false true (plan true_one r) (loop (tick true_one) least (most - 1)) (plan true_one s))
-    (link-single Boolean m (table_of (plan true_one r)) (table_of (loop (tick true_one) least (most - 1)))
-    (table_of (plan true_one s))
-    (more-single Boolean (booleans r) m (table_of (plan true_one r)) (omega arith) (plain-single true_one r plain.1))
+    (link-single Boolean m (plan_table (plan true_one r)) (plan_table (loop (tick true_one) least (most - 1)))
+    (plan_table (plan true_one s))
+    (more-single Boolean (booleans r) m (plan_table (plan true_one r)) (omega arith) (plain-single true_one r plain.1))
     (ticks-single true_one m least (most - 1) (omega (arith, booleans-positive r)))
-    (more-single Boolean (booleans s) m (table_of (plan true_one s)) (omega arith) (plain-single true_one s plain.2)))
+    (more-single Boolean (booleans s) m (plan_table (plan true_one s)) (omega arith) (plain-single true_one s plain.2)))
 plain-single true_one (lead least most s) plain =
     moving-single (booleans s) (weighs (lead least most s)) (admits_empty (lead least most s))
     (link false true (loop (tick true_one) least most) skip (plan true_one s))
-    (link-single Boolean (booleans s) (table_of (loop (tick true_one) least most)) skip_table
-    (table_of (plan true_one s))
+    (link-single Boolean (booleans s) (plan_table (loop (tick true_one) least most)) skip_table
+    (plan_table (plan true_one s))
     (ticks-single true_one (booleans s) least most (booleans-positive s)) (skip-single Boolean (booleans s))
     (plain-single true_one s plain))
 plain-single true_one (repeat r least most) plain =
     moving-single (booleans r) (weighs (repeat r least most)) (admits_empty (repeat r least most))
     (loop (plan true_one r) least most)
-    (loop-single Boolean (booleans r) (table_of (plan true_one r)) (plain-single true_one r plain) least most)
+    (loop-single Boolean (booleans r) (plan_table (plan true_one r)) (plain-single true_one r plain) least most)
 plain-single true_one (or r s) plain =
     let m : ℕ = booleans r + booleans s in
     moving-single m (weighs (or r s)) (admits_empty (or r s)) (any (plan true_one r) (plan true_one s))
-    (any-single Boolean m (table_of (plan true_one r)) (table_of (plan true_one s))
-    (more-single Boolean (booleans r) m (table_of (plan true_one r)) (omega arith) (plain-single true_one r plain.0))
-    (more-single Boolean (booleans s) m (table_of (plan true_one s)) (omega arith) (plain-single true_one s plain.1)))
+    (any-single Boolean m (plan_table (plan true_one r)) (plan_table (plan true_one s))
+    (more-single Boolean (booleans r) m (plan_table (plan true_one r)) (omega arith) (plain-single true_one r plain.0))
+    (more-single Boolean (booleans s) m (plan_table (plan true_one s)) (omega arith) (plain-single true_one s plain.1)))
 plain-single true_one (and r s) plain = absurd plain
 plain-single true_one (intersect r s) plain = absurd plain
 plain-single true_one (throughout b r) plain =
     moving-single (booleans r + 1) (weighs (throughout b r)) (admits_empty (throughout b r))
     (under b (plan true_one r))
-    (under-single Boolean (booleans r) b (table_of (plan true_one r)) (plain-single true_one r plain))
+    (under-single Boolean (booleans r) b (plan_table (plan true_one r)) (plain-single true_one r plain))
 
 with_atom-length : (o : Option ℕ) (ns : List ℕ) → length (with_atom o ns) ≤ length ns + 1
 with_atom-length None ns = omega arith
@@ -421,27 +431,29 @@ accept-most true = omega arith
 accept-most false = omega arith
 
 module _ (atom : Boolean → Option ℕ) (most : ℕ) (t : Table Boolean) (single : AreSingle most t) where
-  block-length : (base p : ℕ) → (below : p < t.size) → length (block_of base (coded atom t p)) + p ≤ most + t.size + 1
+  block-length : (base p : ℕ) → (below : p < t.size)
+      → length (position_block base (coded atom t p)) + p ≤ most + t.size + 1
   block-length base p below =
       let s = single.row p below in
-      let e : Edge ℕ = numbered atom s.edge in
-      let alone : coded atom t p ≡ e ∷ [] = ap (map (numbered atom)) s.alone in
-      let same : length (block_of base (coded atom t p)) ≡ length (block_of base (e ∷ [])) =
-      ap (λ es. length (block_of base es)) alone in
-      let whole : length (block_of base (e ∷ [])) ≡ length (edge_code base e)
-      + length (block_of (base + edge_size e) []) = length-append (edge_code base e)
-      (block_of (base + edge_size e) []) in
+      let e : Edge ℕ = numbered_edge atom s.edge in
+      let alone : coded atom t p ≡ e ∷ [] = ap (map (numbered_edge atom)) s.alone in
+      let same : length (position_block base (coded atom t p)) ≡ length (position_block base (e ∷ [])) =
+      ap (λ es. length (position_block base es)) alone in
+      let whole : length (position_block base (e ∷ [])) ≡ length (edge_code base e)
+      + length (position_block (base + edge_size e) []) = length-append (edge_code base e)
+      (position_block (base + edge_size e) []) in
       let size : length (edge_code base e) ≡ edge_size e = edge-length base e in
       let w = atoms_of-length atom s.edge.wanted in
       let k = Climbs-within (p + 1) t.size s.edge.enters s.enters in
       let a = accept-most s.edge.accepts in
       omega (arith, same, whole, size, w, k, a, s.wanted)
 
-  blocks-size : (base p count : ℕ) → p + count ≡ t.size → 2 * size_of (blocks_of base (rows_of (coded atom t) p count))
+  blocks-size : (base p count : ℕ) → p + count ≡ t.size
+      → 2 * instructions_in (position_blocks base (rows_from (coded atom t) p count))
       + count ≤ count * count + 2 * (count * (most + 2))
   blocks-size base p zero e = omega arith
   blocks-size base p (suc count) e =
-      let rest = blocks-size (base + length (block_of base (coded atom t p))) (p + 1) count (omega (arith, e)) in
+      let rest = blocks-size (base + length (position_block base (coded atom t p))) (p + 1) count (omega (arith, e)) in
       let here = block-length base p (omega (arith, e)) in
       let square : suc count * suc count ≡ count * count + 2 * count + 1 = omega arith in
       let product : suc count * (most + 2) ≡ count * (most + 2) + most + 2 = omega arith in
@@ -456,13 +468,13 @@ heavier n d m s h =
 
 pub law-section_is_short : SectionIsShort
 law-section_is_short atom true_one w ordered plain =
-    let whole : Table Boolean = table_of (plan true_one w) in
+    let whole : Table Boolean = plan_table (plan true_one w) in
     let up = rising Boolean (plan true_one w) whole (spelling Boolean (plan true_one w)) in
     let t : Table Boolean = sifted whole in
     let small : t.size ≤ weight w = omega
-    (arith, rank-few (is_kept whole) whole.size, size-weight true_one w ordered) in
+    (arith, rank-few (is_position_kept whole) whole.size, size-weight true_one w ordered) in
     let same : t.size + (weight w - t.size) ≡ weight w = omega (arith, small) in
-    let s : ℕ = size_of (section_for atom true_one w).blocks in
+    let s : ℕ = instructions_in (section_for atom true_one w).blocks in
     let zero_plus : 0 + t.size ≡ t.size = omega arith in
     subst (λ n. 2 * s + n ≤ n * n + 2 * (n * (booleans w + 2))) same
     (heavier t.size (weight w - t.size) (booleans w) s
@@ -504,7 +516,7 @@ few-none n m = elim (cases_eq n 0) [
 own-few : (w : Written Boolean) → IsOrdered w → IsPlain w
     → IsFew (weight w) (booleans w) (rows_size (listed_for w).rows)
 own-few w ordered plain =
-    let t : Table Boolean = table_of (plan One w) in
+    let t : Table Boolean = plan_table (plan One w) in
     let small = size-weight One w ordered in
     let zero_plus : 0 + t.size ≡ t.size = omega arith in
     let code = blocks.blocks-size 0 (listed_for w).rows in
@@ -526,36 +538,42 @@ one-few w parts ordered plain each = elim (cases_Bool (weighs w)) [
 ]
 
 pub law-tables_are_short : (w : Written Boolean) → IsOrdered w → IsPlain w
-    → IsFew (weight w) (booleans w) (largest w)
+    → IsFew (weight w) (booleans w) (largest_place w)
 law-tables_are_short (boolean b) ordered plain =
     one-few (boolean b) 0 ordered plain (λ on. few-none 1 1)
 law-tables_are_short (delay r least most s) ordered plain =
-    one-few (delay r least most s) (max (largest r) (largest s)) ordered plain (λ on.
-    few-max (weight (delay r least most s)) (booleans (delay r least most s)) (largest r) (largest s)
-    (few-more (weight r) (booleans r) (weight (delay r least most s)) (booleans (delay r least most s)) (largest r)
+    one-few (delay r least most s) (max (largest_place r) (largest_place s)) ordered plain (λ on.
+    few-max (weight (delay r least most s)) (booleans (delay r least most s)) (largest_place r) (largest_place s)
+    (few-more (weight r) (booleans r) (weight (delay r least most s)) (booleans (delay r least most s))
+    (largest_place r)
     (omega arith) (omega arith) (law-tables_are_short r ordered.1 plain.1))
-    (few-more (weight s) (booleans s) (weight (delay r least most s)) (booleans (delay r least most s)) (largest s)
+    (few-more (weight s) (booleans s) (weight (delay r least most s)) (booleans (delay r least most s))
+    (largest_place s)
     (omega arith) (omega arith) (law-tables_are_short s ordered.2 plain.2)))
 law-tables_are_short (lead least most s) ordered plain =
-    one-few (lead least most s) (largest s) ordered plain (λ on.
-    few-more (weight s) (booleans s) (weight (lead least most s)) (booleans s) (largest s) (omega arith) (omega arith)
+    one-few (lead least most s) (largest_place s) ordered plain (λ on.
+    few-more (weight s) (booleans s) (weight (lead least most s)) (booleans s) (largest_place s) (omega arith)
+    (omega arith)
     (law-tables_are_short s ordered.1 plain))
 law-tables_are_short (repeat r least most) ordered plain =
-    one-few (repeat r least most) (largest r) ordered plain (λ on.
+    one-few (repeat r least most) (largest_place r) ordered plain (λ on.
     let some : 1 ≤ most = repeat-some r least most on in
     let one : 1 * weight r ≤ most * weight r = mul-le-mul_right (weight r) some in
-    few-more (weight r) (booleans r) (weight (repeat r least most)) (booleans r) (largest r) (omega (arith, one))
+    few-more (weight r) (booleans r) (weight (repeat r least most)) (booleans r) (largest_place r) (omega (arith, one))
     (omega arith) (law-tables_are_short r ordered.1 plain))
 law-tables_are_short (or r s) ordered plain =
-    one-few (or r s) (max (largest r) (largest s)) ordered plain (λ on.
-    few-max (weight (or r s)) (booleans (or r s)) (largest r) (largest s)
-    (few-more (weight r) (booleans r) (weight (or r s)) (booleans (or r s)) (largest r) (omega arith) (omega arith)
+    one-few (or r s) (max (largest_place r) (largest_place s)) ordered plain (λ on.
+    few-max (weight (or r s)) (booleans (or r s)) (largest_place r) (largest_place s)
+    (few-more (weight r) (booleans r) (weight (or r s)) (booleans (or r s)) (largest_place r) (omega arith)
+    (omega arith)
     (law-tables_are_short r ordered.0 plain.0))
-    (few-more (weight s) (booleans s) (weight (or r s)) (booleans (or r s)) (largest s) (omega arith) (omega arith)
+    (few-more (weight s) (booleans s) (weight (or r s)) (booleans (or r s)) (largest_place s) (omega arith)
+    (omega arith)
     (law-tables_are_short s ordered.1 plain.1)))
 law-tables_are_short (and r s) ordered plain = absurd plain
 law-tables_are_short (intersect r s) ordered plain = absurd plain
 law-tables_are_short (throughout b r) ordered plain =
-    one-few (throughout b r) (largest r) ordered plain (λ on.
-    few-more (weight r) (booleans r) (weight r) (booleans (throughout b r)) (largest r) (omega arith) (omega arith)
+    one-few (throughout b r) (largest_place r) ordered plain (λ on.
+    few-more (weight r) (booleans r) (weight r) (booleans (throughout b r)) (largest_place r) (omega arith)
+    (omega arith)
     (law-tables_are_short r ordered plain))

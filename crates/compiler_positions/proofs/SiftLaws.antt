@@ -10,38 +10,38 @@ use Rattle.std.proofs.Math.Seq.{take-suc}
 use Rattle.std.proofs.lemmas.Bool.{cases_lt, cases_eq, lt-ltb, le-ltb}
 use Rattle.std.proofs.lemmas.List.{append-nil, map-append}
 use Rattle.compiler_positions.specs.declared.edge.Edge as code
-use Rattle.compiler_positions.specs.Tables.{Edge, picked}
-use Rattle.compiler_positions.specs.Living.{leads, lives_for, is_among, led_to, rank, sift, sifted_edge}
-use Rattle.compiler_positions.specs.Rows.{TableData, row_at, marked, kept_rows, lives_in, kept_in, sift_data}
-use Rattle.compiler_positions.specs.Views.{edge_data, row_data, rows_data}
+use Rattle.compiler_positions.specs.Tables.{Edge, picked_if}
+use Rattle.compiler_positions.specs.Living.{edge_leads, lives_for, is_among, led_to, kept_below, sift, sifted_edge}
+use Rattle.compiler_positions.specs.Rows.{TableData, edges_at, is_marked_at, kept_rows, lives_in, kept_in, sift_data}
+use Rattle.compiler_positions.specs.Views.{edge_data, edges_data, rows_data}
 
 -- positions that are kept
 
 sift-append : (keeps : ℕ → Bool) (xs ys : List ℕ) → sift keeps (xs ++ ys) ≡ sift keeps xs ++ sift keeps ys
 sift-append keeps [] ys = refl
 sift-append keeps (x ∷ xs) ys =
-    ap (λ zs. picked (keeps x) (rank keeps x ∷ []) ++ zs) (sift-append keeps xs ys)
-    ∙ sym (append_assoc (picked (keeps x) (rank keeps x ∷ [])) (sift keeps xs) (sift keeps ys))
+    ap (λ zs. picked_if (keeps x) (kept_below keeps x ∷ []) ++ zs) (sift-append keeps xs ys)
+    ∙ sym (append_assoc (picked_if (keeps x) (kept_below keeps x ∷ [])) (sift keeps xs) (sift keeps ys))
 
 sift-next : (keeps : ℕ → Bool) (qs : List ℕ) (i : ℕ) → i < length qs → sift keeps (take (i + 1) qs)
-    ≡ sift keeps (take i qs) ++ picked (keeps (get_or qs i 0)) (rank keeps (get_or qs i 0) ∷ [])
+    ≡ sift keeps (take i qs) ++ picked_if (keeps (get_or qs i 0)) (kept_below keeps (get_or qs i 0) ∷ [])
 sift-next keeps qs i below =
     let more : i + 1 ≡ suc i = omega arith in
     ap (λ n. sift keeps (take n qs)) more
     ∙ ap (sift keeps) (take-suc qs i 0 below)
     ∙ sift-append keeps (take i qs) (get_or qs i 0 ∷ [])
     ∙ ap (λ zs. sift keeps (take i qs) ++ zs)
-    (append-nil (picked (keeps (get_or qs i 0)) (rank keeps (get_or qs i 0) ∷ [])))
+    (append-nil (picked_if (keeps (get_or qs i 0)) (kept_below keeps (get_or qs i 0) ∷ [])))
 
 pub put-more : (keeps : ℕ → Bool) (old before now qs : List ℕ) (i : ℕ) (b : Bool) → i < length qs
     → before ≡ old ++ sift keeps (take i qs) → b ≡ keeps (get_or qs i 0)
-    → now ≡ before ++ picked b (rank keeps (get_or qs i 0) ∷ []) → now ≡ old ++ sift keeps (take (i + 1) qs)
+    → now ≡ before ++ picked_if b (kept_below keeps (get_or qs i 0) ∷ []) → now ≡ old ++ sift keeps (take (i + 1) qs)
 put-more keeps old before now qs i b below so_far is put =
-    let it : List ℕ = rank keeps (get_or qs i 0) ∷ [] in
+    let it : List ℕ = kept_below keeps (get_or qs i 0) ∷ [] in
     put
-    ∙ ap (λ xs. xs ++ picked b it) so_far
-    ∙ ap (λ x. (old ++ sift keeps (take i qs)) ++ picked x it) is
-    ∙ append_assoc old (sift keeps (take i qs)) (picked (keeps (get_or qs i 0)) it)
+    ∙ ap (λ xs. xs ++ picked_if b it) so_far
+    ∙ ap (λ x. (old ++ sift keeps (take i qs)) ++ picked_if x it) is
+    ∙ append_assoc old (sift keeps (take i qs)) (picked_if (keeps (get_or qs i 0)) it)
     ∙ ap (λ xs. old ++ xs) (sym (sift-next keeps qs i below))
 
 -- rows that are kept
@@ -49,34 +49,34 @@ put-more keeps old before now qs i b below so_far is put =
 abbrev Row : Type 0
 Row = Vec code.Edge Global
 
-row_at-view : (rows : List Row) (i : ℕ) (d : Row) → i < length rows → row_at (rows_data rows) i
-    ≡ row_data (get_or rows i d)
+row_at-view : (rows : List Row) (i : ℕ) (d : Row) → i < length rows → edges_at (rows_data rows) i
+    ≡ edges_data (get_or rows i d)
 row_at-view [] i d below = absurd (omega arith)
 row_at-view (row ∷ rows) zero d below = refl
 row_at-view (row ∷ rows) (suc i) d below = row_at-view rows i d (omega arith)
 
 pub keep-next : (keeps : ℕ → Bool) (rows : List (List (Edge ℕ))) (i : ℕ) (b : Bool) (before now : List (List (Edge ℕ)))
     → before ≡ kept_rows keeps rows i → b ≡ keeps i
-    → now ≡ before ++ picked b (map (sifted_edge keeps) (row_at rows i) ∷ []) → now ≡ kept_rows keeps rows (i + 1)
+    → now ≡ before ++ picked_if b (map (sifted_edge keeps) (edges_at rows i) ∷ []) → now ≡ kept_rows keeps rows (i + 1)
 keep-next keeps rows i b before now so_far is put =
     let more : suc i ≡ i + 1 = omega arith in
-    let it : List (List (Edge ℕ)) = map (sifted_edge keeps) (row_at rows i) ∷ [] in
+    let it : List (List (Edge ℕ)) = map (sifted_edge keeps) (edges_at rows i) ∷ [] in
     put
-    ∙ ap (λ xs. xs ++ picked b it) so_far
-    ∙ ap (λ x. kept_rows keeps rows i ++ picked x it) is
+    ∙ ap (λ xs. xs ++ picked_if b it) so_far
+    ∙ ap (λ x. kept_rows keeps rows i ++ picked_if x it) is
     ∙ ap (kept_rows keeps rows) more
 
 pub kept-here : (keeps : ℕ → Bool) (rows : List Row) (i : ℕ) (d : Row) (es : List code.Edge) (made : List code.Edge)
     → i < length rows → es ≡ (get_or rows i d).items
     → map edge_data made ≡ map (sifted_edge keeps) (map edge_data es)
-    → map edge_data made ≡ map (sifted_edge keeps) (row_at (rows_data rows) i)
+    → map edge_data made ≡ map (sifted_edge keeps) (edges_at (rows_data rows) i)
 kept-here keeps rows i d es made below of is =
     is ∙ ap (λ xs. map (sifted_edge keeps) (map edge_data xs)) of
     ∙ ap (map (sifted_edge keeps)) (sym (row_at-view rows i d below))
 
 pub rows-put : (before : List Row) (row : Row) (now : List Row) → now ≡ before ++ row ∷ []
-    → rows_data now ≡ rows_data before ++ row_data row ∷ []
-rows-put before row now put = ap rows_data put ∙ map-append row_data before (row ∷ [])
+    → rows_data now ≡ rows_data before ++ edges_data row ∷ []
+rows-put before row now put = ap rows_data put ∙ map-append edges_data before (row ∷ [])
 
 -- positions that may come to an end
 
@@ -85,86 +85,87 @@ map-length f [] = refl
 map-length f (x ∷ xs) = ap suc (map-length f xs)
 
 marked-in : (f : List (Edge ℕ) → Bool) (rows : List (List (Edge ℕ))) (p : ℕ) → p < length rows
-    → marked (map f rows) p ≡ f (row_at rows p)
+    → is_marked_at (map f rows) p ≡ f (edges_at rows p)
 marked-in f [] p below = absurd (omega arith)
 marked-in f (row ∷ rows) zero below = refl
 marked-in f (row ∷ rows) (suc p) below = marked-in f rows p (omega arith)
 
 marked-out : (f : List (Edge ℕ) → Bool) (rows : List (List (Edge ℕ))) (p : ℕ) → length rows ≤ p
-    → marked (map f rows) p ≡ false
+    → is_marked_at (map f rows) p ≡ false
 marked-out f [] p over = refl
 marked-out f (row ∷ rows) zero over = absurd (omega arith)
 marked-out f (row ∷ rows) (suc p) over = marked-out f rows p (omega arith)
 
 abbrev pub Marks : List (List (Edge ℕ)) → ℕ → List Bool → Type 0
-Marks rows n marks = (p : ℕ) → marked marks p ≡ lives_for (length rows) (row_at rows) n p
+Marks rows n marks = (p : ℕ) → is_marked_at marks p ≡ lives_for (length rows) (edges_at rows) n p
 
 -- a tick more
 pub marks-next : (rows : List (List (Edge ℕ))) (n : ℕ) (marks new : List Bool) → Marks rows n marks
-    → new ≡ map (list_any (leads (marked marks))) rows → Marks rows (n + 1) new
+    → new ≡ map (list_any (edge_leads (is_marked_at marks))) rows → Marks rows (n + 1) new
 marks-next rows n marks new so_far made p =
     let more : suc n ≡ n + 1 = omega arith in
-    let f : (ℕ → Bool) → List (Edge ℕ) → Bool = λ passes es. list_any (leads passes) es in
-    ap (λ ms. marked ms p) made
+    let f : (ℕ → Bool) → List (Edge ℕ) → Bool = λ passes es. list_any (edge_leads passes) es in
+    ap (λ ms. is_marked_at ms p) made
     ∙ elim (cases_lt p (length rows)) [
       | inl below ↦
-          marked-in (f (marked marks)) rows p below
-          ∙ ap (λ passes. f passes (row_at rows p)) (fun_ext so_far)
-          ∙ ap (λ b. b && f (lives_for (length rows) (row_at rows) n) (row_at rows p))
+          marked-in (f (is_marked_at marks)) rows p below
+          ∙ ap (λ passes. f passes (edges_at rows p)) (fun_ext so_far)
+          ∙ ap (λ b. b && f (lives_for (length rows) (edges_at rows) n) (edges_at rows p))
           (sym (lt-ltb p (length rows) below))
       | inr over ↦
-          marked-out (f (marked marks)) rows p over
-          ∙ ap (λ b. b && f (lives_for (length rows) (row_at rows) n) (row_at rows p))
+          marked-out (f (is_marked_at marks)) rows p over
+          ∙ ap (λ b. b && f (lives_for (length rows) (edges_at rows) n) (edges_at rows p))
           (sym (le-ltb p (length rows) over))
     ]
-    ∙ ap (λ k. lives_for (length rows) (row_at rows) k p) more
+    ∙ ap (λ k. lives_for (length rows) (edges_at rows) k p) more
 
 pub marks-all : (rows : List Row) (n : ℕ) (marks : List Bool) → n ≡ length rows → Marks (rows_data rows) n marks
-    → (p : ℕ) → marked marks p ≡ lives_in (rows_data rows) p
+    → (p : ℕ) → is_marked_at marks p ≡ lives_in (rows_data rows) p
 marks-all rows n marks all so_far p =
     so_far p
-    ∙ ap (λ k. lives_for (length (rows_data rows)) (row_at (rows_data rows)) k p)
-    (all ∙ sym (map-length row_data rows))
+    ∙ ap (λ k. lives_for (length (rows_data rows)) (edges_at (rows_data rows)) k p)
+    (all ∙ sym (map-length edges_data rows))
 
 -- positions that something leads to
 
 pub led-next : (starts : List ℕ) (rows : List Row) (i : ℕ) (d : Row) (es : List code.Edge) (b : Bool)
     (before now : List ℕ) → i < length rows → es ≡ (get_or rows i d).items
-    → before ≡ led_to starts (row_at (rows_data rows)) i
-    → b ≡ is_among (led_to starts (row_at (rows_data rows)) i) i
-    → now ≡ before ++ picked b (flat_map (λ e. e.enters) (map edge_data es))
-    → now ≡ led_to starts (row_at (rows_data rows)) (i + 1)
+    → before ≡ led_to starts (edges_at (rows_data rows)) i
+    → b ≡ is_among (led_to starts (edges_at (rows_data rows)) i) i
+    → now ≡ before ++ picked_if b (flat_map (λ e. e.enters) (map edge_data es))
+    → now ≡ led_to starts (edges_at (rows_data rows)) (i + 1)
 led-next starts rows i d es b before now below of so_far is put =
-    let led : List ℕ = led_to starts (row_at (rows_data rows)) i in
+    let led : List ℕ = led_to starts (edges_at (rows_data rows)) i in
     let more : suc i ≡ i + 1 = omega arith in
     put
-    ∙ ap (λ xs. xs ++ picked b (flat_map (λ e. e.enters) (map edge_data es))) so_far
-    ∙ ap (λ x. led ++ picked x (flat_map (λ e. e.enters) (map edge_data es))) is
-    ∙ ap (λ xs. led ++ picked (is_among led i) (flat_map (λ e. e.enters) (map edge_data xs))) of
-    ∙ ap (λ xs. led ++ picked (is_among led i) (flat_map (λ e. e.enters) xs)) (sym (row_at-view rows i d below))
-    ∙ ap (led_to starts (row_at (rows_data rows))) more
+    ∙ ap (λ xs. xs ++ picked_if b (flat_map (λ e. e.enters) (map edge_data es))) so_far
+    ∙ ap (λ x. led ++ picked_if x (flat_map (λ e. e.enters) (map edge_data es))) is
+    ∙ ap (λ xs. led ++ picked_if (is_among led i) (flat_map (λ e. e.enters) (map edge_data xs))) of
+    ∙ ap (λ xs. led ++ picked_if (is_among led i) (flat_map (λ e. e.enters) xs)) (sym (row_at-view rows i d below))
+    ∙ ap (led_to starts (edges_at (rows_data rows))) more
 
 -- positions beyond the rows live no more
 lives-out : (size : ℕ) (row : ℕ → List (Edge ℕ)) (n p : ℕ) → size ≤ p → lives_for size row n p ≡ false
 lives-out size row zero p over = refl
 lives-out size row (suc n) p over =
-    ap (λ b. b && list_any (leads (lives_for size row n)) (row p)) (le-ltb p size over)
+    ap (λ b. b && list_any (edge_leads (lives_for size row n)) (row p)) (le-ltb p size over)
 
 -- Marks below a place, and none behind it.
 pub record AreMarked (d : TableData) (count : ℕ) (marks : List Bool) : Type 0 where
   pub long : length marks ≡ count
-  pub each : (p : ℕ) → p < count → marked marks p ≡ kept_in d p
+  pub each : (p : ℕ) → p < count → is_marked_at marks p ≡ kept_in d p
 
-marked-before : (marks : List Bool) (b : Bool) (p : ℕ) → p < length marks → marked (marks ++ b ∷ []) p ≡ marked marks p
+marked-before : (marks : List Bool) (b : Bool) (p : ℕ) → p < length marks → is_marked_at (marks ++ b ∷ []) p
+    ≡ is_marked_at marks p
 marked-before [] b p below = absurd (omega arith)
 marked-before (m ∷ marks) b zero below = refl
 marked-before (m ∷ marks) b (suc p) below = marked-before marks b p (omega arith)
 
-marked-last : (marks : List Bool) (b : Bool) → marked (marks ++ b ∷ []) (length marks) ≡ b
+marked-last : (marks : List Bool) (b : Bool) → is_marked_at (marks ++ b ∷ []) (length marks) ≡ b
 marked-last [] b = refl
 marked-last (m ∷ marks) b = marked-last marks b
 
-marked-beyond : (marks : List Bool) (p : ℕ) → length marks ≤ p → marked marks p ≡ false
+marked-beyond : (marks : List Bool) (p : ℕ) → length marks ≤ p → is_marked_at marks p ≡ false
 marked-beyond [] p over = refl
 marked-beyond (m ∷ marks) zero over = absurd (omega arith)
 marked-beyond (m ∷ marks) (suc p) over = marked-beyond marks p (omega arith)
@@ -176,40 +177,46 @@ marks-more d count marks new b so_far is put = record {
   each = λ p below. (elim (cases_eq p count) [
     | inl last ↦
         let same : p ≡ length marks = last ∙ sym so_far.long in
-        ap (λ ms. marked ms p) put ∙ ap (marked (marks ++ b ∷ [])) same ∙ marked-last marks b ∙ is
+        ap (λ ms. is_marked_at ms p) put ∙ ap (is_marked_at (marks ++ b ∷ [])) same ∙ marked-last marks b ∙ is
         ∙ ap (kept_in d) (sym last)
     | inr other ↦
-        ap (λ ms. marked ms p) put ∙ marked-before marks b p (omega (arith, so_far.long))
+        ap (λ ms. is_marked_at ms p) put ∙ marked-before marks b p (omega (arith, so_far.long))
         ∙ so_far.each p (omega arith)
   ]);
 }
 
 pub marks-whole : (d : TableData) (count : ℕ) (marks : List Bool) → count ≡ length d.rows → AreMarked d count marks
-    → (p : ℕ) → marked marks p ≡ kept_in d p
+    → (p : ℕ) → is_marked_at marks p ≡ kept_in d p
 marks-whole d count marks all so_far p = elim (cases_lt p count) [
   | inl below ↦ so_far.each p below
   | inr over ↦
       marked-beyond marks p (omega (arith, so_far.long))
-      ∙ sym (ap (λ b. b && is_among (led_to d.starts (row_at d.rows) (length d.rows)) p)
-      (lives-out (length d.rows) (row_at d.rows) (length d.rows) p (omega (arith, all))))
+      ∙ sym (ap (λ b. b && is_among (led_to d.starts (edges_at d.rows) (length d.rows)) p)
+      (lives-out (length d.rows) (edges_at d.rows) (length d.rows) p (omega (arith, all))))
 ]
 
 -- all of it
 pub all-kept : (d : TableData) (rows : List (List (Edge ℕ))) (marks : List Bool) (count : ℕ)
     (made : List (List (Edge ℕ))) (starts : List ℕ) (empty : Bool) → rows ≡ d.rows
-    → ((p : ℕ) → marked marks p ≡ kept_in d p) → count ≡ length rows
-    → made ≡ kept_rows (marked marks) rows count → starts ≡ [] ++ sift (marked marks) d.starts → empty ≡ d.empty
+    → ((p : ℕ) → is_marked_at marks p ≡ kept_in d p) → count ≡ length rows
+    → made ≡ kept_rows (is_marked_at marks) rows count → starts ≡ [] ++ sift (is_marked_at marks) d.starts → empty
+    ≡ d.empty
     → record { rows = made; starts = starts; empty = empty } ≡ sift_data d
 all-kept d rows marks count made starts empty is lives all kept begin none =
-    let same : marked marks ≡ kept_in d = fun_ext lives in
+    let same : is_marked_at marks ≡ kept_in d = fun_ext lives in
     ap (λ xs. record { rows = xs; starts = starts; empty = empty }) kept
-    ∙ ap (λ xs. record { rows = kept_rows (marked marks) rows count; starts = xs; empty = empty }) begin
-    ∙ ap (λ b. record { rows = kept_rows (marked marks) rows count; starts = sift (marked marks) d.starts; empty = b })
+    ∙ ap (λ xs. record { rows = kept_rows (is_marked_at marks) rows count; starts = xs; empty = empty }) begin
+    ∙ ap (λ b. record {
+      rows = kept_rows (is_marked_at marks) rows count;
+      starts = sift
+          (is_marked_at marks) d.starts;
+      empty = b;
+    })
     none
     ∙ ap (λ n. record {
-      rows = kept_rows (marked marks) rows n;
+      rows = kept_rows (is_marked_at marks) rows n;
       starts = sift
-          (marked marks) d.starts;
+          (is_marked_at marks) d.starts;
       empty = d.empty;
     })
     all

@@ -6,10 +6,12 @@ use Rattle.std.specs.List.{list_any, flat_map}
 use Rattle.std.proofs.lemmas.Bool.{cases_Bool, cases_eq, or_cases, or_left, or_right, and_parts, and_from, both_ways}
 use Rattle.std.proofs.lemmas.Bool.{false_from_ne_true, eqb-true, eq-eqb, lt-ltb, ltb-true}
 use Rattle.compiler_positions.specs.Plans.{Plan}
-use Rattle.compiler_positions.specs.States.{State, Steps, Left}
-use Rattle.compiler_positions.specs.Tables.{Edge, Table, SomeOf, EachOf, Has, Fires, Enters, Accepts, IsRising, Spells}
-use Rattle.compiler_positions.specs.Tables.{picked}
-use Rattle.compiler_positions.specs.Living.{leads, lives_for, lives, is_among, led_to, is_kept, rank, place, sift}
+use Rattle.compiler_positions.specs.States.{PlanState, StepsTo, Left}
+use Rattle.compiler_positions.specs.Tables.{Edge, Table, SomeOf, EachOf, HasNumber, Fires, Enters, Accepts, IsRising}
+use Rattle.compiler_positions.specs.Tables.{NumbersStates}
+use Rattle.compiler_positions.specs.Tables.{picked_if}
+use Rattle.compiler_positions.specs.Living.{edge_leads, lives_for, lives, is_among, led_to, is_position_kept}
+use Rattle.compiler_positions.specs.Living.{kept_below, place, sift}
 use Rattle.compiler_positions.specs.Living.{sifted_edge}
 use Rattle.compiler_positions.specs.Living.{sifted}
 use Rattle.compiler_positions.proofs.Lists.{SomeOf-each, SomeOf-map, map-SomeOf, SomeOf-append, append-SomeOf}
@@ -28,45 +30,46 @@ if-false false x y h = refl
 
 -- the numbers of what is kept
 module _ (keeps : ℕ → Bool) where
-  pub rank-up : (p n : ℕ) → p ≤ n → rank keeps p ≤ rank keeps n
-  rank-up p zero le = let e : p ≡ 0 = omega arith in omega (arith, ap (rank keeps) e)
+  pub rank-up : (p n : ℕ) → p ≤ n → kept_below keeps p ≤ kept_below keeps n
+  rank-up p zero le = let e : p ≡ 0 = omega arith in omega (arith, ap (kept_below keeps) e)
   rank-up p (suc n) le = elim (cases_eq p (suc n)) [
-    | inl e ↦ omega (arith, ap (rank keeps) e)
+    | inl e ↦ omega (arith, ap (kept_below keeps) e)
     | inr other ↦ omega (arith, rank-up p n (omega arith))
   ]
 
-  pub rank-next : (p : ℕ) → IsTrue (keeps p) → rank keeps (p + 1) ≡ rank keeps p + 1
+  pub rank-next : (p : ℕ) → IsTrue (keeps p) → kept_below keeps (p + 1) ≡ kept_below keeps p + 1
   rank-next p kept = omega
-      (arith, if-true {A = ℕ} (keeps p) 1 0 kept, ap (rank keeps) (let e : p + 1 ≡ suc p = omega arith in e))
+      (arith, if-true {A = ℕ} (keeps p) 1 0 kept, ap (kept_below keeps) (let e : p + 1 ≡ suc p = omega arith in e))
 
-  pub rank-below : (p n : ℕ) → p < n → IsTrue (keeps p) → rank keeps p < rank keeps n
+  pub rank-below : (p n : ℕ) → p < n → IsTrue (keeps p) → kept_below keeps p < kept_below keeps n
   rank-below p n lt kept = omega (arith, if-true {A = ℕ} (keeps p) 1 0 kept, rank-up (suc p) n (omega arith))
 
   -- no more are kept than there are
-  pub rank-few : (n : ℕ) → rank keeps n ≤ n
+  pub rank-few : (n : ℕ) → kept_below keeps n ≤ n
   rank-few zero = omega arith
   rank-few (suc n) = elim (cases_Bool (keeps n)) [
     | inl kept ↦ omega (arith, rank-few n, if-true {A = ℕ} (keeps n) 1 0 kept)
     | inr out ↦ omega (arith, rank-few n, if-false {A = ℕ} (keeps n) 1 0 out)
   ]
 
-  pub rank-place : (n q : ℕ) → q < rank keeps n → (place keeps n q < n) × IsTrue (keeps (place keeps n q))
-      × (rank keeps (place keeps n q) ≡ q)
+  pub rank-place : (n q : ℕ) → q < kept_below keeps n → (place keeps n q < n) × IsTrue (keeps (place keeps n q))
+      × (kept_below keeps (place keeps n q) ≡ q)
   rank-place zero q below = absurd (omega arith)
-  rank-place (suc n) q below = elim (cases_Bool (keeps n && (rank keeps n == q))) [
+  rank-place (suc n) q below = elim (cases_Bool (keeps n && (kept_below keeps n == q))) [
     | inl here ↦
-        let e = if-true (keeps n && (rank keeps n == q)) n (place keeps n q) here in
-        let p = and_parts (keeps n) (rank keeps n == q) here in (
+        let e = if-true (keeps n && (kept_below keeps n == q)) n (place keeps n q) here in
+        let p = and_parts (keeps n) (kept_below keeps n == q) here in (
           omega (arith, e),
           subst (λ m. IsTrue (keeps m)) (sym e) p.0,
-          ap (rank keeps) e ∙ eqb-true (rank keeps n) q p.1,
+          ap (kept_below keeps) e ∙ eqb-true (kept_below keeps n) q p.1,
         )
     | inr there ↦
-        let e = if-false (keeps n && (rank keeps n == q)) n (place keeps n q) there in
-        let less : q < rank keeps n = elim (cases_Bool (keeps n)) [
-          | inl kept ↦ elim (cases_eq (rank keeps n) q) [
+        let e = if-false (keeps n && (kept_below keeps n == q)) n (place keeps n q) there in
+        let less : q < kept_below keeps n = elim (cases_Bool (keeps n)) [
+          | inl kept ↦ elim (cases_eq (kept_below keeps n) q) [
             | inl same ↦
-                absurd (both_ways _ there (and_from (keeps n) (rank keeps n == q) kept (eq-eqb (rank keeps n) q same)))
+                absurd (both_ways _ there
+                (and_from (keeps n) (kept_below keeps n == q) kept (eq-eqb (kept_below keeps n) q same)))
             | inr other ↦ omega (arith, if-true {A = ℕ} (keeps n) 1 0 kept)
           ]
           | inr out ↦ omega (arith, if-false {A = ℕ} (keeps n) 1 0 out)
@@ -74,49 +77,49 @@ module _ (keeps : ℕ → Bool) where
         let rest = rank-place n q less in (
           omega (arith, e, rest.0),
           subst (λ m. IsTrue (keeps m)) (sym e) rest.1,
-          ap (rank keeps) e ∙ rest.2,
+          ap (kept_below keeps) e ∙ rest.2,
         )
   ]
 
-  pub place-rank : (n p : ℕ) → p < n → IsTrue (keeps p) → place keeps n (rank keeps p) ≡ p
+  pub place-rank : (n p : ℕ) → p < n → IsTrue (keeps p) → place keeps n (kept_below keeps p) ≡ p
   place-rank zero p below kept = absurd (omega arith)
   place-rank (suc n) p below kept = elim (cases_eq p n) [
     | inl same ↦
-        if-true (keeps n && (rank keeps n == rank keeps p)) n (place keeps n (rank keeps p))
-        (and_from (keeps n) (rank keeps n == rank keeps p) (subst (λ m. IsTrue (keeps m)) same kept)
-        (eq-eqb (rank keeps n) (rank keeps p) (ap (rank keeps) (sym same))))
+        if-true (keeps n && (kept_below keeps n == kept_below keeps p)) n (place keeps n (kept_below keeps p))
+        (and_from (keeps n) (kept_below keeps n == kept_below keeps p) (subst (λ m. IsTrue (keeps m)) same kept)
+        (eq-eqb (kept_below keeps n) (kept_below keeps p) (ap (kept_below keeps) (sym same))))
         ∙ sym same
     | inr other ↦
-        if-false (keeps n && (rank keeps n == rank keeps p)) n (place keeps n (rank keeps p))
+        if-false (keeps n && (kept_below keeps n == kept_below keeps p)) n (place keeps n (kept_below keeps p))
         (false_from_ne_true _ (λ t.
-        let p' = and_parts (keeps n) (rank keeps n == rank keeps p) t in
+        let p' = and_parts (keeps n) (kept_below keeps n == kept_below keeps p) t in
         absurd (omega (
           arith,
-          eqb-true (rank keeps n) (rank keeps p) p'.1,
+          eqb-true (kept_below keeps n) (kept_below keeps p) p'.1,
           rank-below p n (omega arith) kept,
         ))))
         ∙ place-rank n p (omega arith) kept
   ]
 
-  sift-Has : (qs : List ℕ) (q : ℕ) → Has (sift keeps qs) q → (x : ℕ) × Has qs x × IsTrue (keeps x)
-      × (rank keeps x ≡ q)
+  sift-Has : (qs : List ℕ) (q : ℕ) → HasNumber (sift keeps qs) q → (x : ℕ) × HasNumber qs x × IsTrue (keeps x)
+      × (kept_below keeps x ≡ q)
   sift-Has [] q h = absurd h
   sift-Has (x ∷ xs) q h =
-      elim (SomeOf-append (λ z. z ≡ q) (picked (keeps x) (rank keeps x ∷ [])) (sift keeps xs) h) [
+      elim (SomeOf-append (λ z. z ≡ q) (picked_if (keeps x) (kept_below keeps x ∷ [])) (sift keeps xs) h) [
         | inl a ↦
-            let k = SomeOf-picked (λ z. z ≡ q) (keeps x) (rank keeps x ∷ []) a in
+            let k = SomeOf-picked (λ z. z ≡ q) (keeps x) (kept_below keeps x ∷ []) a in
             (x, inl refl, k.0, elim k.1 [ inl e ↦ e | inr e ↦ absurd e ])
         | inr a ↦ let k = sift-Has xs q a in (k.0, inr k.1, k.2, k.3)
       ]
 
-  Has-sift : (qs : List ℕ) (x : ℕ) → Has qs x → IsTrue (keeps x) → Has (sift keeps qs) (rank keeps x)
+  Has-sift : (qs : List ℕ) (x : ℕ) → HasNumber qs x → IsTrue (keeps x) → HasNumber (sift keeps qs) (kept_below keeps x)
   Has-sift [] x h kept = absurd h
   Has-sift (y ∷ ys) x (inl same) kept =
-      append-SomeOf (λ z. z ≡ rank keeps x) (picked (keeps y) (rank keeps y ∷ [])) (sift keeps ys)
-      (inl (picked-SomeOf (λ z. z ≡ rank keeps x) (keeps y) (rank keeps y ∷ [])
-      (subst (λ m. IsTrue (keeps m)) (sym same) kept) (inl (ap (rank keeps) same))))
+      append-SomeOf (λ z. z ≡ kept_below keeps x) (picked_if (keeps y) (kept_below keeps y ∷ [])) (sift keeps ys)
+      (inl (picked-SomeOf (λ z. z ≡ kept_below keeps x) (keeps y) (kept_below keeps y ∷ [])
+      (subst (λ m. IsTrue (keeps m)) (sym same) kept) (inl (ap (kept_below keeps) same))))
   Has-sift (y ∷ ys) x (inr h) kept =
-      append-SomeOf (λ z. z ≡ rank keeps x) (picked (keeps y) (rank keeps y ∷ [])) (sift keeps ys)
+      append-SomeOf (λ z. z ≡ kept_below keeps x) (picked_if (keeps y) (kept_below keeps y ∷ [])) (sift keeps ys)
       (inr (Has-sift ys x h kept))
 
 some-any : {A : Type 0} (p : A → Bool) (xs : List A) → IsTrue (list_any p xs) → SomeOf (λ x. IsTrue (p x)) xs
@@ -129,15 +132,15 @@ any-some p (x ∷ xs) (inl h) = or_left (p x) (list_any p xs) h
 any-some p (x ∷ xs) (inr h) = or_right (p x) (list_any p xs) (any-some p xs h)
 
 -- an edge that leads to what passes
-leads-on : {B : Type 0} (passes : ℕ → Bool) (e : Edge B) (q : ℕ) → Has e.enters q → IsTrue (passes q)
-    → IsTrue (leads passes e)
+leads-on : {B : Type 0} (passes : ℕ → Bool) (e : Edge B) (q : ℕ) → HasNumber e.enters q → IsTrue (passes q)
+    → IsTrue (edge_leads passes e)
 leads-on passes e q has h =
     or_right e.accepts (list_any passes e.enters)
     (any-some passes e.enters (Has-SomeOf (λ x. IsTrue (passes x)) e.enters q has h))
 
-leads-from : {B : Type 0} (passes : ℕ → Bool) (es : List (Edge B)) → SomeOf (λ e. IsTrue (leads passes e)) es
+leads-from : {B : Type 0} (passes : ℕ → Bool) (es : List (Edge B)) → SomeOf (λ e. IsTrue (edge_leads passes e)) es
     → SomeOf (λ (e : Edge B). e.accepts ≡ true) es
-    ⊎ ((q : ℕ) × SomeOf (λ (e : Edge B). Has e.enters q) es × IsTrue (passes q))
+    ⊎ ((q : ℕ) × SomeOf (λ (e : Edge B). HasNumber e.enters q) es × IsTrue (passes q))
 leads-from passes [] h = absurd h
 leads-from passes (e ∷ es) (inl h) = elim (or_cases e.accepts (list_any passes e.enters) h) [
   | inl a ↦ inl (inl a)
@@ -157,16 +160,16 @@ module _ (B : Type 0) (t : Table B) (up : IsRising t) where
   lives-for-below : (n p : ℕ) → IsTrue (Within n p) → p < t.size
   lives-for-below zero p h = cc
   lives-for-below (suc n) p h =
-      ltb-true p t.size (and_parts (nat_lt p t.size) (list_any (leads (Within n)) (t.row p)) h).0
+      ltb-true p t.size (and_parts (nat_lt p t.size) (list_any (edge_leads (Within n)) (t.row p)) h).0
 
   pub lives-below : (p : ℕ) → IsTrue (lives t p) → p < t.size
   lives-below p h = lives-for-below t.size p h
 
   -- by its edges
-  living : (n p : ℕ) → p < t.size → SomeOf (λ e. IsTrue (leads (Within n) e)) (t.row p) → IsTrue (Within (suc n) p)
+  living : (n p : ℕ) → p < t.size → SomeOf (λ e. IsTrue (edge_leads (Within n) e)) (t.row p) → IsTrue (Within (suc n) p)
   living n p below h =
-      and_from (nat_lt p t.size) (list_any (leads (Within n)) (t.row p)) (lt-ltb p t.size below)
-      (any-some (leads (Within n)) (t.row p) h)
+      and_from (nat_lt p t.size) (list_any (edge_leads (Within n)) (t.row p)) (lt-ltb p t.size below)
+      (any-some (edge_leads (Within n)) (t.row p) h)
 
   -- a position further on needs no more ticks than there are positions behind it
   lives-enough : (n m p : ℕ) → IsTrue (Within n p) → t.size ≤ p + m → IsTrue (Within m p)
@@ -174,16 +177,16 @@ module _ (B : Type 0) (t : Table B) (up : IsRising t) where
   lives-enough (suc n) zero p h le =
       absurd (omega (arith, lives-for-below (suc n) p h))
   lives-enough (suc n) (suc m) p h le =
-      let c = and_parts (nat_lt p t.size) (list_any (leads (Within n)) (t.row p)) h in
+      let c = and_parts (nat_lt p t.size) (list_any (edge_leads (Within n)) (t.row p)) h in
       let below : p < t.size = ltb-true p t.size c.0 in
       living m p below
       (each (λ q. lives-enough n m q) (t.row p)
       (λ q has. let later = up.enters p q below has in omega (arith, le, later.0))
-      (some-any (leads (Within n)) (t.row p) c.1))
+      (some-any (edge_leads (Within n)) (t.row p) c.1))
     where
       each : ((q : ℕ) → IsTrue (Within n q) → t.size ≤ q + m → IsTrue (Within m q)) → (es : List (Edge B))
-          → ((q : ℕ) → SomeOf (λ (e : Edge B). Has e.enters q) es → t.size ≤ q + m)
-          → SomeOf (λ e. IsTrue (leads (Within n) e)) es → SomeOf (λ e. IsTrue (leads (Within m) e)) es
+          → ((q : ℕ) → SomeOf (λ (e : Edge B). HasNumber e.enters q) es → t.size ≤ q + m)
+          → SomeOf (λ e. IsTrue (edge_leads (Within n) e)) es → SomeOf (λ e. IsTrue (edge_leads (Within m) e)) es
       each enough [] late h = absurd h
       each enough (e ∷ es) late (inl h) = elim (or_cases e.accepts (list_any (Within n) e.enters) h) [
         | inl a ↦ inl (or_left e.accepts (list_any (Within m) e.enters) a)
@@ -199,7 +202,7 @@ module _ (B : Type 0) (t : Table B) (up : IsRising t) where
   lives-enters holds p i q below h on =
       lives-enough (suc t.size) t.size p
       (living t.size p below
-      (SomeOf-each (λ e. Fires holds i e × Has e.enters q) (λ e. IsTrue (leads (Within t.size) e)) (t.row p)
+      (SomeOf-each (λ e. Fires holds i e × HasNumber e.enters q) (λ e. IsTrue (edge_leads (Within t.size) e)) (t.row p)
       (λ e x. leads-on (Within t.size) e q x.1 on) h))
       (omega arith)
 
@@ -207,46 +210,47 @@ module _ (B : Type 0) (t : Table B) (up : IsRising t) where
   lives-accepts holds p i below h =
       lives-enough (suc zero) t.size p
       (living zero p below
-      (SomeOf-each (λ e. Fires holds i e × (e.accepts ≡ true)) (λ e. IsTrue (leads (Within zero) e)) (t.row p)
+      (SomeOf-each (λ e. Fires holds i e × (e.accepts ≡ true)) (λ e. IsTrue (edge_leads (Within zero) e)) (t.row p)
       (λ e x. or_left e.accepts (list_any (Within zero) e.enters) x.1) h))
       (omega arith)
 
   -- a state with a match left lives
-  module _ (r : Plan B) (spells : Spells r t) where
-    Left-lives-for : (holds : B → ℕ → Bool) (n : ℕ) (x : State r) (i j : ℕ) → t.size ≤ spells.number x + n
+  module _ (r : Plan B) (spells : NumbersStates r t) where
+    Left-lives-for : (holds : B → ℕ → Bool) (n : ℕ) (x : PlanState r) (i j : ℕ) → t.size ≤ spells.number x + n
         → Left holds r x i j → IsTrue (Within n (spells.number x))
     Left-lives-for holds zero x i j le h = absurd (omega (arith, spells.below x))
     Left-lives-for holds (suc n) x i j le h = elim (Left-goes B holds r x i j h) [
       | inl a ↦
           living n (spells.number x) (spells.below x)
-          (SomeOf-each (λ e. Fires holds i e × (e.accepts ≡ true)) (λ e. IsTrue (leads (Within n) e))
+          (SomeOf-each (λ e. Fires holds i e × (e.accepts ≡ true)) (λ e. IsTrue (edge_leads (Within n) e))
           (t.row (spells.number x)) (λ e y. or_left e.accepts (list_any (Within n) e.enters) y.1)
           ((spells.accepts holds x i).1 a.1))
       | inr a ↦
           let later = spells.rises holds x a.0 i a.1 in
           let on = Left-lives-for holds n a.0 (i + 1) j (omega (arith, le, later)) a.2 in
           living n (spells.number x) (spells.below x)
-          (SomeOf-each (λ e. Fires holds i e × Has e.enters (spells.number a.0)) (λ e. IsTrue (leads (Within n) e))
+          (SomeOf-each (λ e. Fires holds i e × HasNumber e.enters (spells.number a.0))
+          (λ e. IsTrue (edge_leads (Within n) e))
           (t.row (spells.number x)) (λ e y. leads-on (Within n) e (spells.number a.0) y.1 on)
           ((spells.enters holds x i (spells.number a.0)).1 (a.0, refl, a.1)))
     ]
 
-    pub Left-lives : (holds : B → ℕ → Bool) (x : State r) (i j : ℕ) → Left holds r x i j
+    pub Left-lives : (holds : B → ℕ → Bool) (x : PlanState r) (i j : ℕ) → Left holds r x i j
         → IsTrue (lives t (spells.number x))
     Left-lives holds x i j h = Left-lives-for holds t.size x i j (omega arith) h
 
     -- a state that lives has a match left, where every boolean is true from then on
-    lives-for-Left : (holds : B → ℕ → Bool) (n : ℕ) (x : State r) (i : ℕ)
+    lives-for-Left : (holds : B → ℕ → Bool) (n : ℕ) (x : PlanState r) (i : ℕ)
         → ((b : B) (k : ℕ) → i ≤ k → IsTrue (holds b k)) → IsTrue (Within n (spells.number x))
         → (j : ℕ) × Left holds r x i j
     lives-for-Left holds zero x i free h = cc
     lives-for-Left holds (suc n) x i free h =
         let c =
-        and_parts (nat_lt (spells.number x) t.size) (list_any (leads (Within n)) (t.row (spells.number x))) h in
+        and_parts (nat_lt (spells.number x) t.size) (list_any (edge_leads (Within n)) (t.row (spells.number x))) h in
         let fires : (e : Edge B) → Fires holds i e =
         λ e. EachOf-all (λ b. IsTrue (holds b i)) e.wanted (λ b. free b i (omega arith)) in
         elim (leads-from (Within n) (t.row (spells.number x))
-        (some-any (leads (Within n)) (t.row (spells.number x)) c.1)) [
+        (some-any (edge_leads (Within n)) (t.row (spells.number x)) c.1)) [
           | inl a ↦
               let on : Accepts holds t (spells.number x) i =
               SomeOf-each (λ (e : Edge B). e.accepts ≡ true) (λ e. Fires holds i e × (e.accepts ≡ true))
@@ -254,7 +258,7 @@ module _ (B : Type 0) (t : Table B) (up : IsRising t) where
               (i + 1, goes-Left B holds r x i (i + 1) (inl (refl, (spells.accepts holds x i).0 on)))
           | inr a ↦
               let on : Enters holds t (spells.number x) i a.0 =
-              SomeOf-each (λ (e : Edge B). Has e.enters a.0) (λ e. Fires holds i e × Has e.enters a.0)
+              SomeOf-each (λ (e : Edge B). HasNumber e.enters a.0) (λ e. Fires holds i e × HasNumber e.enters a.0)
               (t.row (spells.number x)) (λ e y. (fires e, y)) a.1 in
               let y = (spells.enters holds x i a.0).0 on in
               let rest =
@@ -263,7 +267,7 @@ module _ (B : Type 0) (t : Table B) (up : IsRising t) where
               (rest.0, goes-Left B holds r x i rest.0 (inr (y.0, y.2, rest.1)))
         ]
 
-    pub lives-Left : (holds : B → ℕ → Bool) (x : State r) (i : ℕ) → ((b : B) (k : ℕ) → i ≤ k → IsTrue (holds b k))
+    pub lives-Left : (holds : B → ℕ → Bool) (x : PlanState r) (i : ℕ) → ((b : B) (k : ℕ) → i ≤ k → IsTrue (holds b k))
         → IsTrue (lives t (spells.number x)) → (j : ℕ) × Left holds r x i j
     lives-Left holds x i free h = lives-for-Left holds t.size x i free h
 
@@ -271,38 +275,39 @@ module _ (B : Type 0) (t : Table B) (up : IsRising t) where
   abbrev Led : ℕ → List ℕ
   Led n = led_to t.starts t.row n
 
-  led-more : (n m q : ℕ) → n ≤ m → Has (Led n) q → Has (Led m) q
-  led-more n zero q le h = let e : n ≡ 0 = omega arith in subst (λ k. Has (Led k) q) e h
+  led-more : (n m q : ℕ) → n ≤ m → HasNumber (Led n) q → HasNumber (Led m) q
+  led-more n zero q le h = let e : n ≡ 0 = omega arith in subst (λ k. HasNumber (Led k) q) e h
   led-more n (suc m) q le h = elim (cases_eq n (suc m)) [
-    | inl e ↦ subst (λ k. Has (Led k) q) e h
+    | inl e ↦ subst (λ k. HasNumber (Led k) q) e h
     | inr other ↦
-        append-SomeOf (λ x. x ≡ q) (Led m) (picked (is_among (Led m) m) (flat_map (λ e. e.enters) (t.row m)))
+        append-SomeOf (λ x. x ≡ q) (Led m) (picked_if (is_among (Led m) m) (flat_map (λ e. e.enters) (t.row m)))
         (inl (led-more n m q (omega arith) h))
   ]
 
-  Has-among : (qs : List ℕ) (q : ℕ) → Has qs q → IsTrue (is_among qs q)
+  Has-among : (qs : List ℕ) (q : ℕ) → HasNumber qs q → IsTrue (is_among qs q)
   Has-among qs q h =
       any-some (λ x. x == q) qs (SomeOf-each (λ x. x ≡ q) (λ x. IsTrue (x == q)) qs (λ x e. eq-eqb x q e) h)
 
-  led-on : (p q : ℕ) → Has (Led p) p → SomeOf (λ (e : Edge B). Has e.enters q) (t.row p) → Has (Led (suc p)) q
+  led-on : (p q : ℕ) → HasNumber (Led p) p → SomeOf (λ (e : Edge B). HasNumber e.enters q) (t.row p)
+      → HasNumber (Led (suc p)) q
   led-on p q here on =
-      append-SomeOf (λ x. x ≡ q) (Led p) (picked (is_among (Led p) p) (flat_map (λ e. e.enters) (t.row p)))
+      append-SomeOf (λ x. x ≡ q) (Led p) (picked_if (is_among (Led p) p) (flat_map (λ e. e.enters) (t.row p)))
       (inr (picked-SomeOf (λ x. x ≡ q) (is_among (Led p) p) (flat_map (λ e. e.enters) (t.row p))
       (Has-among (Led p) p here)
       (flat-SomeOf (λ x. x ≡ q) (λ (e : Edge B). e.enters) (t.row p) on)))
 
-  Stands-led : (holds : B → ℕ → Bool) (c k q : ℕ) → Stands B t up holds c k q → Has (Led q) q
+  Stands-led : (holds : B → ℕ → Bool) (c k q : ℕ) → Stands B t up holds c k q → HasNumber (Led q) q
   Stands-led holds c zero q h = led-more 0 q q (omega arith) h
   Stands-led holds c (suc k) q h =
       let below = Stands-below B t up holds c k h.0 h.1 in
       let on =
-      SomeOf-each (λ e. Fires holds (c + k) e × Has e.enters q) (λ (e : Edge B). Has e.enters q) (t.row h.0)
+      SomeOf-each (λ e. Fires holds (c + k) e × HasNumber e.enters q) (λ (e : Edge B). HasNumber e.enters q) (t.row h.0)
       (λ e x. x.1) h.2 in
       let later = up.enters h.0 q below on in
       led-more (suc h.0) q q (omega (arith, later.0)) (led-on h.0 q (Stands-led holds c k h.0 h.1) on)
 
   pub Stands-kept : (holds : B → ℕ → Bool) (c k p : ℕ) → Stands B t up holds c k p → IsTrue (lives t p)
-      → IsTrue (is_kept t p)
+      → IsTrue (is_position_kept t p)
   Stands-kept holds c k p h on =
       let below = Stands-below B t up holds c k p h in
       and_from (lives t p) (is_among (Led t.size) p) on
@@ -310,104 +315,111 @@ module _ (B : Type 0) (t : Table B) (up : IsRising t) where
 
   -- the position of t that has the number q in what is kept
   abbrev pub from : ℕ → ℕ
-  from q = place (is_kept t) t.size q
+  from q = place (is_position_kept t) t.size q
 
-  pub from-kept : (q : ℕ) → q < (sifted t).size → (from q < t.size) × IsTrue (is_kept t (from q))
-      × (rank (is_kept t) (from q) ≡ q)
-  from-kept q below = rank-place (is_kept t) t.size q below
+  pub from-kept : (q : ℕ) → q < (sifted t).size → (from q < t.size) × IsTrue (is_position_kept t (from q))
+      × (kept_below (is_position_kept t) (from q) ≡ q)
+  from-kept q below = rank-place (is_position_kept t) t.size q below
 
-  kept-lives : (p : ℕ) → IsTrue (is_kept t p) → IsTrue (lives t p)
+  kept-lives : (p : ℕ) → IsTrue (is_position_kept t p) → IsTrue (lives t p)
   kept-lives p h = (and_parts (lives t p) (is_among (led_to t.starts t.row t.size) p) h).0
 
   pub from-lives : (q : ℕ) → q < (sifted t).size → IsTrue (lives t (from q))
   from-lives q below = kept-lives (from q) (from-kept q below).1
 
-  from-rank : (p : ℕ) → IsTrue (is_kept t p) → from (rank (is_kept t) p) ≡ p
-  from-rank p on = place-rank (is_kept t) t.size p (lives-below p (kept-lives p on)) on
+  from-rank : (p : ℕ) → IsTrue (is_position_kept t p) → from (kept_below (is_position_kept t) p) ≡ p
+  from-rank p on = place-rank (is_position_kept t) t.size p (lives-below p (kept-lives p on)) on
 
   -- an edge of what is kept, and the edge that it was
   sifted-some : (P : Edge B → Type 0) (es : List (Edge B)) (q : ℕ)
-      → SomeOf (λ e. P e × Has (sift (is_kept t) e.enters) q) es → (x : ℕ) × SomeOf (λ e. P e × Has e.enters x) es
-      × IsTrue (is_kept t x) × (rank (is_kept t) x ≡ q)
+      → SomeOf (λ e. P e × HasNumber (sift (is_position_kept t) e.enters) q) es → (x : ℕ)
+      × SomeOf (λ e. P e × HasNumber e.enters x) es
+      × IsTrue (is_position_kept t x) × (kept_below (is_position_kept t) x ≡ q)
   sifted-some P [] q h = absurd h
   sifted-some P (e ∷ es) q (inl h) =
-      let k = sift-Has (is_kept t) e.enters q h.1 in (k.0, inl (h.0, k.1), k.2, k.3)
+      let k = sift-Has (is_position_kept t) e.enters q h.1 in (k.0, inl (h.0, k.1), k.2, k.3)
   sifted-some P (e ∷ es) q (inr h) = let k = sifted-some P es q h in (k.0, inr k.1, k.2, k.3)
 
-  some-sifted : (P : Edge B → Type 0) (es : List (Edge B)) (x : ℕ) → SomeOf (λ e. P e × Has e.enters x) es
-      → IsTrue (is_kept t x) → SomeOf (λ e. P e × Has (sift (is_kept t) e.enters) (rank (is_kept t) x)) es
+  some-sifted : (P : Edge B → Type 0) (es : List (Edge B)) (x : ℕ) → SomeOf (λ e. P e × HasNumber e.enters x) es
+      → IsTrue (is_position_kept t x)
+      → SomeOf (λ e. P e × HasNumber (sift (is_position_kept t) e.enters) (kept_below (is_position_kept t) x)) es
   some-sifted P es x h on =
-      SomeOf-each (λ e. P e × Has e.enters x) (λ e. P e × Has (sift (is_kept t) e.enters) (rank (is_kept t) x)) es
-      (λ e a. (a.0, Has-sift (is_kept t) e.enters x a.1 on)) h
+      SomeOf-each (λ e. P e × HasNumber e.enters x)
+      (λ e. P e × HasNumber (sift (is_position_kept t) e.enters) (kept_below (is_position_kept t) x)) es
+      (λ e a. (a.0, Has-sift (is_position_kept t) e.enters x a.1 on)) h
 
   pub sifted-rising : IsRising (sifted t)
   sifted-rising = record {
     starts = λ q h.
-        let k = sift-Has (is_kept t) t.starts q h in
-        let less = rank-below (is_kept t) k.0 t.size (up.starts k.0 k.1) k.2 in
+        let k = sift-Has (is_position_kept t) t.starts q h in
+        let less = rank-below (is_position_kept t) k.0 t.size (up.starts k.0 k.1) k.2 in
         omega (arith, k.3, less);
     enters = λ p q below h.
         let f = from-kept p below in
         let here =
-        SomeOf-map (λ (e : Edge B). Has e.enters q) (sifted_edge (is_kept t)) (t.row (from p)) h in
+        SomeOf-map (λ (e : Edge B). HasNumber e.enters q) (sifted_edge (is_position_kept t)) (t.row (from p)) h in
         let k =
         sifted-some (λ e. Unit {0}) (t.row (from p)) q
-        (SomeOf-each (λ e. Has (sift (is_kept t) e.enters) q) (λ e. Unit {0} × Has (sift (is_kept t) e.enters) q)
+        (SomeOf-each (λ e. HasNumber (sift (is_position_kept t) e.enters) q)
+        (λ e. Unit {0} × HasNumber (sift (is_position_kept t) e.enters) q)
         (t.row (from p)) (λ e x. (tt, x)) here) in
         let later =
         up.enters (from p) k.0 f.0
-        (SomeOf-each (λ (e : Edge B). Unit {0} × Has e.enters k.0) (λ e. Has e.enters k.0) (t.row (from p))
+        (SomeOf-each (λ (e : Edge B). Unit {0} × HasNumber e.enters k.0) (λ e. HasNumber e.enters k.0) (t.row (from p))
         (λ e x. x.1) k.1) in
-        let more = rank-below (is_kept t) (from p) k.0 later.0 f.1 in
-        let less = rank-below (is_kept t) k.0 t.size later.1 k.2 in
+        let more = rank-below (is_position_kept t) (from p) k.0 later.0 f.1 in
+        let less = rank-below (is_position_kept t) k.0 t.size later.1 k.2 in
         (omega (arith, k.3, more, f.2), omega (arith, k.3, less));
   }
 
   pub sifted-Accepts : (holds : B → ℕ → Bool) (q i : ℕ) → Accepts holds (sifted t) q i → Accepts holds t (from q) i
   sifted-Accepts holds q i h =
-      SomeOf-map (λ (e : Edge B). Fires holds i e × (e.accepts ≡ true)) (sifted_edge (is_kept t)) (t.row (from q)) h
+      SomeOf-map (λ (e : Edge B). Fires holds i e × (e.accepts ≡ true)) (sifted_edge (is_position_kept t))
+      (t.row (from q)) h
 
-  pub Accepts-sifted : (holds : B → ℕ → Bool) (p i : ℕ) → IsTrue (is_kept t p) → Accepts holds t p i
-      → Accepts holds (sifted t) (rank (is_kept t) p) i
+  pub Accepts-sifted : (holds : B → ℕ → Bool) (p i : ℕ) → IsTrue (is_position_kept t p) → Accepts holds t p i
+      → Accepts holds (sifted t) (kept_below (is_position_kept t) p) i
   Accepts-sifted holds p i on h =
-      map-SomeOf (λ (e : Edge B). Fires holds i e × (e.accepts ≡ true)) (sifted_edge (is_kept t))
-      (t.row (from (rank (is_kept t) p)))
+      map-SomeOf (λ (e : Edge B). Fires holds i e × (e.accepts ≡ true)) (sifted_edge (is_position_kept t))
+      (t.row (from (kept_below (is_position_kept t) p)))
       (subst (λ k. Accepts holds t k i) (sym (from-rank p on)) h)
 
   sifted-Enters : (holds : B → ℕ → Bool) (p i q : ℕ) → Enters holds (sifted t) p i q → (x : ℕ)
-      × Enters holds t (from p) i x × IsTrue (is_kept t x) × (rank (is_kept t) x ≡ q)
+      × Enters holds t (from p) i x × IsTrue (is_position_kept t x) × (kept_below (is_position_kept t) x ≡ q)
   sifted-Enters holds p i q h =
       sifted-some (Fires holds i) (t.row (from p)) q
-      (SomeOf-map (λ (e : Edge B). Fires holds i e × Has e.enters q) (sifted_edge (is_kept t)) (t.row (from p)) h)
+      (SomeOf-map (λ (e : Edge B). Fires holds i e × HasNumber e.enters q) (sifted_edge (is_position_kept t))
+      (t.row (from p)) h)
 
-  Enters-sifted : (holds : B → ℕ → Bool) (p i x : ℕ) → IsTrue (is_kept t p) → Enters holds t p i x → IsTrue
-      (is_kept t x)
-      → Enters holds (sifted t) (rank (is_kept t) p) i (rank (is_kept t) x)
+  Enters-sifted : (holds : B → ℕ → Bool) (p i x : ℕ) → IsTrue (is_position_kept t p) → Enters holds t p i x → IsTrue
+      (is_position_kept t x)
+      → Enters holds (sifted t) (kept_below (is_position_kept t) p) i (kept_below (is_position_kept t) x)
   Enters-sifted holds p i x on h also =
-      map-SomeOf (λ (e : Edge B). Fires holds i e × Has e.enters (rank (is_kept t) x)) (sifted_edge (is_kept t))
-      (t.row (from (rank (is_kept t) p)))
-      (some-sifted (Fires holds i) (t.row (from (rank (is_kept t) p))) x
+      map-SomeOf (λ (e : Edge B). Fires holds i e × HasNumber e.enters (kept_below (is_position_kept t) x))
+      (sifted_edge (is_position_kept t))
+      (t.row (from (kept_below (is_position_kept t) p)))
+      (some-sifted (Fires holds i) (t.row (from (kept_below (is_position_kept t) p))) x
       (subst (λ k. Enters holds t k i x) (sym (from-rank p on)) h) also)
 
   -- it stands where t does, so far as that lives
   pub sifted-Stands : (holds : B → ℕ → Bool) (c k q : ℕ) → Stands B (sifted t) sifted-rising holds c k q
       → Stands B t up holds c k (from q)
   sifted-Stands holds c zero q h =
-      let x = sift-Has (is_kept t) t.starts q h in
+      let x = sift-Has (is_position_kept t) t.starts q h in
       let e : x.0 ≡ from q = sym (from-rank x.0 x.2) ∙ ap from x.3 in
-      subst (λ p. Has t.starts p) e x.1
+      subst (λ p. HasNumber t.starts p) e x.1
   sifted-Stands holds c (suc k) q h =
       let x = sifted-Enters holds h.0 (c + k) q h.2 in
       let e : x.0 ≡ from q = sym (from-rank x.0 x.2) ∙ ap from x.3 in
       (from h.0, sifted-Stands holds c k h.0 h.1, subst (λ p. Enters holds t (from h.0) (c + k) p) e x.1)
 
   pub Stands-sifted : (holds : B → ℕ → Bool) (c k p : ℕ) → Stands B t up holds c k p → IsTrue (lives t p)
-      → Stands B (sifted t) sifted-rising holds c k (rank (is_kept t) p)
-  Stands-sifted holds c zero p h on = Has-sift (is_kept t) t.starts p h (Stands-kept holds c zero p h on)
+      → Stands B (sifted t) sifted-rising holds c k (kept_below (is_position_kept t) p)
+  Stands-sifted holds c zero p h on = Has-sift (is_position_kept t) t.starts p h (Stands-kept holds c zero p h on)
   Stands-sifted holds c (suc k) p h on =
       let below = Stands-below B t up holds c k h.0 h.1 in
       let before = lives-enters holds h.0 (c + k) p below h.2 on in (
-        rank (is_kept t) h.0,
+        kept_below (is_position_kept t) h.0,
         Stands-sifted holds c k h.0 h.1 before,
         Enters-sifted holds h.0 (c + k) p (Stands-kept holds c k h.0 h.1 before) h.2
             (Stands-kept holds c (suc k) p h on),

@@ -7,7 +7,7 @@ use Rattle.std.specs.Prelude.{IsTrue, sum_by}
 use Rattle.std.specs.List.{flat_map}
 use Rattle.std.proofs.lemmas.Bool.{cases_lt, le-leb, and_from, or_left}
 use Rattle.std.proofs.lemmas.List.Sums.{sum_by-append, sum_by-cons}
-use Rattle.compiler_positions.specs.Tables.{Edge, shift, picked, numbers}
+use Rattle.compiler_positions.specs.Tables.{Edge, shift, picked_if, numbers_from}
 use Rattle.compiler_positions.specs.Sections.{edge_size, with_atom}
 use Rattle.compiler_positions.specs.Rows.{TableData, ChangeData, changed, change_all, moved, edges_size, row_size}
 use Rattle.compiler_positions.specs.Rows.{rows_size}
@@ -20,11 +20,11 @@ use Rattle.compiler_positions.specs.Rows.{tick_data}
 copies-few : (first most : ℕ) → length (copies_data (tick_data None) first most) ≤ 1
 copies-few first most = few (most - first)
   where
-    few : (k : ℕ) → length (flat_map (λ c. shift (c * 1) (0 ∷ [])) (numbers first (min 1 k))) ≤ 1
+    few : (k : ℕ) → length (flat_map (λ c. shift (c * 1) (0 ∷ [])) (numbers_from first (min 1 k))) ≤ 1
     few zero = omega arith
     few (suc k) = one (min 1 (suc k)) (omega arith)
       where
-        one : (n : ℕ) → n ≡ 1 → length (flat_map (λ c. shift (c * 1) (0 ∷ [])) (numbers first n)) ≤ 1
+        one : (n : ℕ) → n ≡ 1 → length (flat_map (λ c. shift (c * 1) (0 ∷ [])) (numbers_from first n)) ≤ 1
         one zero e = absurd (omega arith)
         one (suc zero) e = omega arith
         one (suc (suc n)) e = absurd (omega arith)
@@ -38,7 +38,7 @@ ticks-short least most = short 0 most
   where
     short : (first count : ℕ)
         → rows_size (flat_map (λ c. change_all (turn_data (tick_data None) least most c) (tick_data None).rows)
-        (numbers first count)) ≤ 3 * count
+        (numbers_from first count)) ≤ 3 * count
     short first zero = omega arith
     short first (suc count) =
         let c : ChangeData = turn_data (tick_data None) least most first in
@@ -50,7 +50,7 @@ ticks-short least most = short 0 most
           short (first + 1) count,
           sum_by-append row_size (change_all c (tick_data None).rows)
               (flat_map (λ c. change_all (turn_data (tick_data None) least most c) (tick_data None).rows)
-              (numbers (first + 1) count)),
+              (numbers_from (first + 1) count)),
           sum_by-cons row_size (changed c e ∷ []) [],
           sum_by-cons edge_size (changed c e) [],
         )

@@ -4,8 +4,9 @@ use Rattle.std.proofs.Common.{subst, arith}
 use Rattle.std.specs.Prelude.{IsTrue, map, ◌↔◌}
 use Rattle.std.proofs.lemmas.Bool.{lt-ltb, le-ltb, cases_lt, or_cases, or_left, or_right}
 use Rattle.compiler_positions.specs.Plans.{Plan, tick, skip, any, under}
-use Rattle.compiler_positions.specs.States.{State, First, Ends, Steps}
-use Rattle.compiler_positions.specs.Tables.{Edge, Table, SomeOf, Has, Fires, Enters, Accepts, Spells, shift, shifted}
+use Rattle.compiler_positions.specs.States.{PlanState, First, Ends, StepsTo}
+use Rattle.compiler_positions.specs.Tables.{Edge, Table, SomeOf, HasNumber, Fires, Enters, Accepts, NumbersStates}
+use Rattle.compiler_positions.specs.Tables.{shift, shifted_edge}
 use Rattle.compiler_positions.specs.Tables.{tick_table}
 use Rattle.compiler_positions.specs.Tables.{skip_table, any_table, wanting, under_table}
 use Rattle.compiler_positions.proofs.Lists.{SomeOf-each, SomeOf-map, map-SomeOf, SomeOf-append, append-SomeOf}
@@ -14,32 +15,32 @@ use Rattle.compiler_positions.proofs.Lists.{shift-Has}
 
 module _ (B : Type 0) (holds : B → ℕ → Bool) (i : ℕ) where
   abbrev pub EnterIn : ℕ → List (Edge B) → Type 0
-  EnterIn q es = SomeOf (λ e. Fires holds i e × Has e.enters q) es
+  EnterIn q es = SomeOf (λ e. Fires holds i e × HasNumber e.enters q) es
 
   abbrev pub AcceptIn : List (Edge B) → Type 0
   AcceptIn es = SomeOf (λ e. Fires holds i e × (e.accepts ≡ true)) es
 
   -- edges moved up
-  pub shifted-Enter : (n q : ℕ) (es : List (Edge B)) → EnterIn q (map (shifted n) es) → (y : ℕ) × (n + y ≡ q)
+  pub shifted-Enter : (n q : ℕ) (es : List (Edge B)) → EnterIn q (map (shifted_edge n) es) → (y : ℕ) × (n + y ≡ q)
       × EnterIn y es
   shifted-Enter n q [] h = absurd h
   shifted-Enter n q (e ∷ es) (inl h) = let x = Has-shift n e.enters q h.1 in (x.0, x.1, inl (h.0, x.2))
   shifted-Enter n q (e ∷ es) (inr h) = let x = shifted-Enter n q es h in (x.0, x.1, inr x.2)
 
-  pub Enter-shifted : (n q y : ℕ) (es : List (Edge B)) → n + y ≡ q → EnterIn y es → EnterIn q (map (shifted n) es)
+  pub Enter-shifted : (n q y : ℕ) (es : List (Edge B)) → n + y ≡ q → EnterIn y es → EnterIn q (map (shifted_edge n) es)
   Enter-shifted n q y [] e h = absurd h
   Enter-shifted n q y (x ∷ es) e (inl h) = inl (h.0, shift-Has n x.enters y q e h.1)
   Enter-shifted n q y (x ∷ es) e (inr h) = inr (Enter-shifted n q y es e h)
 
-  pub shifted-Accept : (n : ℕ) (es : List (Edge B)) → AcceptIn (map (shifted n) es) → AcceptIn es
-  shifted-Accept n es h = SomeOf-map (λ e. Fires holds i e × (e.accepts ≡ true)) (shifted n) es h
+  pub shifted-Accept : (n : ℕ) (es : List (Edge B)) → AcceptIn (map (shifted_edge n) es) → AcceptIn es
+  shifted-Accept n es h = SomeOf-map (λ e. Fires holds i e × (e.accepts ≡ true)) (shifted_edge n) es h
 
-  pub Accept-shifted : (n : ℕ) (es : List (Edge B)) → AcceptIn es → AcceptIn (map (shifted n) es)
-  Accept-shifted n es h = map-SomeOf (λ e. Fires holds i e × (e.accepts ≡ true)) (shifted n) es h
+  pub Accept-shifted : (n : ℕ) (es : List (Edge B)) → AcceptIn es → AcceptIn (map (shifted_edge n) es)
+  Accept-shifted n es h = map-SomeOf (λ e. Fires holds i e × (e.accepts ≡ true)) (shifted_edge n) es h
 
 -- a boolean
 module _ (B : Type 0) (b : B) where
-  pub tick-spells : Spells (tick b) (tick_table b)
+  pub tick-spells : NumbersStates (tick b) (tick_table b)
   tick-spells = record {
     number = λ x. 0;
     below = λ x. omega arith;
@@ -53,7 +54,7 @@ module _ (B : Type 0) (b : B) where
 
 -- nothing
 module _ (B : Type 0) where
-  pub skip-spells : Spells {B = B} skip skip_table
+  pub skip-spells : NumbersStates {B = B} skip skip_table
   skip-spells = record {
     number = λ x. absurd x;
     below = λ x. absurd x;
@@ -66,35 +67,37 @@ module _ (B : Type 0) where
   }
 
 -- one of two
-module _ (B : Type 0) (r s : Plan B) (t u : Table B) (sr : Spells r t) (ss : Spells s u) where
-  any-number : State r ⊎ State s → ℕ
+module _ (B : Type 0) (r s : Plan B) (t u : Table B) (sr : NumbersStates r t) (ss : NumbersStates s u) where
+  any-number : PlanState r ⊎ PlanState s → ℕ
   any-number (inl x) = sr.number x
   any-number (inr y) = t.size + ss.number y
 
-  any-below : (x : State r ⊎ State s) → any-number x < t.size + u.size
+  any-below : (x : PlanState r ⊎ PlanState s) → any-number x < t.size + u.size
   unfolding any-number
   any-below (inl x) = omega (arith, sr.below x)
   any-below (inr y) = omega (arith, ss.below y)
 
-  any-front : (x : State r) → (any_table t u).row (sr.number x) ≡ t.row (sr.number x)
+  any-front : (x : PlanState r) → (any_table t u).row (sr.number x) ≡ t.row (sr.number x)
   any-front x = rw (lt-ltb (sr.number x) t.size (sr.below x)) refl
 
-  any-back : (y : State s) → (any_table t u).row (t.size + ss.number y) ≡ map (shifted t.size) (u.row (ss.number y))
+  any-back : (y : PlanState s) → (any_table t u).row (t.size + ss.number y)
+      ≡ map (shifted_edge t.size) (u.row (ss.number y))
   any-back y =
       let e : t.size + ss.number y - t.size ≡ ss.number y = omega arith in
-      rw (le-ltb (t.size + ss.number y) t.size (omega arith)) (ap (λ p. map (shifted t.size) (u.row p)) e)
+      rw (le-ltb (t.size + ss.number y) t.size (omega arith)) (ap (λ p. map (shifted_edge t.size) (u.row p)) e)
 
-  any-enters : (holds : B → ℕ → Bool) (x : State r ⊎ State s) (i q : ℕ)
-      → Enters holds (any_table t u) (any-number x) i q ↔ ((y : State r ⊎ State s) × (any-number y ≡ q)
-      × Steps holds (any r s) x i y)
+  any-enters : (holds : B → ℕ → Bool) (x : PlanState r ⊎ PlanState s) (i q : ℕ)
+      → Enters holds (any_table t u) (any-number x) i q ↔ ((y : PlanState r ⊎ PlanState s) × (any-number y ≡ q)
+      × StepsTo holds (any r s) x i y)
   unfolding any-number
   any-enters holds (inl x) i q = (
     λ h. let y = (sr.enters holds x i q).0 (subst (EnterIn B holds i q) (any-front x) h) in (inl y.0, y.1, y.2),
     λ h. subst (EnterIn B holds i q) (sym (any-front x)) ((sr.enters holds x i q).1 (front h)),
   )
     where
-      front : ((y : State r ⊎ State s) × (any-number y ≡ q) × Steps holds (any r s) (inl x) i y) → (y : State r)
-          × (sr.number y ≡ q) × Steps holds r x i y
+      front : ((y : PlanState r ⊎ PlanState s) × (any-number y ≡ q) × StepsTo holds (any r s) (inl x) i y)
+          → (y : PlanState r)
+          × (sr.number y ≡ q) × StepsTo holds r x i y
       front (inl y, e, st) = (y, e, st)
       front (inr y, e, st) = absurd st
   any-enters holds (inr x) i q = (
@@ -105,14 +108,15 @@ module _ (B : Type 0) (r s : Plan B) (t u : Table B) (sr : Spells r t) (ss : Spe
     λ h. subst (EnterIn B holds i q) (sym (any-back x)) (back h),
   )
     where
-      back : ((y : State r ⊎ State s) × (any-number y ≡ q) × Steps holds (any r s) (inr x) i y)
-          → EnterIn B holds i q (map (shifted t.size) (u.row (ss.number x)))
+      back : ((y : PlanState r ⊎ PlanState s) × (any-number y ≡ q) × StepsTo holds (any r s) (inr x) i y)
+          → EnterIn B holds i q (map (shifted_edge t.size) (u.row (ss.number x)))
       back (inl y, e, st) = absurd st
       back (inr y, e, st) =
           Enter-shifted B holds i t.size q (ss.number y) (u.row (ss.number x)) e
           ((ss.enters holds x i (ss.number y)).1 (y, refl, st))
 
-  any-accepts : (holds : B → ℕ → Bool) (x : State r ⊎ State s) (i : ℕ) → Accepts holds (any_table t u) (any-number x) i
+  any-accepts : (holds : B → ℕ → Bool) (x : PlanState r ⊎ PlanState s) (i : ℕ)
+      → Accepts holds (any_table t u) (any-number x) i
       ↔ Ends holds (any r s) x i
   unfolding any-number
   any-accepts holds (inl x) i = (
@@ -126,7 +130,8 @@ module _ (B : Type 0) (r s : Plan B) (t u : Table B) (sr : Spells r t) (ss : Spe
         (Accept-shifted B holds i t.size (u.row (ss.number x)) ((ss.accepts holds x i).1 h)),
   )
 
-  any-starts : (q : ℕ) → Has (t.starts ++ shift t.size u.starts) q ↔ ((x : State r ⊎ State s) × (any-number x ≡ q)
+  any-starts : (q : ℕ) → HasNumber (t.starts ++ shift t.size u.starts) q
+      ↔ ((x : PlanState r ⊎ PlanState s) × (any-number x ≡ q)
       × First (any r s) x)
   unfolding any-number
   any-starts q = (
@@ -140,21 +145,21 @@ module _ (B : Type 0) (r s : Plan B) (t u : Table B) (sr : Spells r t) (ss : Spe
     back,
   )
     where
-      back : ((x : State r ⊎ State s) × (any-number x ≡ q) × First (any r s) x)
-          → Has (t.starts ++ shift t.size u.starts) q
+      back : ((x : PlanState r ⊎ PlanState s) × (any-number x ≡ q) × First (any r s) x)
+          → HasNumber (t.starts ++ shift t.size u.starts) q
       back (inl x, e, f) = append-SomeOf (λ x. x ≡ q) t.starts (shift t.size u.starts) (inl ((sr.starts q).1 (x, e, f)))
       back (inr x, e, f) =
           append-SomeOf (λ x. x ≡ q) t.starts (shift t.size u.starts)
           (inr (shift-Has t.size u.starts (ss.number x) q e ((ss.starts (ss.number x)).1 (x, refl, f))))
 
-  any-state : (p : ℕ) → p < t.size + u.size → (x : State r ⊎ State s) × (any-number x ≡ p)
+  any-state : (p : ℕ) → p < t.size + u.size → (x : PlanState r ⊎ PlanState s) × (any-number x ≡ p)
   unfolding any-number
   any-state p below = elim (cases_lt p t.size) [
     | inl front ↦ let x = sr.state p front in (inl x.0, x.1)
     | inr back ↦ let x = ss.state (p - t.size) (omega arith) in (inr x.0, omega (arith, x.1))
   ]
 
-  any-rises : (holds : B → ℕ → Bool) (x y : State r ⊎ State s) (i : ℕ) → Steps holds (any r s) x i y
+  any-rises : (holds : B → ℕ → Bool) (x y : PlanState r ⊎ PlanState s) (i : ℕ) → StepsTo holds (any r s) x i y
       → any-number x < any-number y
   unfolding any-number
   any-rises holds (inl x) (inl y) i st = sr.rises holds x y i st
@@ -162,7 +167,7 @@ module _ (B : Type 0) (r s : Plan B) (t u : Table B) (sr : Spells r t) (ss : Spe
   any-rises holds (inr x) (inl y) i st = absurd st
   any-rises holds (inr x) (inr y) i st = omega (arith, ss.rises holds x y i st)
 
-  pub any-spells : Spells (any r s) (any_table t u)
+  pub any-spells : NumbersStates (any r s) (any_table t u)
   any-spells = record {
     number = any-number;
     below = any-below;
@@ -178,8 +183,8 @@ module _ (B : Type 0) (r s : Plan B) (t u : Table B) (sr : Spells r t) (ss : Spe
   }
 
 -- b at each tick
-module _ (B : Type 0) (b : B) (r : Plan B) (t : Table B) (sr : Spells r t) where
-  pub under-spells : Spells (under b r) (under_table b t)
+module _ (B : Type 0) (b : B) (r : Plan B) (t : Table B) (sr : NumbersStates r t) where
+  pub under-spells : NumbersStates (under b r) (under_table b t)
   under-spells = record {
     number = sr.number;
     below = sr.below;
@@ -188,15 +193,17 @@ module _ (B : Type 0) (b : B) (r : Plan B) (t : Table B) (sr : Spells r t) where
     starts = sr.starts;
     enters = λ holds x i q. (
       λ h.
-          let es = SomeOf-map (λ e. Fires holds i e × Has e.enters q) (wanting b) (t.row (sr.number x)) h in
+          let es = SomeOf-map (λ e. Fires holds i e × HasNumber e.enters q) (wanting b) (t.row (sr.number x)) h in
           let y =
           (sr.enters holds x i q).0
-          (SomeOf-each (λ e. Fires holds i (wanting b e) × Has e.enters q) (λ e. Fires holds i e × Has e.enters q)
+          (SomeOf-each (λ e. Fires holds i (wanting b e) × HasNumber e.enters q)
+          (λ e. Fires holds i e × HasNumber e.enters q)
           (t.row (sr.number x)) (λ e a. (a.0.1, a.1)) es) in
-          (y.0, y.1, (y.2, here holds i (λ e. Has e.enters q) (t.row (sr.number x)) es)),
+          (y.0, y.1, (y.2, here holds i (λ e. HasNumber e.enters q) (t.row (sr.number x)) es)),
       λ h.
-          map-SomeOf (λ e. Fires holds i e × Has e.enters q) (wanting b) (t.row (sr.number x))
-          (SomeOf-each (λ e. Fires holds i e × Has e.enters q) (λ e. Fires holds i (wanting b e) × Has e.enters q)
+          map-SomeOf (λ e. Fires holds i e × HasNumber e.enters q) (wanting b) (t.row (sr.number x))
+          (SomeOf-each (λ e. Fires holds i e × HasNumber e.enters q)
+          (λ e. Fires holds i (wanting b e) × HasNumber e.enters q)
           (t.row (sr.number x)) (λ e a. ((h.2.1, a.0), a.1)) ((sr.enters holds x i q).1 (h.0, h.1, h.2.0))),
     );
     accepts = λ holds x i. (

@@ -8,17 +8,18 @@ use Rattle.assertions.specs.Segments.{Seq, one, Chain, Matches, sat}
 use Rattle.assertions.specs.Attempts.{every}
 use Rattle.assertions.specs.Written.{Written, boolean, delay, lead, repeat, or, and, intersect, throughout, one_of}
 use Rattle.assertions.specs.Written.{ticks, after, later, kernel, weight, IsOrdered}
-use Rattle.compiler_positions.specs.Plans.{Plan, tick, skip, any, all, pair, under, loop, link, shape, apart, moving}
+use Rattle.compiler_positions.specs.Plans.{Plan, tick, skip, any, all, pair, under, loop, link, plan_sequence, apart}
+use Rattle.compiler_positions.specs.Plans.{moving}
 use Rattle.compiler_positions.specs.Plans.{weighs, plan}
-use Rattle.compiler_positions.specs.Living.{is_kept, sifted}
+use Rattle.compiler_positions.specs.Living.{is_position_kept, sifted}
 use Rattle.compiler_positions.proofs.Sifting.{sifted-rising, rank-few}
 use Rattle.assertions.specs.Emptiness.{admits_empty}
-use Rattle.compiler_positions.specs.Tables.{Table, table_of}
+use Rattle.compiler_positions.specs.Tables.{Table, plan_table}
 use Rattle.compiler_positions.proofs.Rising.{rising}
 use Rattle.compiler_positions.proofs.Spelling.{spelling}
-use Rattle.machine_sections.specs.Automata.{Automaton, Follows}
+use Rattle.machine_sections.specs.Automata.{Automaton, AutomatonFollows}
 use Rattle.machine_sections.specs.Effects.{automaton_of}
-use Rattle.compiler_positions.specs.Sections.{coded, told}
+use Rattle.compiler_positions.specs.Sections.{coded, told_atom}
 use Rattle.compiler_positions.specs.Laws.{IsThere, Occurs, section_for, SectionFollows, SectionIsWellFormed}
 use Rattle.compiler_positions.specs.Laws.{SectionIsSmall}
 use Rattle.compiler_positions.proofs.Follows.{section-follows}
@@ -28,8 +29,9 @@ use Rattle.compiler_positions.proofs.Shapes.{is-section, blocks-length}
 
 -- what follows a sequence follows one that matches the same
 Follows-same : (B : Type 0) (value : B → ℕ → Bool) (r s : Seq B) (a : Automaton)
-    → ((holds : B → ℕ → Bool) (i j : ℕ) → Matches holds r i j ↔ Matches holds s i j) → Follows value (every s) a
-    → Follows value (every r) a
+    → ((holds : B → ℕ → Bool) (i j : ℕ) → Matches holds r i j ↔ Matches holds s i j)
+    → AutomatonFollows value (every s) a
+    → AutomatonFollows value (every r) a
 Follows-same B value r s a same follows = record {
   ends = λ c k. (
     λ h. (same value c (c + k + 1)).1 ((follows.ends c k).0 h),
@@ -116,8 +118,8 @@ module _ (B : Type 0) (true_one : B) (h g : B → ℕ → Bool) where
 
 -- only the booleans that occur count
 Follows-told : (B : Type 0) (true_one : B) (w : Written B) (v value : B → ℕ → Bool) (a : Automaton)
-    → ((k : ℕ) (b : B) → Occurs true_one b w → v b k ≡ value b k) → Follows v (every (kernel true_one w)) a
-    → Follows value (every (kernel true_one w)) a
+    → ((k : ℕ) (b : B) → Occurs true_one b w → v b k ≡ value b k) → AutomatonFollows v (every (kernel true_one w)) a
+    → AutomatonFollows value (every (kernel true_one w)) a
 Follows-told B true_one w v value a told_so follows =
     let forth : (b : B) → Occurs true_one b w → (k : ℕ) → IsTrue (v b k) → IsTrue (value b k) =
     λ b o k x. sym (told_so k b o) ∙ x in
@@ -144,39 +146,39 @@ Follows-told B true_one w v value a told_so follows =
 pub law-section_follows : SectionFollows
 law-section_follows atom true_one rows value w ordered tells =
     let r : Plan Boolean = plan true_one w in
-    let t : Table Boolean = table_of r in
+    let t : Table Boolean = plan_table r in
     let spells = spelling Boolean r in
     let up = rising Boolean r t spells in
-    let v : Boolean → ℕ → Bool = λ b k. told (atom b) (rows k) in
+    let v : Boolean → ℕ → Bool = λ b k. told_atom (atom b) (rows k) in
     Follows-told Boolean true_one w v value (automaton_of (section_for atom true_one w) rows) tells
-    (Follows-same Boolean v (kernel true_one w) (shape r) (automaton_of (section_for atom true_one w) rows)
+    (Follows-same Boolean v (kernel true_one w) (plan_sequence r) (automaton_of (section_for atom true_one w) rows)
     (λ holds. plan-kernel Boolean holds true_one w ordered)
     (section-follows Boolean t up atom rows r spells))
 
 pub law-section_is_well_formed : SectionIsWellFormed
 law-section_is_well_formed number atoms atom true_one w there =
     let r : Plan Boolean = plan true_one w in
-    let t : Table Boolean = table_of r in
+    let t : Table Boolean = plan_table r in
     is-section Boolean (sifted t) (sifted-rising Boolean t (rising Boolean r t (spelling Boolean r))) number atoms atom
     (sifted-wants Boolean (λ b. IsThere atoms (atom b)) t
     (plan-wants Boolean (λ b. IsThere atoms (atom b)) r
     (sequence-of Boolean (λ b. IsThere atoms (atom b)) true_one w there)))
 
 -- no more positions than the weight
-moving-size : (t e : Bool) (p : Plan Boolean) (n : ℕ) → (table_of p).size ≤ n → (table_of (moving t e p)).size ≤ n
+moving-size : (t e : Bool) (p : Plan Boolean) (n : ℕ) → (plan_table p).size ≤ n → (plan_table (moving t e p)).size ≤ n
 moving-size true e p n le = le
 moving-size false true p n le = omega arith
 moving-size false false p n le = omega arith
 
 apart-size : (true_one : Boolean) (r s : Plan Boolean) (least most : ℕ) → least ≤ most
-    → (table_of (apart true_one r s least most)).size ≤ (table_of r).size + (table_of s).size + most
+    → (plan_table (apart true_one r s least most)).size ≤ (plan_table r).size + (plan_table s).size + most
 apart-size true_one r s zero zero le = omega arith
 apart-size true_one r s zero (suc most) le = let one : most * 1 ≡ most = omega arith in omega (arith, one)
 apart-size true_one r s (suc least) most le =
     let one : (most - 1) * 1 ≡ most - 1 = omega arith in omega (arith, one)
 
 pub size-weight : (true_one : Boolean) (w : Written Boolean) → IsOrdered w
-    → (table_of (plan true_one w)).size ≤ weight w
+    → (plan_table (plan true_one w)).size ≤ weight w
 size-weight true_one (boolean b) ordered = omega arith
 size-weight true_one (delay r least most s) ordered =
     moving-size (weighs (delay r least most s)) (admits_empty (delay r least most s))
@@ -204,9 +206,9 @@ size-weight true_one (or r s) ordered =
 size-weight true_one (and r s) ordered =
     let a = size-weight true_one r ordered.0 in
     let b = size-weight true_one s ordered.1 in
-    let x : (table_of (plan true_one r)).size * (table_of (plan true_one s)).size ≤ weight r
-    * (table_of (plan true_one s)).size = mul-le-mul_right (table_of (plan true_one s)).size a in
-    let y : weight r * (table_of (plan true_one s)).size ≤ weight r * weight s = mul-le-mul_left (weight r) b in
+    let x : (plan_table (plan true_one r)).size * (plan_table (plan true_one s)).size ≤ weight r
+    * (plan_table (plan true_one s)).size = mul-le-mul_right (plan_table (plan true_one s)).size a in
+    let y : weight r * (plan_table (plan true_one s)).size ≤ weight r * weight s = mul-le-mul_left (weight r) b in
     let product : (weight r + 1) * (weight s + 1) ≡ weight r * weight s + weight r + weight s + 1 = omega arith in
     moving-size (weighs (and r s)) (admits_empty (and r s)) (all (plan true_one r) (plan true_one s))
     (weight (and r s))
@@ -214,9 +216,9 @@ size-weight true_one (and r s) ordered =
 size-weight true_one (intersect r s) ordered =
     let a = size-weight true_one r ordered.0 in
     let b = size-weight true_one s ordered.1 in
-    let x : (table_of (plan true_one r)).size * (table_of (plan true_one s)).size ≤ weight r
-    * (table_of (plan true_one s)).size = mul-le-mul_right (table_of (plan true_one s)).size a in
-    let y : weight r * (table_of (plan true_one s)).size ≤ weight r * weight s = mul-le-mul_left (weight r) b in
+    let x : (plan_table (plan true_one r)).size * (plan_table (plan true_one s)).size ≤ weight r
+    * (plan_table (plan true_one s)).size = mul-le-mul_right (plan_table (plan true_one s)).size a in
+    let y : weight r * (plan_table (plan true_one s)).size ≤ weight r * weight s = mul-le-mul_left (weight r) b in
     moving-size (weighs (intersect r s)) (admits_empty (intersect r s)) (pair (plan true_one r) (plan true_one s))
     (weight (intersect r s))
     (omega (arith, x, y))
@@ -227,10 +229,10 @@ size-weight true_one (throughout b r) ordered =
 
 pub law-section_is_small : SectionIsSmall
 law-section_is_small atom true_one w ordered =
-    let t : Table Boolean = table_of (plan true_one w) in
+    let t : Table Boolean = plan_table (plan true_one w) in
     omega (
       arith,
       blocks-length (coded atom (sifted t)) 0 0 (sifted t).size,
-      rank-few (is_kept t) t.size,
+      rank-few (is_position_kept t) t.size,
       size-weight true_one w ordered,
     )

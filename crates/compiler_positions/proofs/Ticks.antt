@@ -5,18 +5,19 @@ use Rattle.std.specs.Prelude.{IsTrue}
 use Rattle.std.proofs.lemmas.Bool.{cases_eq}
 use Rattle.assertions.specs.Segments.{Matches, Chain}
 use Rattle.assertions.proofs.Segments.{Matches-forward, Chain-forward}
-use Rattle.compiler_positions.specs.Plans.{Plan, tick, skip, any, all, pair, under, loop, link, shape}
-use Rattle.compiler_positions.specs.States.{State, Nullable, First, Ends, Steps, Left, At}
+use Rattle.compiler_positions.specs.Plans.{Plan, tick, skip, any, all, pair, under, loop, link, plan_sequence}
+use Rattle.compiler_positions.specs.States.{PlanState, Nullable, First, Ends, StepsTo, Left, At}
 
 module _ (B : Type 0) (holds : B → ℕ → Bool) where
   -- the two ways of a link
   abbrev pub Linked : (fuses follows : Bool) (r g s : Plan B) (i j : ℕ) → Type 0
   Linked fuses follows r g s i j =
-      (IsTrue fuses × (e : ℕ) × (i ≤ e) × (e < j) × Matches holds (shape r) i (e + 1) × Matches holds (shape s) e j)
-      ⊎ (IsTrue follows × (m : ℕ) × (k : ℕ) × Matches holds (shape r) i m × Matches holds (shape g) m k
-      × Matches holds (shape s) k j)
+      (IsTrue fuses × (e : ℕ) × (i ≤ e) × (e < j) × Matches holds (plan_sequence r) i (e + 1)
+      × Matches holds (plan_sequence s) e j)
+      ⊎ (IsTrue follows × (m : ℕ) × (k : ℕ) × Matches holds (plan_sequence r) i m × Matches holds (plan_sequence g) m k
+      × Matches holds (plan_sequence s) k j)
 
-  pub link-Linked : (f a : Bool) (r g s : Plan B) (i j : ℕ) → Matches holds (shape (link f a r g s)) i j
+  pub link-Linked : (f a : Bool) (r g s : Plan B) (i j : ℕ) → Matches holds (plan_sequence (link f a r g s)) i j
       → Linked f a r g s i j
   link-Linked true true r g s i j (inl x) = inl (refl, x.0, x.1, x.2, x.3, x.4)
   link-Linked true true r g s i j (inr x) = inr (refl, x.1.0, x.0, x.1.1, x.1.2, x.2)
@@ -25,7 +26,7 @@ module _ (B : Type 0) (holds : B → ℕ → Bool) where
   link-Linked false false r g s i j x = absurd (omega (arith, x.3, x.1))
 
   pub Linked-link : (f a : Bool) (r g s : Plan B) (i j : ℕ) → Linked f a r g s i j
-      → Matches holds (shape (link f a r g s)) i j
+      → Matches holds (plan_sequence (link f a r g s)) i j
   Linked-link true true r g s i j (inl x) = inl (x.1, x.2, x.3, x.4, x.5)
   Linked-link true true r g s i j (inr x) = inr (x.2, (x.1, x.3, x.4), x.5)
   Linked-link true false r g s i j (inl x) = (x.1, x.2, x.3, x.4, x.5)
@@ -36,7 +37,7 @@ module _ (B : Type 0) (holds : B → ℕ → Bool) where
   Linked-link false false r g s i j (inr x) = cc
 
   -- what is left takes a tick at least
-  pub Left-after : (r : Plan B) (t : State r) (i j : ℕ) → Left holds r t i j → i < j
+  pub Left-after : (r : Plan B) (t : PlanState r) (i j : ℕ) → Left holds r t i j → i < j
   Left-after (tick b) t i j h = omega (arith, h.0)
   Left-after skip t i j h = absurd h
   Left-after (any r s) (inl p) i j h = Left-after r p i j h
@@ -50,7 +51,7 @@ module _ (B : Type 0) (holds : B → ℕ → Bool) where
       omega (
         arith,
         Left-after r t.1 i h.0 h.1,
-        Chain-forward (Matches holds (shape r)) (Matches-forward B holds (shape r)) h.2.0 h.0 j h.2.3,
+        Chain-forward (Matches holds (plan_sequence r)) (Matches-forward B holds (plan_sequence r)) h.2.0 h.0 j h.2.3,
       )
   Left-after (link f a r g s) (inl p) i j h =
       elim h [
@@ -58,12 +59,12 @@ module _ (B : Type 0) (holds : B → ℕ → Bool) where
         | inr x ↦ omega (
           arith,
           Left-after r p i x.1 x.3,
-          Matches-forward B holds (shape g) x.1 x.2 x.4,
-          Matches-forward B holds (shape s) x.2 j x.5,
+          Matches-forward B holds (plan_sequence g) x.1 x.2 x.4,
+          Matches-forward B holds (plan_sequence s) x.2 j x.5,
         )
       ]
   Left-after (link f a r g s) (inr (inl q)) i j h =
-      omega (arith, Left-after g q i h.0 h.1, Matches-forward B holds (shape s) h.0 j h.2)
+      omega (arith, Left-after g q i h.0 h.1, Matches-forward B holds (plan_sequence s) h.0 j h.2)
   Left-after (link f a r g s) (inr (inr t)) i j h = Left-after s t i j h
 
   -- the empty segment matches anywhere where it is nullable
@@ -71,7 +72,7 @@ module _ (B : Type 0) (holds : B → ℕ → Bool) where
   Nullable-Chain P h zero i = refl
   Nullable-Chain P h (suc n) i = (i, Nullable-Chain P h n i, h i)
 
-  pub Nullable-Match : (r : Plan B) → Nullable r → (i : ℕ) → Matches holds (shape r) i i
+  pub Nullable-Match : (r : Plan B) → Nullable r → (i : ℕ) → Matches holds (plan_sequence r) i i
   Nullable-Match (tick b) h i = absurd h
   Nullable-Match skip h i = refl
   Nullable-Match (any r s) h i = elim h [ inl a ↦ inl (Nullable-Match r a i) | inr b ↦ inr (Nullable-Match s b i) ]
@@ -80,7 +81,7 @@ module _ (B : Type 0) (holds : B → ℕ → Bool) where
   Nullable-Match (under b r) h i = (Nullable-Match r h i, λ k from below. absurd (omega arith))
   Nullable-Match (loop r least most) h i = elim h.1 [
     | inl z ↦ (0, omega (arith, z), omega arith, refl)
-    | inr n ↦ (least, omega arith, h.0, Nullable-Chain (Matches holds (shape r)) (Nullable-Match r n) least i)
+    | inr n ↦ (least, omega arith, h.0, Nullable-Chain (Matches holds (plan_sequence r)) (Nullable-Match r n) least i)
   ]
   Nullable-Match (link f a r g s) h i =
       Linked-link f a r g s i i
@@ -88,7 +89,7 @@ module _ (B : Type 0) (holds : B → ℕ → Bool) where
 
   -- a match is empty, or begins with a first state
   abbrev pub Begins : (r : Plan B) (i j : ℕ) → Type 0
-  Begins r i j = ((i ≡ j) × Nullable r) ⊎ ((t : State r) × First r t × Left holds r t i j)
+  Begins r i j = ((i ≡ j) × Nullable r) ⊎ ((t : PlanState r) × First r t × Left holds r t i j)
 
   -- what is left of a chain, with a match in front
   Chain-front : (P : ℕ → ℕ → Type 0) (n i m j : ℕ) → P i m → Chain P n m j → Chain P (suc n) i j
@@ -103,16 +104,17 @@ module _ (B : Type 0) (holds : B → ℕ → Bool) where
       (r.0, r.1, (c.0, r.2, c.2))
 
   -- a chain is empty, or so many empty matches, and then one that begins with a first state
-  Chain-begins : (r : Plan B) → ((i j : ℕ) → Matches holds (shape r) i j → Begins r i j) → (n i j : ℕ)
-      → Chain (Matches holds (shape r)) n i j → ((i ≡ j) × ((n ≡ 0) ⊎ Nullable r))
-      ⊎ ((c : ℕ) × (p : State r) × (m : ℕ) × (k : ℕ) × (c + 1 + k ≡ n) × ((c ≡ 0) ⊎ Nullable r) × First r p
-      × Left holds r p i m × Chain (Matches holds (shape r)) k m j)
+  Chain-begins : (r : Plan B) → ((i j : ℕ) → Matches holds (plan_sequence r) i j → Begins r i j) → (n i j : ℕ)
+      → Chain (Matches holds (plan_sequence r)) n i j → ((i ≡ j) × ((n ≡ 0) ⊎ Nullable r))
+      ⊎ ((c : ℕ) × (p : PlanState r) × (m : ℕ) × (k : ℕ) × (c + 1 + k ≡ n) × ((c ≡ 0) ⊎ Nullable r) × First r p
+      × Left holds r p i m × Chain (Matches holds (plan_sequence r)) k m j)
   Chain-begins r begins zero i j h = inl (h, inl refl)
   Chain-begins r begins (suc n) i j h =
-      let rest = Chain-rest (Matches holds (shape r)) n i j h in
+      let rest = Chain-rest (Matches holds (plan_sequence r)) n i j h in
       elim (begins i rest.0 rest.1) [
         | inl a ↦
-            elim (Chain-begins r begins n i j (subst (λ m. Chain (Matches holds (shape r)) n m j) (sym a.0) rest.2)) [
+            elim (Chain-begins r begins n i j
+            (subst (λ m. Chain (Matches holds (plan_sequence r)) n m j) (sym a.0) rest.2)) [
               | inl b ↦ inl (b.0, inr a.1)
               | inr b ↦ inr (b.0 + 1, b.1, b.2, b.3, omega (arith, b.4), inr a.1, b.6, b.7, b.8)
             ]
@@ -127,7 +129,7 @@ module _ (B : Type 0) (holds : B → ℕ → Bool) where
       let e : suc (c + n) ≡ suc c + n = omega arith in
       subst (λ k. Chain P k i j) e (Chain-front P (c + n) i i j h (Chain-fronts P c n i j (inr h) x))
 
-  pub Match-begins : (r : Plan B) (i j : ℕ) → Matches holds (shape r) i j → Begins r i j
+  pub Match-begins : (r : Plan B) (i j : ℕ) → Matches holds (plan_sequence r) i j → Begins r i j
   Match-begins (tick b) i j h = inr (tt, tt, h)
   Match-begins skip i j h = inl (h, tt)
   Match-begins (any r s) i j h =
@@ -141,13 +143,13 @@ module _ (B : Type 0) (holds : B → ℕ → Bool) where
             elim (Match-begins s i h.1 h.3) [
               | inl b ↦ inl (omega (arith, a.0, b.0, h.4), (a.1, b.1))
               | inr b ↦
-                  let e : h.1 ≡ j = omega (arith, a.0, Matches-forward B holds (shape s) i h.1 h.3, h.4) in
+                  let e : h.1 ≡ j = omega (arith, a.0, Matches-forward B holds (plan_sequence s) i h.1 h.3, h.4) in
                   inr (inr (inr b.0), (a.1, b.1), subst (λ k. Left holds s b.0 i k) e b.2)
             ]
         | inr a ↦
             elim (Match-begins s i h.1 h.3) [
               | inl b ↦
-                  let e : h.0 ≡ j = omega (arith, b.0, Matches-forward B holds (shape r) i h.0 h.2, h.4) in
+                  let e : h.0 ≡ j = omega (arith, b.0, Matches-forward B holds (plan_sequence r) i h.0 h.2, h.4) in
                   inr (inr (inl a.0), (a.1, b.1), subst (λ k. Left holds r a.0 i k) e a.2)
               | inr b ↦ inr (inl (a.0, b.0), (a.1, b.1), (h.0, h.1, a.2, b.2, h.4))
             ]
@@ -188,10 +190,10 @@ module _ (B : Type 0) (holds : B → ℕ → Bool) where
             elim (Match-begins r i x.1 x.3) [
               | inr b ↦ inr (inl b.0, b.1, inr (x.0, x.1, x.2, b.2, x.4, x.5))
               | inl b ↦
-                  elim (Match-begins g i x.2 (subst (λ m. Matches holds (shape g) m x.2) (sym b.0) x.4)) [
+                  elim (Match-begins g i x.2 (subst (λ m. Matches holds (plan_sequence g) m x.2) (sym b.0) x.4)) [
                     | inr d ↦ inr (inr (inl d.0), (x.0, b.1, d.1), (x.2, d.2, x.5))
                     | inl d ↦
-                        elim (Match-begins s i j (subst (λ m. Matches holds (shape s) m j) (sym d.0) x.5)) [
+                        elim (Match-begins s i j (subst (λ m. Matches holds (plan_sequence s) m j) (sym d.0) x.5)) [
                           | inl e ↦ inl (e.0, (x.0, b.1, d.1, e.1))
                           | inr e ↦ inr (inr (inr e.0), (x.0, b.1, d.1, e.1), e.2)
                         ]
@@ -200,7 +202,8 @@ module _ (B : Type 0) (holds : B → ℕ → Bool) where
       ]
 
   -- what is left from a first state is a match
-  First-Match : (r : Plan B) (t : State r) (i j : ℕ) → First r t → Left holds r t i j → Matches holds (shape r) i j
+  First-Match : (r : Plan B) (t : PlanState r) (i j : ℕ) → First r t → Left holds r t i j
+      → Matches holds (plan_sequence r) i j
   First-Match (tick b) t i j f h = h
   First-Match skip t i j f h = absurd h
   First-Match (any r s) (inl p) i j f h = inl (First-Match r p i j f h)
@@ -214,13 +217,13 @@ module _ (B : Type 0) (holds : B → ℕ → Bool) where
   First-Match (pair r s) t i j f h = (First-Match r t.0 i j f.0 h.0, First-Match s t.1 i j f.1 h.1)
   First-Match (under b r) p i j f h = (First-Match r p i j f h.0, h.1)
   First-Match (loop r least most) t i j f h =
-      let front = Chain-front (Matches holds (shape r)) h.2.0 i h.0 j (First-Match r t.1 i h.0 f.2 h.1) h.2.3 in
-      let empties : (t.0 ≡ 0) ⊎ Matches holds (shape r) i i =
+      let front = Chain-front (Matches holds (plan_sequence r)) h.2.0 i h.0 j (First-Match r t.1 i h.0 f.2 h.1) h.2.3 in
+      let empties : (t.0 ≡ 0) ⊎ Matches holds (plan_sequence r) i i =
       elim f.1 [ inl z ↦ inl z | inr n ↦ inr (Nullable-Match r n i) ] in (
         t.0 + suc h.2.0,
         omega (arith, h.2.1),
         omega (arith, h.2.2),
-        Chain-fronts (Matches holds (shape r)) t.0 (suc h.2.0) i j empties front,
+        Chain-fronts (Matches holds (plan_sequence r)) t.0 (suc h.2.0) i j empties front,
       )
   First-Match (link f a r g s) (inl p) i j n h =
       elim h [
@@ -233,18 +236,19 @@ module _ (B : Type 0) (holds : B → ℕ → Bool) where
       Linked-link f a r g s i j
       (inr (n.0, i, i, Nullable-Match r n.1 i, Nullable-Match g n.2 i, First-Match s t i j n.3 h))
 
-  begins-Match : (r : Plan B) (i j : ℕ) → Begins r i j → Matches holds (shape r) i j
+  begins-Match : (r : Plan B) (i j : ℕ) → Begins r i j → Matches holds (plan_sequence r) i j
   begins-Match r i j h = elim h [
-    | inl a ↦ subst (λ k. Matches holds (shape r) i k) a.0 (Nullable-Match r a.1 i)
+    | inl a ↦ subst (λ k. Matches holds (plan_sequence r) i k) a.0 (Nullable-Match r a.1 i)
     | inr a ↦ First-Match r a.0 i j a.1 a.2
   ]
 
   -- a tick: the state ends a match, or goes on to a state that does
-  abbrev pub Goes : (r : Plan B) (t : State r) (i j : ℕ) → Type 0
-  Goes r t i j = ((j ≡ i + 1) × Ends holds r t i) ⊎ ((u : State r) × Steps holds r t i u × Left holds r u (i + 1) j)
+  abbrev pub Goes : (r : Plan B) (t : PlanState r) (i j : ℕ) → Type 0
+  Goes r t i j = ((j ≡ i + 1) × Ends holds r t i) ⊎
+      ((u : PlanState r) × StepsTo holds r t i u × Left holds r u (i + 1) j)
 
   -- what is left goes on so
-  pub Left-goes : (r : Plan B) (t : State r) (i j : ℕ) → Left holds r t i j → Goes r t i j
+  pub Left-goes : (r : Plan B) (t : PlanState r) (i j : ℕ) → Left holds r t i j → Goes r t i j
   Left-goes (tick b) t i j h = inl h
   Left-goes skip t i j h = absurd h
   Left-goes (any r s) (inl p) i j h = elim (Left-goes r p i j h) [ inl a ↦ inl a | inr a ↦ inr (inl a.0, a.1, a.2) ]
@@ -326,7 +330,7 @@ module _ (B : Type 0) (holds : B → ℕ → Bool) where
       elim (Left-goes r p i (x.1 + 1) x.4) [
         | inl b ↦
             let e : x.1 ≡ i = omega (arith, b.0) in
-            elim (Match-begins s i j (subst (λ m. Matches holds (shape s) m j) e x.5)) [
+            elim (Match-begins s i j (subst (λ m. Matches holds (plan_sequence s) m j) e x.5)) [
               | inl d ↦ absurd (omega (arith, d.0, x.3, e))
               | inr d ↦
                   elim (Left-goes s d.0 i j d.2) [
@@ -368,7 +372,7 @@ module _ (B : Type 0) (holds : B → ℕ → Bool) where
       elim (Left-goes s t i j h) [ inl b ↦ inl b | inr b ↦ inr (inr (inr b.0), b.1, b.2) ]
 
   -- what goes on so is left
-  pub goes-Left : (r : Plan B) (t : State r) (i j : ℕ) → Goes r t i j → Left holds r t i j
+  pub goes-Left : (r : Plan B) (t : PlanState r) (i j : ℕ) → Goes r t i j → Left holds r t i j
   goes-Left (tick b) t i j (inl a) = a
   goes-Left (tick b) t i j (inr a) = absurd a.1
   goes-Left skip t i j h = absurd t
@@ -430,7 +434,7 @@ module _ (B : Type 0) (holds : B → ℕ → Bool) where
             most - (t.0 + 1),
             omega (arith, a.1.1, a.1.2),
             omega (arith, a.1.1),
-            Nullable-Chain (Matches holds (shape r)) (Nullable-Match r n) (most - (t.0 + 1)) j,
+            Nullable-Chain (Matches holds (plan_sequence r)) (Nullable-Match r n) (most - (t.0 + 1)) j,
           ),
         )
       ]
@@ -441,10 +445,10 @@ module _ (B : Type 0) (holds : B → ℕ → Bool) where
   )
   goes-Left (loop r least most) t i j (inr (u, inr st, le)) =
       let front =
-      Chain-front (Matches holds (shape r)) le.2.0 (i + 1) le.0 j (First-Match r u.1 (i + 1) le.0 st.4 le.1)
+      Chain-front (Matches holds (plan_sequence r)) le.2.0 (i + 1) le.0 j (First-Match r u.1 (i + 1) le.0 st.4 le.1)
       le.2.3 in
       let gap = u.0 - (t.0 + 1) in
-      let empties : (gap ≡ 0) ⊎ Matches holds (shape r) (i + 1) (i + 1) =
+      let empties : (gap ≡ 0) ⊎ Matches holds (plan_sequence r) (i + 1) (i + 1) =
       elim st.3 [ inl z ↦ inl (omega (arith, z)) | inr n ↦ inr (Nullable-Match r n (i + 1)) ] in (
         i + 1,
         goes-Left r t.1 i (i + 1) (inl (refl, st.0)),
@@ -452,7 +456,7 @@ module _ (B : Type 0) (holds : B → ℕ → Bool) where
           gap + suc le.2.0,
           omega (arith, le.2.1, st.1),
           omega (arith, le.2.2, st.1),
-          Chain-fronts (Matches holds (shape r)) gap (suc le.2.0) (i + 1) j empties front,
+          Chain-fronts (Matches holds (plan_sequence r)) gap (suc le.2.0) (i + 1) j empties front,
         ),
       )
   goes-Left (link f a r g s) (inl p) i j (inl b) =
@@ -510,7 +514,8 @@ module _ (B : Type 0) (holds : B → ℕ → Bool) where
   goes-Left (link f a r g s) (inr (inr t)) i j (inr (inr (inr u), st, le)) = goes-Left s t i j (inr (u, st, le))
 
   -- a match that goes on past n ticks stands in a state there
-  pub Match-At : (r : Plan B) (c n j : ℕ) → c + n < j → Matches holds (shape r) c j → (t : State r) × At holds r c n t
+  pub Match-At : (r : Plan B) (c n j : ℕ) → c + n < j → Matches holds (plan_sequence r) c j → (t : PlanState r)
+      × At holds r c n t
       × Left holds r t (c + n) j
   Match-At r c zero j past h = elim (Match-begins r c j h) [
     | inl a ↦ absurd (omega (arith, a.0))
@@ -525,8 +530,8 @@ module _ (B : Type 0) (holds : B → ℕ → Bool) where
             (a.0, (before.0, before.1, a.1), subst (λ k. Left holds r a.0 k j) e a.2)
       ]
 
-  pub At-Match : (r : Plan B) (c n j : ℕ) (t : State r) → At holds r c n t → Left holds r t (c + n) j
-      → Matches holds (shape r) c j
+  pub At-Match : (r : Plan B) (c n j : ℕ) (t : PlanState r) → At holds r c n t → Left holds r t (c + n) j
+      → Matches holds (plan_sequence r) c j
   At-Match r c zero j t at h =
       let e : c + 0 ≡ c = omega arith in First-Match r t c j at (subst (λ k. Left holds r t k j) e h)
   At-Match r c (suc n) j t at h =
@@ -534,7 +539,8 @@ module _ (B : Type 0) (holds : B → ℕ → Bool) where
       At-Match r c n j at.0 at.1 (goes-Left r at.0 (c + n) j (inr (t, at.2, subst (λ k. Left holds r t k j) e h)))
 
   -- a match ends at a tick where a state ends one there
-  pub Match-ends : (r : Plan B) (c n : ℕ) → Matches holds (shape r) c (c + n + 1) → (t : State r) × At holds r c n t
+  pub Match-ends : (r : Plan B) (c n : ℕ) → Matches holds (plan_sequence r) c (c + n + 1) → (t : PlanState r)
+      × At holds r c n t
       × Ends holds r t (c + n)
   Match-ends r c n h =
       let here = Match-At r c n (c + n + 1) (omega arith) h in
@@ -543,6 +549,6 @@ module _ (B : Type 0) (holds : B → ℕ → Bool) where
         | inr a ↦ absurd (omega (arith, Left-after r a.0 (c + n + 1) (c + n + 1) a.2))
       ]
 
-  pub ends-Match : (r : Plan B) (c n : ℕ) (t : State r) → At holds r c n t → Ends holds r t (c + n)
-      → Matches holds (shape r) c (c + n + 1)
+  pub ends-Match : (r : Plan B) (c n : ℕ) (t : PlanState r) → At holds r c n t → Ends holds r t (c + n)
+      → Matches holds (plan_sequence r) c (c + n + 1)
   ends-Match r c n t at ends = At-Match r c n (c + n + 1) t at (goes-Left r t (c + n) (c + n + 1) (inl (refl, ends)))

@@ -8,13 +8,15 @@ use Rattle.assertions.specs.Written.{Written, boolean, delay, lead, repeat, or, 
 use Rattle.assertions.specs.Emptiness.{admits_empty}
 use Rattle.compiler_positions.specs.Plans.{Plan, tick, skip, any, all, pair, under, loop, link, moving, apart, weighs}
 use Rattle.compiler_positions.specs.Plans.{plan}
-use Rattle.compiler_positions.specs.Tables.{Edge, Table, EachOf, shift, shifted, picked, numbers, tick_table}
+use Rattle.compiler_positions.specs.Tables.{Edge, Table, EachOf, shift, shifted_edge, picked_if, numbers_from}
+use Rattle.compiler_positions.specs.Tables.{tick_table}
 use Rattle.compiler_positions.specs.Tables.{skip_table}
-use Rattle.compiler_positions.specs.Tables.{any_table, wanting, under_table, onward, leading, joined, fusing, crossing}
-use Rattle.compiler_positions.specs.Tables.{link_table, copies, looping, loop_table, paired, all_table, coupled}
+use Rattle.compiler_positions.specs.Tables.{any_table, wanting, under_table, onward, leading, joined_edges, fusing}
+use Rattle.compiler_positions.specs.Tables.{crossing}
+use Rattle.compiler_positions.specs.Tables.{link_table, copies, looping, loop_table, paired_edges, all_table, coupled}
 use Rattle.compiler_positions.specs.Tables.{pair_table}
-use Rattle.compiler_positions.specs.Tables.{table_of}
-use Rattle.compiler_positions.specs.Living.{is_kept, place, sifted_edge, sifted}
+use Rattle.compiler_positions.specs.Tables.{plan_table}
+use Rattle.compiler_positions.specs.Living.{is_position_kept, place, sifted_edge, sifted}
 use Rattle.compiler_positions.specs.Laws.{Occurs}
 
 module _ (B : Type 0) (Q : B → Type 0) where
@@ -50,40 +52,41 @@ module _ (B : Type 0) (Q : B → Type 0) where
   each-place f keeps [] = tt
   each-place f keeps (q ∷ qs) = each-append Wants (f q) (flat_map f qs) (keeps q) (each-place f keeps qs)
 
-  each-picked : (b : Bool) (es : List (Edge B)) → Row es → Row (picked b es)
+  each-picked : (b : Bool) (es : List (Edge B)) → Row es → Row (picked_if b es)
   each-picked true es h = h
   each-picked false es h = tt
 
-  shifted-wants : (n : ℕ) (es : List (Edge B)) → Row es → Row (map (shifted n) es)
-  shifted-wants n es h = each-map (shifted n) (λ e k. k) es h
+  shifted-wants : (n : ℕ) (es : List (Edge B)) → Row es → Row (map (shifted_edge n) es)
+  shifted-wants n es h = each-map (shifted_edge n) (λ e k. k) es h
 
   any-wants : (t u : Table B) → Rows t → Rows u → Rows (any_table t u)
   any-wants t u g h p =
-      either-way (nat_lt p t.size) (t.row p) (map (shifted t.size) (u.row (p - t.size))) (g p)
+      either-way (nat_lt p t.size) (t.row p) (map (shifted_edge t.size) (u.row (p - t.size))) (g p)
       (shifted-wants t.size (u.row (p - t.size)) (h (p - t.size)))
 
   under-wants : (b : B) (t : Table B) → Q b → Rows t → Rows (under_table b t)
   under-wants b t q g p = each-map (wanting b) (λ e k. (q, k)) (t.row p) (g p)
 
-  joined-wants : (n : ℕ) (e : Edge B) → Wants e → (es : List (Edge B)) → Row es → Row (map (joined n e) es)
-  joined-wants n e w es h = each-map (joined n e) (λ f k. each-append Q e.wanted f.wanted w k) es h
+  joined-wants : (n : ℕ) (e : Edge B) → Wants e → (es : List (Edge B)) → Row es → Row (map (joined_edges n e) es)
+  joined-wants n e w es h = each-map (joined_edges n e) (λ f k. each-append Q e.wanted f.wanted w k) es h
 
   link-wants : (fuses follows : Bool) (t g u : Table B) → Rows t → Rows g → Rows u
       → Rows (link_table fuses follows t g u)
   link-wants fuses follows t g u ht hg hu p =
       either-way (nat_lt p t.size)
       (flat_map (λ e. leading follows t g u e ∷ fusing fuses t g u e) (t.row p))
-      (if nat_lt p (t.size + g.size) then map (crossing t g u) (g.row (p - t.size)) else map (shifted (t.size + g.size))
+      (if nat_lt p (t.size + g.size) then map (crossing t g u) (g.row (p - t.size)) else map
+      (shifted_edge (t.size + g.size))
       (u.row (p - (t.size + g.size))))
       (each-flat (λ e. leading follows t g u e ∷ fusing fuses t g u e)
       (λ e w. (
         w,
-        each-picked (e.accepts && fuses) (map (joined (t.size + g.size) e) (flat_map u.row u.starts))
+        each-picked (e.accepts && fuses) (map (joined_edges (t.size + g.size) e) (flat_map u.row u.starts))
             (joined-wants (t.size + g.size) e w (flat_map u.row u.starts) (each-place u.row hu u.starts)),
       ))
       (t.row p) (ht p))
       (either-way (nat_lt p (t.size + g.size)) (map (crossing t g u) (g.row (p - t.size)))
-      (map (shifted (t.size + g.size)) (u.row (p - (t.size + g.size))))
+      (map (shifted_edge (t.size + g.size)) (u.row (p - (t.size + g.size))))
       (each-map (crossing t g u) (λ e k. k) (g.row (p - t.size)) (hg (p - t.size)))
       (shifted-wants (t.size + g.size) (u.row (p - (t.size + g.size))) (hu (p - (t.size + g.size)))))
 
@@ -94,15 +97,17 @@ module _ (B : Type 0) (Q : B → Type 0) where
   all-wants : (t u : Table B) → Rows t → Rows u → Rows (all_table t u)
   all-wants t u g h p =
       either-way (nat_lt p (t.size * u.size))
-      (flat_map (λ e. map (paired t u e) (u.row (p % u.size))) (t.row (p / u.size)))
-      (if nat_lt p (t.size * u.size + t.size) then map (shifted (t.size * u.size)) (t.row (p - t.size * u.size)) else
-      map (shifted (t.size * u.size + t.size)) (u.row (p - (t.size * u.size + t.size))))
-      (each-flat (λ e. map (paired t u e) (u.row (p % u.size)))
-      (λ e w. each-map (paired t u e) (λ f k. each-append Q e.wanted f.wanted w k) (u.row (p % u.size))
+      (flat_map (λ e. map (paired_edges t u e) (u.row (p % u.size))) (t.row (p / u.size)))
+      (if nat_lt p (t.size * u.size + t.size) then map (shifted_edge (t.size * u.size))
+      (t.row (p - t.size * u.size)) else
+      map (shifted_edge (t.size * u.size + t.size)) (u.row (p - (t.size * u.size + t.size))))
+      (each-flat (λ e. map (paired_edges t u e) (u.row (p % u.size)))
+      (λ e w. each-map (paired_edges t u e) (λ f k. each-append Q e.wanted f.wanted w k) (u.row (p % u.size))
       (h (p % u.size)))
       (t.row (p / u.size)) (g (p / u.size)))
-      (either-way (nat_lt p (t.size * u.size + t.size)) (map (shifted (t.size * u.size)) (t.row (p - t.size * u.size)))
-      (map (shifted (t.size * u.size + t.size)) (u.row (p - (t.size * u.size + t.size))))
+      (either-way (nat_lt p (t.size * u.size + t.size))
+      (map (shifted_edge (t.size * u.size)) (t.row (p - t.size * u.size)))
+      (map (shifted_edge (t.size * u.size + t.size)) (u.row (p - (t.size * u.size + t.size))))
       (shifted-wants (t.size * u.size) (t.row (p - t.size * u.size)) (g (p - t.size * u.size)))
       (shifted-wants (t.size * u.size + t.size) (u.row (p - (t.size * u.size + t.size)))
       (h (p - (t.size * u.size + t.size)))))
@@ -116,8 +121,8 @@ module _ (B : Type 0) (Q : B → Type 0) where
 
   pub sifted-wants : (t : Table B) → Rows t → Rows (sifted t)
   sifted-wants t g q =
-      each-map (sifted_edge (is_kept t)) (λ e k. k) (t.row (place (is_kept t) t.size q))
-      (g (place (is_kept t) t.size q))
+      each-map (sifted_edge (is_position_kept t)) (λ e k. k) (t.row (place (is_position_kept t) t.size q))
+      (g (place (is_position_kept t) t.size q))
 
   -- each boolean of a plan
   abbrev Of : Plan B → Type 0
@@ -130,16 +135,16 @@ module _ (B : Type 0) (Q : B → Type 0) where
   Of (loop r least most) = Of r
   Of (link fuses follows r g s) = Of r × Of g × Of s
 
-  pub plan-wants : (r : Plan B) → Of r → Rows (table_of r)
+  pub plan-wants : (r : Plan B) → Of r → Rows (plan_table r)
   plan-wants (tick b) h = λ p. ((h, tt), tt)
   plan-wants skip h = λ p. tt
-  plan-wants (any r s) h = any-wants (table_of r) (table_of s) (plan-wants r h.0) (plan-wants s h.1)
-  plan-wants (all r s) h = all-wants (table_of r) (table_of s) (plan-wants r h.0) (plan-wants s h.1)
-  plan-wants (pair r s) h = pair-wants (table_of r) (table_of s) (plan-wants r h.0) (plan-wants s h.1)
-  plan-wants (under b r) h = under-wants b (table_of r) h.0 (plan-wants r h.1)
-  plan-wants (loop r least most) h = loop-wants (table_of r) least most (plan-wants r h)
+  plan-wants (any r s) h = any-wants (plan_table r) (plan_table s) (plan-wants r h.0) (plan-wants s h.1)
+  plan-wants (all r s) h = all-wants (plan_table r) (plan_table s) (plan-wants r h.0) (plan-wants s h.1)
+  plan-wants (pair r s) h = pair-wants (plan_table r) (plan_table s) (plan-wants r h.0) (plan-wants s h.1)
+  plan-wants (under b r) h = under-wants b (plan_table r) h.0 (plan-wants r h.1)
+  plan-wants (loop r least most) h = loop-wants (plan_table r) least most (plan-wants r h)
   plan-wants (link fuses follows r g s) h =
-      link-wants fuses follows (table_of r) (table_of g) (table_of s) (plan-wants r h.0) (plan-wants g h.1)
+      link-wants fuses follows (plan_table r) (plan_table g) (plan_table s) (plan-wants r h.0) (plan-wants g h.1)
       (plan-wants s h.2)
 
   moving-of : (moves empty : Bool) (r : Plan B) → Of r → Of (moving moves empty r)

@@ -2,19 +2,19 @@
 use Rattle.std.specs.Prelude.{◌≡◌, ◌⊎◌, Option, Some, None, ℕ, ◌+◌, ◌*◌, ◌<◌, ◌≤◌, Bool, true}
 use Rattle.std.specs.Prelude.{false, List, length}
 use Rattle.bytecode.specs.Values.{SectionData}
-use Rattle.verifier_inference.specs.Sections.{IsSection, size_of}
+use Rattle.verifier_inference.specs.Sections.{IsSection, instructions_in}
 use Rattle.assertions.specs.declared.sequence.Boolean.{Boolean}
 use Rattle.assertions.specs.Written.{Written, boolean, delay, lead, repeat, or, and, intersect}
 use Rattle.assertions.specs.Written.{throughout, kernel, weight, IsOrdered}
-use Rattle.machine_sections.specs.Automata.{Follows}
+use Rattle.machine_sections.specs.Automata.{AutomatonFollows}
 use Rattle.machine_sections.specs.Effects.{automaton_of}
 use Rattle.machine_sections.specs.Firsts.{accepting_first}
 use Rattle.assertions.specs.Segments.{Matches}
 use Rattle.assertions.specs.Attempts.{every, first_match}
 use Rattle.compiler_positions.specs.Plans.{plan}
-use Rattle.compiler_positions.specs.Tables.{table_of}
+use Rattle.compiler_positions.specs.Tables.{plan_table}
 use Rattle.compiler_positions.specs.Living.{sifted}
-use Rattle.compiler_positions.specs.Sections.{section_of, told}
+use Rattle.compiler_positions.specs.Sections.{section_of, told_atom}
 
 -- A boolean occurs in a sequence; the constant 1 does where a delay needs it.
 abbrev pub Occurs : {B : Type 0} → B → B → Written B → Type 0
@@ -29,10 +29,10 @@ Occurs true_one b (intersect r s) = Occurs true_one b r ⊎ Occurs true_one b s
 Occurs true_one b (throughout c r) = (c ≡ b) ⊎ Occurs true_one b r
 
 -- The atoms of each tick tell the booleans that occur.
-abbrev pub Tells :
+abbrev pub TellBooleans :
     {B : Type 0} → (B → Option ℕ) → (ℕ → List Bool) → (B → ℕ → Bool) → B → Written B → Type 0
-Tells {B} atom rows value true_one w =
-    (k : ℕ) (b : B) → Occurs true_one b w → told (atom b) (rows k) ≡ value b k
+TellBooleans {B} atom rows value true_one w =
+    (k : ℕ) (b : B) → Occurs true_one b w → told_atom (atom b) (rows k) ≡ value b k
 
 -- an atom that a boolean has is there
 abbrev pub IsThere : ℕ → Option ℕ → Type 0
@@ -41,7 +41,7 @@ IsThere atoms (Some n) = n < atoms
 
 -- the section of a sequence, where atom tells the number of each boolean but of the constant 1
 abbrev pub section_for : {B : Type 0} → (B → Option ℕ) → B → Written B → SectionData
-section_for atom true_one w = section_of atom (sifted (table_of (plan true_one w)))
+section_for atom true_one w = section_of atom (sifted (plan_table (plan true_one w)))
 
 -- the section of an antecedent, of which each match counts or the first one alone
 abbrev pub led_section : {B : Type 0} → Bool → (B → Option ℕ) → B → Written B → SectionData
@@ -53,8 +53,9 @@ abbrev pub SectionFollows : Type 0
 SectionFollows =
     (atom : Boolean → Option ℕ) (true_one : Boolean) (rows : ℕ → List Bool)
     (value : Boolean → ℕ → Bool) (w : Written Boolean) →
-    IsOrdered w → Tells atom rows value true_one w →
-    Follows value (every (kernel true_one w)) (automaton_of (section_for atom true_one w) rows)
+    IsOrdered w → TellBooleans atom rows value true_one w →
+    AutomatonFollows value (every (kernel true_one w))
+    (automaton_of (section_for atom true_one w) rows)
 
 -- It is well formed, as whichever section of a program that has an atom for each boolean.
 abbrev pub SectionIsWellFormed : Type 0
@@ -97,7 +98,7 @@ abbrev pub SectionIsShort : Type 0
 SectionIsShort =
     (atom : Boolean → Option ℕ) (true_one : Boolean) (w : Written Boolean) →
     IsOrdered w → IsPlain w →
-    2 * size_of (section_for atom true_one w).blocks + weight w
+    2 * instructions_in (section_for atom true_one w).blocks + weight w
     ≤ weight w * weight w + 2 * (weight w * (booleans w + 2))
 
 -- Its section with AcceptFirst in place of Accept follows the first matches, where none is empty.
@@ -105,9 +106,9 @@ abbrev pub SectionFollowsFirst : Type 0
 SectionFollowsFirst =
     (atom : Boolean → Option ℕ) (true_one : Boolean) (rows : ℕ → List Bool)
     (value : Boolean → ℕ → Bool) (w : Written Boolean) →
-    IsOrdered w → Tells atom rows value true_one w →
+    IsOrdered w → TellBooleans atom rows value true_one w →
     ((e : ℕ) → Matches value (kernel true_one w) e e → ⊥) →
-    Follows value (first_match (kernel true_one w))
+    AutomatonFollows value (first_match (kernel true_one w))
     (automaton_of (accepting_first (section_for atom true_one w)) rows)
 
 -- A well formed antecedent stays so with AcceptFirst in place of Accept, and is as long.
@@ -119,4 +120,4 @@ abbrev pub AcceptingFirstIsAsLong : Type 0
 AcceptingFirstIsAsLong =
     (s : SectionData) →
     (length (accepting_first s).blocks ≡ length s.blocks)
-    × (size_of (accepting_first s).blocks ≡ size_of s.blocks)
+    × (instructions_in (accepting_first s).blocks ≡ instructions_in s.blocks)

@@ -19,19 +19,21 @@ pub data Plan (B : Type 0) : Type 0 where
   link : (fuses follows : Bool) (r g s : Plan B) → Plan B
 
 -- the sequence that it stands for
-abbrev pub shape : {B : Type 0} → Plan B → Seq B
-shape (tick b) = one b
-shape skip = none
-shape (any r s) = either (shape r) (shape s)
-shape (all r s) = both (shape r) (shape s)
-shape (pair r s) = meet (shape r) (shape s)
-shape (under b r) = during b (shape r)
-shape (loop r least most) = times (shape r) least most
-shape (link true true r g s) =
-    either (fuse (shape r) (shape s)) (chop (chop (shape r) (shape g)) (shape s))
-shape (link true false r g s) = fuse (shape r) (shape s)
-shape (link false true r g s) = chop (chop (shape r) (shape g)) (shape s)
-shape (link false false r g s) = fuse none none
+abbrev pub plan_sequence : {B : Type 0} → Plan B → Seq B
+plan_sequence (tick b) = one b
+plan_sequence skip = none
+plan_sequence (any r s) = either (plan_sequence r) (plan_sequence s)
+plan_sequence (all r s) = both (plan_sequence r) (plan_sequence s)
+plan_sequence (pair r s) = meet (plan_sequence r) (plan_sequence s)
+plan_sequence (under b r) = during b (plan_sequence r)
+plan_sequence (loop r least most) = times (plan_sequence r) least most
+plan_sequence (link true true r g s) =
+    either (fuse (plan_sequence r) (plan_sequence s))
+    (chop (chop (plan_sequence r) (plan_sequence g)) (plan_sequence s))
+plan_sequence (link true false r g s) = fuse (plan_sequence r) (plan_sequence s)
+plan_sequence (link false true r g s) = chop (chop (plan_sequence r) (plan_sequence g))
+    (plan_sequence s)
+plan_sequence (link false false r g s) = fuse none none
 
 -- r ##[least:most] s
 abbrev pub apart : {B : Type 0} → B → Plan B → Plan B → ℕ → ℕ → Plan B

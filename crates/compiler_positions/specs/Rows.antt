@@ -4,10 +4,11 @@ use Rattle.std.specs.Prelude.{Bool, true, false, ◌&&◌, ◌||◌, List}
 use Rattle.std.specs.Prelude.{[], ◌∷◌, ◌++◌, length, map, Option, None, sum_by}
 use Rattle.std.specs.Prelude.{slice_get, slice_index_or, unwrap_or, min, if◌then◌else◌}
 use Rattle.std.specs.List.{flat_map}
-use Rattle.compiler_positions.specs.Tables.{Edge, Table, EachOf, shift, picked, numbers, products}
+use Rattle.compiler_positions.specs.Tables.{Edge, Table, EachOf, shift, picked_if, numbers_from}
+use Rattle.compiler_positions.specs.Tables.{products}
 use Rattle.compiler_positions.specs.Tables.{coupled}
 use Rattle.compiler_positions.specs.Living.{lives_for, is_among, led_to, sift, sifted_edge}
-use Rattle.compiler_positions.specs.Sections.{edge_size, with_atom, coded, rows_of}
+use Rattle.compiler_positions.specs.Sections.{edge_size, with_atom, coded, rows_from}
 
 -- Positions in order, each by its edges; those that begin; whether an empty match is there.
 pub record TableData : Type 0 where
@@ -18,7 +19,7 @@ pub record TableData : Type 0 where
 -- a table's rows by their atoms
 abbrev pub listed : {B : Type 0} → (B → Option ℕ) → Table B → TableData
 listed atom t =
-    record { rows = rows_of (coded atom t) 0 t.size; starts = t.starts; empty = t.empty }
+    record { rows = rows_from (coded atom t) 0 t.size; starts = t.starts; empty = t.empty }
 
 -- What becomes of an edge: it may want one more atom, what it enters is so much further on, and
 -- where it accepts it also goes on to others, and accepts still or not.
@@ -31,7 +32,7 @@ pub record ChangeData : Type 0 where
 abbrev pub changed : ChangeData → Edge ℕ → Edge ℕ
 changed c e = record {
   wanted = with_atom c.wanted e.wanted;
-  enters = shift c.by e.enters ++ picked e.accepts c.onward;
+  enters = shift c.by e.enters ++ picked_if e.accepts c.onward;
   accepts = e.accepts && c.keeps;
 }
 
@@ -101,13 +102,13 @@ during_data wanted t =
 abbrev pub onward_data : TableData → TableData → TableData → List ℕ
 onward_data t g u =
     shift (length t.rows) g.starts
-    ++ picked g.empty (shift (length t.rows + length g.rows) u.starts)
+    ++ picked_if g.empty (shift (length t.rows + length g.rows) u.starts)
 
 abbrev pub leading_data : Bool → TableData → TableData → TableData → ChangeData
 leading_data follows t g u = record {
   wanted = None;
   by = 0;
-  onward = picked follows (onward_data t g u);
+  onward = picked_if follows (onward_data t g u);
   keeps = follows && (g.empty && u.empty);
 }
 
@@ -120,8 +121,8 @@ crossing_data t g u = record {
 }
 
 -- the edges of a position
-abbrev pub row_at : List (List (Edge ℕ)) → ℕ → List (Edge ℕ)
-row_at rows p = unwrap_or (slice_get rows p) []
+abbrev pub edges_at : List (List (Edge ℕ)) → ℕ → List (Edge ℕ)
+edges_at rows p = unwrap_or (slice_get rows p) []
 
 -- an edge that does at its tick what another does
 abbrev pub joined_data : ℕ → Edge ℕ → Edge ℕ → Edge ℕ
@@ -132,10 +133,10 @@ joined_data by e f = record {
 }
 
 abbrev pub fused_data : ℕ → TableData → Edge ℕ → List (Edge ℕ)
-fused_data by u e = flat_map (λ q. map (joined_data by e) (row_at u.rows q)) u.starts
+fused_data by u e = flat_map (λ q. map (joined_data by e) (edges_at u.rows q)) u.starts
 
 abbrev pub lead_data : Bool → ChangeData → ℕ → TableData → Edge ℕ → List (Edge ℕ)
-lead_data fuses c by u e = changed c e ∷ picked (e.accepts && fuses) (fused_data by u e)
+lead_data fuses c by u e = changed c e ∷ picked_if (e.accepts && fuses) (fused_data by u e)
 
 abbrev pub link_data : Bool → Bool → TableData → TableData → TableData → TableData
 link_data fuses follows t g u = record {
@@ -145,7 +146,7 @@ link_data fuses follows t g u = record {
       t.rows
       ++ change_all (crossing_data t g u) g.rows
       ++ change_all (moved (length t.rows + length g.rows)) u.rows;
-  starts = t.starts ++ picked (follows && t.empty) (onward_data t g u);
+  starts = t.starts ++ picked_if (follows && t.empty) (onward_data t g u);
   empty = follows && (t.empty && (g.empty && u.empty));
 }
 
@@ -154,7 +155,7 @@ link_data fuses follows t g u = record {
 abbrev pub copies_data : TableData → ℕ → ℕ → List ℕ
 copies_data t first most =
     flat_map (λ c. shift (c * length t.rows) t.starts)
-    (numbers first (if t.empty then most - first else min 1 (most - first)))
+    (numbers_from first (if t.empty then most - first else min 1 (most - first)))
 
 abbrev pub turn_data : TableData → ℕ → ℕ → ℕ → ChangeData
 turn_data t least most c = record {
@@ -166,7 +167,7 @@ turn_data t least most c = record {
 
 abbrev pub repeat_data : TableData → ℕ → ℕ → TableData
 repeat_data t least most = record {
-  rows = flat_map (λ c. change_all (turn_data t least most c) t.rows) (numbers 0 most);
+  rows = flat_map (λ c. change_all (turn_data t least most c) t.rows) (numbers_from 0 most);
   starts = copies_data t 0 most;
   empty = nat_le least most && (least == 0 || t.empty);
 }
@@ -178,7 +179,7 @@ pairs_data size xs ys = flat_map (λ x. shift (x * size) ys) xs
 -- where each of two edges leads to alone, where the tables have so many positions
 abbrev pub lone_data : ℕ → ℕ → Edge ℕ → Edge ℕ → List ℕ
 lone_data n m e f =
-    picked f.accepts (shift (n * m) e.enters) ++ picked e.accepts (shift (n * m + n) f.enters)
+    picked_if f.accepts (shift (n * m) e.enters) ++ picked_if e.accepts (shift (n * m + n) f.enters)
 
 -- two edges at once
 abbrev pub paired_data : ℕ → ℕ → Edge ℕ → Edge ℕ → Edge ℕ
@@ -202,8 +203,8 @@ both_data t u =
           ++ change_all (moved (n * m + n)) u.rows;
       starts =
           pairs_data m t.starts u.starts
-          ++ (picked u.empty (shift (n * m) t.starts)
-          ++ picked t.empty (shift (n * m + n) u.starts));
+          ++ (picked_if u.empty (shift (n * m) t.starts)
+          ++ picked_if t.empty (shift (n * m + n) u.starts));
       empty = t.empty && u.empty;
     }
 
@@ -227,23 +228,23 @@ pair_data t u = record {
 }
 
 -- whether a list has a mark at a place; one that isn't there is none
-abbrev pub marked : List Bool → ℕ → Bool
-marked marks p = slice_index_or marks p false
+abbrev pub is_marked_at : List Bool → ℕ → Bool
+is_marked_at marks p = slice_index_or marks p false
 
 -- the positions of these rows that may still come to an end
 abbrev pub lives_in : List (List (Edge ℕ)) → ℕ → Bool
-lives_in rows p = lives_for (length rows) (row_at rows) (length rows) p
+lives_in rows p = lives_for (length rows) (edges_at rows) (length rows) p
 
 -- the positions of a table that something leads to, and that may still come to an end
 abbrev pub kept_in : TableData → ℕ → Bool
 kept_in t p =
-    lives_in t.rows p && is_among (led_to t.starts (row_at t.rows) (length t.rows)) p
+    lives_in t.rows p && is_among (led_to t.starts (edges_at t.rows) (length t.rows)) p
 
 -- what is kept of the first so many rows
 abbrev pub kept_rows : (ℕ → Bool) → List (List (Edge ℕ)) → ℕ → List (List (Edge ℕ))
 kept_rows keeps rows zero = []
 kept_rows keeps rows (suc n) =
-    kept_rows keeps rows n ++ picked (keeps n) (map (sifted_edge keeps) (row_at rows n) ∷ [])
+    kept_rows keeps rows n ++ picked_if (keeps n) (map (sifted_edge keeps) (edges_at rows n) ∷ [])
 
 abbrev pub sift_data : TableData → TableData
 sift_data t = record {
@@ -253,7 +254,7 @@ sift_data t = record {
 }
 
 -- Few positions, and what is entered is there.
-pub record IsPlaced (d : TableData) : Type 0 where
+pub record IsClosedTable (d : TableData) : Type 0 where
   pub few : length d.rows ≤ 127
   pub starts : EachOf (λ q. q < length d.rows) d.starts
   pub enters :

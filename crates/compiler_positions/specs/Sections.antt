@@ -30,15 +30,15 @@ edge_code base e =
     guards (base + edge_size e) e.wanted ++ (enter_all e.enters ++ accept_if e.accepts)
 
 -- the block of a position, at base
-abbrev pub block_of : ℕ → List (Edge ℕ) → List BlockInstr
-block_of base [] = Stop ∷ []
-block_of base (e ∷ es) = edge_code base e ++ block_of (base + edge_size e) es
+abbrev pub position_block : ℕ → List (Edge ℕ) → List BlockInstr
+position_block base [] = Stop ∷ []
+position_block base (e ∷ es) = edge_code base e ++ position_block (base + edge_size e) es
 
 -- the blocks of these positions, the first at base
-abbrev pub blocks_of : ℕ → List (List (Edge ℕ)) → List (List BlockInstr)
-blocks_of base [] = []
-blocks_of base (row ∷ rows) =
-    block_of base row ∷ blocks_of (base + length (block_of base row)) rows
+abbrev pub position_blocks : ℕ → List (List (Edge ℕ)) → List (List BlockInstr)
+position_blocks base [] = []
+position_blocks base (row ∷ rows) =
+    position_block base row ∷ position_blocks (base + length (position_block base row)) rows
 
 -- a set of positions as a number
 abbrev pub bits : List ℕ → ℕ
@@ -55,24 +55,24 @@ atoms_of atom [] = []
 atoms_of atom (b ∷ bs) = with_atom (atom b) (atoms_of atom bs)
 
 -- an edge by its atoms
-abbrev pub numbered : {B : Type 0} → (B → Option ℕ) → Edge B → Edge ℕ
-numbered atom e =
+abbrev pub numbered_edge : {B : Type 0} → (B → Option ℕ) → Edge B → Edge ℕ
+numbered_edge atom e =
     record { wanted = atoms_of atom e.wanted; enters = e.enters; accepts = e.accepts }
 
 -- a position's edges by their atoms
 abbrev pub coded : {B : Type 0} → (B → Option ℕ) → Table B → ℕ → List (Edge ℕ)
-coded atom t p = map (numbered atom) (t.row p)
+coded atom t p = map (numbered_edge atom) (t.row p)
 
 -- the rows of so many positions from the first one on
-abbrev pub rows_of : {A : Type 0} → (ℕ → A) → ℕ → ℕ → List A
-rows_of row first zero = []
-rows_of row first (suc count) = row first ∷ rows_of row (first + 1) count
+abbrev pub rows_from : {A : Type 0} → (ℕ → A) → ℕ → ℕ → List A
+rows_from row first zero = []
+rows_from row first (suc count) = row first ∷ rows_from row (first + 1) count
 
 abbrev pub section_of : {B : Type 0} → (B → Option ℕ) → Table B → SectionData
 section_of atom t =
-    record { start = bits t.starts; blocks = blocks_of 0 (rows_of (coded atom t) 0 t.size) }
+    record { start = bits t.starts; blocks = position_blocks 0 (rows_from (coded atom t) 0 t.size) }
 
 -- what a row of atoms tells of a boolean
-abbrev pub told : Option ℕ → List Bool → Bool
-told None row = true
-told (Some n) row = slice_index_or row n true
+abbrev pub told_atom : Option ℕ → List Bool → Bool
+told_atom None row = true
+told_atom (Some n) row = slice_index_or row n true

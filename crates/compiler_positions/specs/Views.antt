@@ -20,15 +20,15 @@ IsNear by e = All (λ q. by + q < 256) e.enters.items
 abbrev pub AreNear : ℕ → List code.Edge → Type 0
 AreNear by es = All (IsNear by) es
 
-abbrev pub row_data : Vec code.Edge Global → List (Edge ℕ)
-row_data row = map edge_data row.items
+abbrev pub edges_data : Vec code.Edge Global → List (Edge ℕ)
+edges_data row = map edge_data row.items
 
 abbrev pub rows_data : List (Vec code.Edge Global) → List (List (Edge ℕ))
-rows_data rows = map row_data rows
+rows_data rows = map edges_data rows
 
 -- What edges enter is below a number.
-abbrev pub IsBelow : ℕ → code.Edge → Type 0
-IsBelow n e = All (λ q. q < n) e.enters.items
+abbrev pub EntersBelow : ℕ → code.Edge → Type 0
+EntersBelow n e = All (λ q. q < n) e.enters.items
 
-abbrev pub AreBelow : ℕ → List code.Edge → Type 0
-AreBelow n es = All (IsBelow n) es
+abbrev pub EnterBelow : ℕ → List code.Edge → Type 0
+EnterBelow n es = All (EntersBelow n) es

@@ -2,7 +2,7 @@
 
 ghost use Rattle.std.specs.Prelude.{◌≡◌, ◌+◌, ◌≤◌, length, IfOk, IfErr};
 ghost use Rattle.compiler_positions.specs.Rows.{tick_data, either_data, during_data, rows_size};
-ghost use Rattle.compiler_positions.specs.Rows.{IsPlaced};
+ghost use Rattle.compiler_positions.specs.Rows.{IsClosedTable};
 ghost use Rattle.compiler_positions.specs.Faults.{IsLong};
 
 use crate::change::Change;
@@ -37,8 +37,8 @@ pub(crate) fn tick(alloc: Global, wanted: Option<u8>) -> Result<Table, AllocErro
 
 /// Either of two: the positions of both, side by side.
 pub(crate) fn either(alloc: Global, first: &Table, second: &Table) -> Result<Table, SectionFault>
-    requires first_placed { IsPlaced first.now }
-    requires second_placed { IsPlaced second.now }
+    requires first_placed { IsClosedTable first.now }
+    requires second_placed { IsClosedTable second.now }
     requires few { length first.now.rows + length second.now.rows ≤ 127 }
     ensures ok { IfOk result (λ t. t ≡ either_data first.now second.now) }
     ensures short { IfOk result (λ t. rows_size t.rows ≤ 65535) }
@@ -54,7 +54,7 @@ pub(crate) fn either(alloc: Global, first: &Table, second: &Table) -> Result<Tab
 
 /// The boolean of an atom is true at each tick.
 pub(crate) fn during(alloc: Global, wanted: Option<u8>, body: &Table) -> Result<Table, SectionFault>
-    requires { IsPlaced body.now }
+    requires { IsClosedTable body.now }
     ensures ok { IfOk result (λ t. t ≡ during_data wanted body.now) }
     ensures short { IfOk result (λ t. rows_size t.rows ≤ 65535) }
     ensures err { IfErr result (IsLong (rows_size (during_data wanted body.now).rows)) }

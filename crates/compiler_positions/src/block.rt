@@ -3,7 +3,8 @@
 ghost use Rattle.std.specs.Prelude.{◌≡◌, ◌+◌, ◌≤◌, ◌++◌, length, map, OnOk, IfOk};
 ghost use Rattle.bytecode.specs.declared.block_instr.BlockInstr.TheVariants.{Unless, Enter};
 ghost use Rattle.compiler_positions.specs.Rows.{edges_size, rows_size};
-ghost use Rattle.compiler_positions.specs.Sections.{edge_size, edge_code, block_of, blocks_of};
+ghost use Rattle.compiler_positions.specs.Sections.{edge_size, edge_code, position_block};
+ghost use Rattle.compiler_positions.specs.Sections.{position_blocks};
 ghost use Rattle.compiler_positions.specs.Views.{edge_data, rows_data};
 
 use crate::edge::Edge;
@@ -48,7 +49,7 @@ fn put_edge(block: &mut Vec<BlockInstr>, base: usize, edge: &Edge) -> Result<(),
 /// The block of a position, which begins at `base`.
 fn block_at(alloc: Global, base: usize, row: &[Edge]) -> Result<Vec<BlockInstr>, AllocError>
     requires { base + edges_size (map edge_data row.now) ≤ 65535 }
-    ensures { IfOk result (λ v. v.items ≡ block_of base (map edge_data row.now)) }
+    ensures { IfOk result (λ v. v.items ≡ position_block base (map edge_data row.now)) }
 {
     let mut block = Vec::new(alloc);
     for edge in row {
@@ -69,7 +70,7 @@ pub(crate) struct Blocks {
 pub(crate) fn blocks_for(alloc: Global, rows: &[Vec<Edge>]) -> Result<Blocks, AllocError>
     requires { rows_size (rows_data rows.now) ≤ 65535 }
     ensures made { IfOk result
-        (λ v. map (λ b. b.items) v.list.items ≡ blocks_of 0 (rows_data rows.now)) }
+        (λ v. map (λ b. b.items) v.list.items ≡ position_blocks 0 (rows_data rows.now)) }
     ensures size { IfOk result (λ v. v.size ≡ rows_size (rows_data rows.now)) }
 {
     let mut blocks = Vec::new(alloc);

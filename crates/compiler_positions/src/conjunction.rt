@@ -1,7 +1,7 @@
 //! Tables of both of two.
 
 ghost use Rattle.std.specs.Prelude.{◌≡◌, ◌+◌, ◌*◌, ◌≤◌, true, length, IfOk, IfErr};
-ghost use Rattle.compiler_positions.specs.Rows.{both_data, rows_size, IsPlaced};
+ghost use Rattle.compiler_positions.specs.Rows.{both_data, rows_size, IsClosedTable};
 ghost use Rattle.compiler_positions.specs.Faults.{IsLong};
 
 use crate::change::Change;
@@ -19,8 +19,8 @@ fn starts(
     first: &Table,
     second: &Table,
 ) -> Result<Vec<u8>, AllocError>
-    requires first_placed { IsPlaced first.now }
-    requires second_placed { IsPlaced second.now }
+    requires first_placed { IsClosedTable first.now }
+    requires second_placed { IsClosedTable second.now }
     requires alone { pairing.now.alone ≡ true }
     requires first_len { pairing.now.first ≡ length first.now.rows }
     requires second_len { pairing.now.second ≡ length second.now.rows }
@@ -46,8 +46,8 @@ fn admits_empty(first: &Table, second: &Table) -> bool
 /// Both of two, from the same tick: the pairs of their positions, and each alone where the other
 /// has ended.
 pub(crate) fn both(alloc: Global, first: &Table, second: &Table) -> Result<Table, SectionFault>
-    requires first_placed { IsPlaced first.now }
-    requires second_placed { IsPlaced second.now }
+    requires first_placed { IsClosedTable first.now }
+    requires second_placed { IsClosedTable second.now }
     requires few { length first.now.rows * length second.now.rows
         + length first.now.rows + length second.now.rows ≤ 127 }
     ensures ok { IfOk result (λ t. t ≡ both_data first.now second.now) }

@@ -3,7 +3,7 @@
 ghost use Rattle.std.specs.Prelude.{◌≡◌, ◌==◌, ◌+◌, ◌≤◌, None, nat_le, length, IfOk, IfErr};
 ghost use Rattle.compiler_positions.specs.Rows.{gap_data, apart_data, lead_in_data, tick_data};
 ghost use Rattle.compiler_positions.specs.Rows.{repeat_data};
-ghost use Rattle.compiler_positions.specs.Rows.{rows_size, IsPlaced};
+ghost use Rattle.compiler_positions.specs.Rows.{rows_size, IsClosedTable};
 ghost use Rattle.compiler_positions.specs.Faults.{IsLong};
 
 use crate::alternatives::tick;
@@ -56,8 +56,8 @@ pub(crate) fn apart(
     least: usize,
     most: usize,
 ) -> Result<Table, SectionFault>
-    requires first_placed { IsPlaced first.now }
-    requires second_placed { IsPlaced second.now }
+    requires first_placed { IsClosedTable first.now }
+    requires second_placed { IsClosedTable second.now }
     requires few { length first.now.rows + length second.now.rows + most ≤ 127 }
     ensures ok { IfOk result (λ t. t ≡ apart_data first.now second.now least most) }
     ensures short { IfOk result (λ t. rows_size t.rows ≤ 65535) }
@@ -77,7 +77,7 @@ pub(crate) fn lead_in(
     most: usize,
     body: &Table,
 ) -> Result<Table, SectionFault>
-    requires placed { IsPlaced body.now }
+    requires placed { IsClosedTable body.now }
     requires few { length body.now.rows + most ≤ 127 }
     ensures ok { IfOk result (λ t. t ≡ lead_in_data least most body.now) }
     ensures short { IfOk result (λ t. rows_size t.rows ≤ 65535) }

@@ -4,7 +4,7 @@ ghost use Rattle.std.specs.Prelude.{◌≡◌, ◌+◌, ◌≤◌, ◌&&◌, [],
 ghost use Rattle.std.specs.List.{flat_map};
 ghost use Rattle.compiler_positions.specs.Rows.{fused_data, lead_data, joined_data};
 ghost use Rattle.compiler_positions.specs.Rows.{edges_size, rows_size, draft_size};
-ghost use Rattle.compiler_positions.specs.Rows.{with_edges, with_rows, IsPlaced};
+ghost use Rattle.compiler_positions.specs.Rows.{with_edges, with_rows, IsClosedTable};
 ghost use Rattle.compiler_positions.specs.Views.{edge_data, change_data, rows_data, AreNear};
 ghost use Rattle.compiler_positions.specs.Views.{IsNear};
 ghost use Rattle.compiler_positions.specs.Faults.{IsLong};
@@ -55,7 +55,7 @@ fn put_fused(
     second: &Table,
     by: usize,
 ) -> Result<(), SectionFault>
-    requires placed { IsPlaced second.now }
+    requires placed { IsClosedTable second.now }
     requires few { by + length second.now.rows ≤ 127 }
     ensures ok { OnOk result
         (draft.new ≡ with_edges draft.old (fused_data by second.now (edge_data edge.now))) }
@@ -78,7 +78,7 @@ impl Lead {
         second: &Table,
     ) -> Result<(), SectionFault>
         requires near { IsNear self.now.change.by edge.now }
-        requires placed { IsPlaced second.now }
+        requires placed { IsClosedTable second.now }
         requires few { self.now.by + length second.now.rows ≤ 127 }
         ensures ok { OnOk result (draft.new ≡ with_edges draft.old
             (lead_data self.now.fuses (change_data self.now.change) self.now.by second.now
@@ -103,7 +103,7 @@ impl Lead {
         second: &Table,
     ) -> Result<(), SectionFault>
         requires near { AreNear self.now.change.by row.now }
-        requires placed { IsPlaced second.now }
+        requires placed { IsClosedTable second.now }
         requires few { self.now.by + length second.now.rows ≤ 127 }
         ensures ok { OnOk result (draft.new ≡ with_edges draft.old (flat_map
             (lead_data self.now.fuses (change_data self.now.change) self.now.by second.now)
@@ -127,7 +127,7 @@ impl Lead {
         second: &Table,
     ) -> Result<(), SectionFault>
         requires near { All (λ row. AreNear self.now.change.by row.items) rows.now }
-        requires placed { IsPlaced second.now }
+        requires placed { IsClosedTable second.now }
         requires few { self.now.by + length second.now.rows ≤ 127 }
         requires begun { draft.old.begun ≡ [] }
         ensures ok { OnOk result (draft.new ≡ with_rows draft.old (map (flat_map

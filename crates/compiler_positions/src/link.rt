@@ -4,7 +4,7 @@ ghost use Rattle.std.specs.Prelude.{◌≡◌, ◌+◌, ◌≤◌, [], length, m
 ghost use Rattle.std.specs.List.{flat_map};
 ghost use Rattle.compiler_positions.specs.Rows.{leading_data, crossing_data, onward_data};
 ghost use Rattle.compiler_positions.specs.Rows.{link_data};
-ghost use Rattle.compiler_positions.specs.Rows.{rows_size, IsPlaced};
+ghost use Rattle.compiler_positions.specs.Rows.{rows_size, IsClosedTable};
 ghost use Rattle.compiler_positions.specs.Views.{change_data};
 ghost use Rattle.compiler_positions.specs.Faults.{IsLong};
 
@@ -24,8 +24,8 @@ fn onward_places(
     between: &Table,
     second: &Table,
 ) -> Result<Vec<u8>, AllocError>
-    requires between_placed { IsPlaced between.now }
-    requires second_placed { IsPlaced second.now }
+    requires between_placed { IsClosedTable between.now }
+    requires second_placed { IsClosedTable second.now }
     requires few { length first.now.rows + length between.now.rows + length second.now.rows ≤ 127 }
     ensures { IfOk result (λ v. v.items ≡ onward_data first.now between.now second.now) }
 {
@@ -45,8 +45,8 @@ fn leading_change(
     between: &Table,
     second: &Table,
 ) -> Result<Change, AllocError>
-    requires between_placed { IsPlaced between.now }
-    requires second_placed { IsPlaced second.now }
+    requires between_placed { IsClosedTable between.now }
+    requires second_placed { IsClosedTable second.now }
     requires few { length first.now.rows + length between.now.rows + length second.now.rows ≤ 127 }
     ensures { IfOk result
         (λ c. change_data c ≡ leading_data follows first.now between.now second.now) }
@@ -71,7 +71,7 @@ fn crossing_change(
     between: &Table,
     second: &Table,
 ) -> Result<Change, AllocError>
-    requires second_placed { IsPlaced second.now }
+    requires second_placed { IsClosedTable second.now }
     requires few { length first.now.rows + length between.now.rows + length second.now.rows ≤ 127 }
     ensures { IfOk result (λ c. change_data c ≡ crossing_data first.now between.now second.now) }
 {
@@ -93,8 +93,8 @@ fn starts(
     between: &Table,
     second: &Table,
 ) -> Result<Vec<u8>, AllocError>
-    requires between_placed { IsPlaced between.now }
-    requires second_placed { IsPlaced second.now }
+    requires between_placed { IsClosedTable between.now }
+    requires second_placed { IsClosedTable second.now }
     requires few { length first.now.rows + length between.now.rows + length second.now.rows ≤ 127 }
     ensures { IfOk result
         (λ v. v.items ≡ (link_data follows follows first.now between.now second.now).starts) }
@@ -124,9 +124,9 @@ pub(crate) fn link(
     between: &Table,
     second: &Table,
 ) -> Result<Table, SectionFault>
-    requires first_placed { IsPlaced first.now }
-    requires between_placed { IsPlaced between.now }
-    requires second_placed { IsPlaced second.now }
+    requires first_placed { IsClosedTable first.now }
+    requires between_placed { IsClosedTable between.now }
+    requires second_placed { IsClosedTable second.now }
     requires few { length first.now.rows + length between.now.rows + length second.now.rows ≤ 127 }
     ensures ok { IfOk result (λ t. t ≡ link_data fuses follows first.now between.now second.now) }
     ensures short { IfOk result (λ t. rows_size t.rows ≤ 65535) }

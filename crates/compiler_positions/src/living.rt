@@ -2,8 +2,8 @@
 
 ghost use Rattle.std.specs.Prelude.{◌≡◌, ℕ, ◌*◌, ◌≤◌, IfOk, length, map};
 ghost use Rattle.std.specs.List.{list_any};
-ghost use Rattle.compiler_positions.specs.Living.{leads, rank};
-ghost use Rattle.compiler_positions.specs.Rows.{marked, lives_in};
+ghost use Rattle.compiler_positions.specs.Living.{edge_leads, kept_below};
+ghost use Rattle.compiler_positions.specs.Rows.{is_marked_at, lives_in};
 ghost use Rattle.compiler_positions.specs.Views.{edge_data, rows_data};
 
 use crate::edge::Edge;
@@ -11,14 +11,14 @@ use std::alloc::{AllocError, Global};
 
 /// Whether a position is marked; one that isn't there is not.
 pub(crate) fn is_marked(marks: &[bool], position: usize) -> bool
-    ensures { result ≡ marked marks.now position }
+    ensures { result ≡ is_marked_at marks.now position }
 {
     marks.get(position).copied().unwrap_or(false)
 }
 
 /// How many of the positions below one are marked.
 pub(crate) fn rank_of(marks: &[bool], position: usize) -> usize
-    ensures rank { result ≡ rank (marked marks.now) position }
+    ensures rank { result ≡ kept_below (is_marked_at marks.now) position }
     ensures few { result ≤ position }
 {
     let mut count = 0;
@@ -32,7 +32,7 @@ pub(crate) fn rank_of(marks: &[bool], position: usize) -> usize
 
 /// Whether an edge accepts, or leads to a position that is marked.
 fn is_leading(edge: &Edge, marks: &[bool]) -> bool
-    ensures { result ≡ leads (marked marks.now) (edge_data edge.now) }
+    ensures { result ≡ edge_leads (is_marked_at marks.now) (edge_data edge.now) }
 {
     let mut on = edge.accepts;
     for position in &edge.enters {
@@ -43,7 +43,7 @@ fn is_leading(edge: &Edge, marks: &[bool]) -> bool
 
 /// Whether one of the edges does.
 fn is_any_leading(row: &[Edge], marks: &[bool]) -> bool
-    ensures { result ≡ list_any (leads (marked marks.now)) (map edge_data row.now) }
+    ensures { result ≡ list_any (edge_leads (is_marked_at marks.now)) (map edge_data row.now) }
 {
     let mut on = false;
     for edge in row {
@@ -55,7 +55,7 @@ fn is_any_leading(row: &[Edge], marks: &[bool]) -> bool
 /// The positions with an edge that does.
 fn marked_before(alloc: Global, rows: &[Vec<Edge>], marks: &[bool]) -> Result<Vec<bool>, AllocError>
     ensures { IfOk result (λ v. v.items
-        ≡ map (list_any (leads (marked marks.now))) (rows_data rows.now)) }
+        ≡ map (list_any (edge_leads (is_marked_at marks.now))) (rows_data rows.now)) }
 {
     let mut all = Vec::new(alloc);
     for row in rows {
@@ -68,7 +68,7 @@ fn marked_before(alloc: Global, rows: &[Vec<Edge>], marks: &[bool]) -> Result<Ve
 /// more ticks than positions.
 pub(crate) fn living(alloc: Global, rows: &[Vec<Edge>]) -> Result<Vec<bool>, AllocError>
     ensures { IfOk result
-        (λ v. (p : ℕ) → marked v.items p ≡ lives_in (rows_data rows.now) p) }
+        (λ v. (p : ℕ) → is_marked_at v.items p ≡ lives_in (rows_data rows.now) p) }
 {
     let mut marks = Vec::new(alloc);
     for _tick in 0..rows.len() {

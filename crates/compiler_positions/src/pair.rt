@@ -1,7 +1,7 @@
 //! Tables of two that end together.
 
 ghost use Rattle.std.specs.Prelude.{◌≡◌, ◌*◌, ◌≤◌, length, IfOk, IfErr};
-ghost use Rattle.compiler_positions.specs.Rows.{pair_data, rows_size, IsPlaced};
+ghost use Rattle.compiler_positions.specs.Rows.{pair_data, rows_size, IsClosedTable};
 ghost use Rattle.compiler_positions.specs.Faults.{IsLong};
 
 use crate::draft::Draft;
@@ -19,8 +19,8 @@ fn admits_empty(first: &Table, second: &Table) -> bool
 
 /// Both of two, from the same tick to the same tick: the pairs of their positions.
 pub(crate) fn pair(alloc: Global, first: &Table, second: &Table) -> Result<Table, SectionFault>
-    requires first_placed { IsPlaced first.now }
-    requires second_placed { IsPlaced second.now }
+    requires first_placed { IsClosedTable first.now }
+    requires second_placed { IsClosedTable second.now }
     requires few { length first.now.rows * length second.now.rows ≤ 127 }
     ensures ok { IfOk result (λ t. t ≡ pair_data first.now second.now) }
     ensures short { IfOk result (λ t. rows_size t.rows ≤ 65535) }

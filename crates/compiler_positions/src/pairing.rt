@@ -6,7 +6,7 @@ ghost use Rattle.std.specs.List.{flat_map};
 ghost use Rattle.compiler_positions.specs.Rows.{pairs_data, lone_data, joint_data, joint_row};
 ghost use Rattle.compiler_positions.specs.Rows.{edges_size, rows_size, draft_size, with_edges};
 ghost use Rattle.compiler_positions.specs.Rows.{with_rows};
-ghost use Rattle.compiler_positions.specs.Views.{edge_data, rows_data, IsBelow, AreBelow};
+ghost use Rattle.compiler_positions.specs.Views.{edge_data, rows_data, EntersBelow, EnterBelow};
 ghost use Rattle.compiler_positions.specs.Faults.{IsLong};
 
 use crate::draft::Draft;
@@ -58,8 +58,8 @@ impl Pairing {
 
     /// Puts where each edge of two leads to alone: where the other accepts.
     fn put_alone(&self, list: &mut Vec<u8>, edge: &Edge, other: &Edge) -> Result<(), AllocError>
-        requires first { IsBelow self.now.first edge.now }
-        requires second { IsBelow self.now.second other.now }
+        requires first { EntersBelow self.now.first edge.now }
+        requires second { EntersBelow self.now.second other.now }
         requires alone { self.now.alone ≡ true }
         ensures { OnOk result (list.new.items ≡ list.old.items
             ++ lone_data self.now.first self.now.second (edge_data edge.now)
@@ -76,8 +76,8 @@ impl Pairing {
 
     /// Two edges at once.
     fn paired_edge(&self, alloc: Global, edge: &Edge, other: &Edge) -> Result<Edge, AllocError>
-        requires first { IsBelow self.now.first edge.now }
-        requires second { IsBelow self.now.second other.now }
+        requires first { EntersBelow self.now.first edge.now }
+        requires second { EntersBelow self.now.second other.now }
         ensures { IfOk result (λ e. edge_data e
             ≡ joint_data self.now.alone self.now.first self.now.second
             (edge_data edge.now) (edge_data other.now)) }
@@ -103,8 +103,8 @@ impl Pairing {
         edge: &Edge,
         row: &[Edge],
     ) -> Result<(), SectionFault>
-        requires first { IsBelow self.now.first edge.now }
-        requires second { AreBelow self.now.second row.now }
+        requires first { EntersBelow self.now.first edge.now }
+        requires second { EnterBelow self.now.second row.now }
         ensures ok { OnOk result (draft.new ≡ with_edges draft.old
             (map (joint_data self.now.alone self.now.first self.now.second (edge_data edge.now))
             (map edge_data row.now))) }
@@ -126,8 +126,8 @@ impl Pairing {
         edges: &[Edge],
         row: &[Edge],
     ) -> Result<(), SectionFault>
-        requires first { AreBelow self.now.first edges.now }
-        requires second { AreBelow self.now.second row.now }
+        requires first { EnterBelow self.now.first edges.now }
+        requires second { EnterBelow self.now.second row.now }
         ensures ok { OnOk result (draft.new ≡ with_edges draft.old
             (joint_row self.now.alone self.now.first self.now.second
             (map edge_data edges.now) (map edge_data row.now))) }
@@ -149,8 +149,8 @@ impl Pairing {
         edges: &[Edge],
         rows: &[Vec<Edge>],
     ) -> Result<(), SectionFault>
-        requires first { AreBelow self.now.first edges.now }
-        requires second { All (λ row. AreBelow self.now.second row.items) rows.now }
+        requires first { EnterBelow self.now.first edges.now }
+        requires second { All (λ row. EnterBelow self.now.second row.items) rows.now }
         requires begun { draft.old.begun ≡ [] }
         ensures ok { OnOk result (draft.new ≡ with_rows draft.old
             (map (joint_row self.now.alone self.now.first self.now.second (map edge_data edges.now))
@@ -174,8 +174,8 @@ impl Pairing {
         firsts: &[Vec<Edge>],
         seconds: &[Vec<Edge>],
     ) -> Result<(), SectionFault>
-        requires first { All (λ row. AreBelow self.now.first row.items) firsts.now }
-        requires second { All (λ row. AreBelow self.now.second row.items) seconds.now }
+        requires first { All (λ row. EnterBelow self.now.first row.items) firsts.now }
+        requires second { All (λ row. EnterBelow self.now.second row.items) seconds.now }
         requires begun { draft.old.begun ≡ [] }
         ensures ok { OnOk result (draft.new ≡ with_rows draft.old
             (flat_map

@@ -3,7 +3,7 @@
 ghost use Rattle.std.specs.Prelude.{◌≡◌, ℕ, ◌++◌, length, map, OnOk, IfOk};
 ghost use Rattle.std.specs.List.{flat_map};
 ghost use Rattle.compiler_positions.specs.Living.{is_among, led_to};
-ghost use Rattle.compiler_positions.specs.Rows.{row_at, marked, kept_in};
+ghost use Rattle.compiler_positions.specs.Rows.{edges_at, is_marked_at, kept_in};
 ghost use Rattle.compiler_positions.specs.Views.{edge_data, rows_data};
 
 use crate::edge::Edge;
@@ -37,7 +37,7 @@ fn put_entered(list: &mut Vec<u8>, row: &[Edge]) -> Result<(), AllocError>
 /// to a later one.
 fn led_to(alloc: Global, rows: &[Vec<Edge>], starts: &[u8]) -> Result<Vec<u8>, AllocError>
     ensures { IfOk result (λ v. v.items
-        ≡ led_to starts.now (row_at (rows_data rows.now)) (length (rows_data rows.now))) }
+        ≡ led_to starts.now (edges_at (rows_data rows.now)) (length (rows_data rows.now))) }
 {
     let mut list = Vec::from_slice(alloc, starts)?;
     for place in 0..rows.len() {
@@ -50,7 +50,7 @@ fn led_to(alloc: Global, rows: &[Vec<Edge>], starts: &[u8]) -> Result<Vec<u8>, A
 
 /// The positions of a table that something leads to, and that may still come to an end.
 pub(crate) fn kept(alloc: Global, table: &Table) -> Result<Vec<bool>, AllocError>
-    ensures { IfOk result (λ v. (p : ℕ) → marked v.items p ≡ kept_in table.now p) }
+    ensures { IfOk result (λ v. (p : ℕ) → is_marked_at v.items p ≡ kept_in table.now p) }
 {
     let lives = living(alloc, table.rows())?;
     let led = led_to(alloc, table.rows(), table.starts())?;

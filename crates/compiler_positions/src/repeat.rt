@@ -2,7 +2,7 @@
 
 ghost use Rattle.std.specs.Prelude.{◌≡◌, ◌*◌, ◌<◌, ◌≤◌, length, IfOk, IfErr};
 ghost use Rattle.compiler_positions.specs.Rows.{copies_data, turn_data, repeat_data, rows_size};
-ghost use Rattle.compiler_positions.specs.Rows.{IsPlaced};
+ghost use Rattle.compiler_positions.specs.Rows.{IsClosedTable};
 ghost use Rattle.compiler_positions.specs.Views.{change_data};
 ghost use Rattle.compiler_positions.specs.Faults.{IsLong};
 
@@ -16,7 +16,7 @@ use std::alloc::{AllocError, Global};
 /// The first positions of the copies from one on: those of the next, or where the body may be empty
 /// of each.
 fn copies(alloc: Global, body: &Table, first: usize, most: usize) -> Result<Vec<u8>, AllocError>
-    requires placed { IsPlaced body.now }
+    requires placed { IsClosedTable body.now }
     requires few { most * length body.now.rows ≤ 127 }
     ensures { IfOk result (λ v. v.items ≡ copies_data body.now first most) }
 {
@@ -41,7 +41,7 @@ fn turn(
     most: usize,
     copy: usize,
 ) -> Result<Change, AllocError>
-    requires placed { IsPlaced body.now }
+    requires placed { IsClosedTable body.now }
     requires few { most * length body.now.rows ≤ 127 }
     requires within { copy < most }
     ensures { IfOk result (λ c. change_data c ≡ turn_data body.now least most copy) }
@@ -61,7 +61,7 @@ pub(crate) fn repeat(
     least: usize,
     most: usize,
 ) -> Result<Table, SectionFault>
-    requires placed { IsPlaced body.now }
+    requires placed { IsClosedTable body.now }
     requires few { most * length body.now.rows ≤ 127 }
     ensures ok { IfOk result (λ t. t ≡ repeat_data body.now least most) }
     ensures short { IfOk result (λ t. rows_size t.rows ≤ 65535) }

@@ -2,14 +2,14 @@
 
 ghost use Rattle.std.specs.Prelude.{◌≡◌, ◌≤◌, ◌<◌, All, IfOk, IfErr};
 ghost use Rattle.bytecode.specs.Views.{section_data};
-ghost use Rattle.verifier_inference.specs.Sections.{size_of};
+ghost use Rattle.verifier_inference.specs.Sections.{instructions_in};
 ghost use Rattle.assertions.specs.declared.sequence.Boolean.TheVariants.{One};
 ghost use Rattle.assertions.specs.Written.{weight, IsOrdered};
 ghost use Rattle.assertions.specs.Shapes.{written_form};
 ghost use Rattle.assertions.specs.Listed.{EachBoolean, IsListed};
-ghost use Rattle.compiler_positions.specs.Rows.{IsPlaced};
+ghost use Rattle.compiler_positions.specs.Rows.{IsClosedTable};
 ghost use Rattle.compiler_positions.specs.Sections.{bits};
-ghost use Rattle.compiler_positions.specs.Sequences.{atom_of, largest, coded_section};
+ghost use Rattle.compiler_positions.specs.Sequences.{atom_of, largest_place, coded_section};
 ghost use Rattle.compiler_positions.specs.Laws.{section_for};
 ghost use Rattle.compiler_positions.specs.Lengths.{HasLongSection};
 ghost use Rattle.compiler_positions.specs.declared.fault.SectionFault.TheVariants.{TooLong};
@@ -40,11 +40,11 @@ const LONGEST: usize = 4096;
 
 /// The section of a table.
 fn section_at(alloc: Global, table: &Table) -> Result<Section, SectionFault>
-    requires { IsPlaced table.now }
+    requires { IsClosedTable table.now }
     ensures made { IfOk result (λ s. section_data s ≡ coded_section table.now) }
-    ensures short { IfOk result (λ s. size_of (section_data s).blocks ≤ 4096) }
+    ensures short { IfOk result (λ s. instructions_in (section_data s).blocks ≤ 4096) }
     ensures err { IfErr result (λ fault. fault ≡ TooLong
-        → 4096 < size_of (coded_section table.now).blocks) }
+        → 4096 < instructions_in (coded_section table.now).blocks) }
 {
     let blocks = blocks_for(alloc, table.rows())?;
     if blocks.size > LONGEST {
@@ -63,8 +63,8 @@ pub fn positions_of(alloc: Global, sequence: &Sequence) -> Result<Section, Secti
     requires listed { EachBoolean (IsListed 127) (written_form sequence.now) }
     ensures ok { IfOk result
         (λ s. section_data s ≡ section_for atom_of One (written_form sequence.now)) }
-    ensures short { IfOk result (λ s. size_of (section_data s).blocks ≤ 4096) }
-    ensures light { IfOk result (λ s. largest (written_form sequence.now) ≤ 65535) }
+    ensures short { IfOk result (λ s. instructions_in (section_data s).blocks ≤ 4096) }
+    ensures light { IfOk result (λ s. largest_place (written_form sequence.now) ≤ 65535) }
     ensures err { IfErr result
         (λ fault. fault ≡ TooLong → HasLongSection (written_form sequence.now)) }
 {

@@ -4,7 +4,7 @@ ghost use Rattle.std.specs.Prelude.{◌≡◌, ◌≤◌, IfOk, IfErr};
 ghost use Rattle.assertions.specs.Written.{weight, IsOrdered};
 ghost use Rattle.assertions.specs.Shapes.{written_form};
 ghost use Rattle.assertions.specs.Listed.{EachBoolean, IsListed};
-ghost use Rattle.compiler_positions.specs.Sequences.{atom_of, listed_for, largest};
+ghost use Rattle.compiler_positions.specs.Sequences.{atom_of, listed_for, largest_place};
 ghost use Rattle.compiler_positions.specs.Faults.{IsLong};
 
 use crate::alternatives::{during, either, tick};
@@ -35,8 +35,8 @@ pub(crate) fn table_of(alloc: Global, sequence: &Sequence) -> Result<Table, Sect
     requires bound { weight (written_form sequence.now) ≤ 127 }
     requires listed { EachBoolean (IsListed 127) (written_form sequence.now) }
     ensures ok { IfOk result (λ t. t ≡ listed_for (written_form sequence.now)) }
-    ensures short { IfOk result (λ t. largest (written_form sequence.now) ≤ 65535) }
-    ensures err { IfErr result (IsLong (largest (written_form sequence.now))) }
+    ensures short { IfOk result (λ t. largest_place (written_form sequence.now) ≤ 65535) }
+    ensures err { IfErr result (IsLong (largest_place (written_form sequence.now))) }
 {
     if !is_weighty(sequence) {
         return Ok(Table::still(alloc, is_nullable(sequence)));

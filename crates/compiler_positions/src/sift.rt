@@ -2,7 +2,7 @@
 
 ghost use Rattle.std.specs.Prelude.{◌≡◌, ◌++◌, length, map, OnOk, IfOk};
 ghost use Rattle.compiler_positions.specs.Living.{sift, sifted_edge};
-ghost use Rattle.compiler_positions.specs.Rows.{marked, kept_rows, sift_data};
+ghost use Rattle.compiler_positions.specs.Rows.{is_marked_at, kept_rows, sift_data};
 ghost use Rattle.compiler_positions.specs.Views.{edge_data, rows_data};
 
 use crate::edge::Edge;
@@ -15,7 +15,7 @@ use std::alloc::{AllocError, Global};
 /// Puts those of the positions that are marked behind others, by their new numbers.
 fn put_kept(list: &mut Vec<u8>, positions: &[u8], marks: &[bool]) -> Result<(), AllocError>
     ensures { OnOk result
-        (list.new.items ≡ list.old.items ++ sift (marked marks.now) positions.now) }
+        (list.new.items ≡ list.old.items ++ sift (is_marked_at marks.now) positions.now) }
 {
     for position in positions {
         if is_marked(marks, *position as usize) {
@@ -28,7 +28,7 @@ fn put_kept(list: &mut Vec<u8>, positions: &[u8], marks: &[bool]) -> Result<(), 
 /// An edge to marked positions alone.
 fn kept_edge(alloc: Global, edge: &Edge, marks: &[bool]) -> Result<Edge, AllocError>
     ensures { IfOk result
-        (λ e. edge_data e ≡ sifted_edge (marked marks.now) (edge_data edge.now)) }
+        (λ e. edge_data e ≡ sifted_edge (is_marked_at marks.now) (edge_data edge.now)) }
 {
     let wanted = Vec::from_slice(alloc, &edge.wanted)?;
     let mut enters = Vec::new(alloc);
@@ -43,7 +43,7 @@ fn kept_edge(alloc: Global, edge: &Edge, marks: &[bool]) -> Result<Edge, AllocEr
 /// The edges of a position.
 fn kept_row(alloc: Global, row: &[Edge], marks: &[bool]) -> Result<Vec<Edge>, AllocError>
     ensures { IfOk result (λ v. map edge_data v.items
-        ≡ map (sifted_edge (marked marks.now)) (map edge_data row.now)) }
+        ≡ map (sifted_edge (is_marked_at marks.now)) (map edge_data row.now)) }
 {
     let mut edges = Vec::new(alloc);
     for edge in row {
@@ -59,7 +59,7 @@ fn rows_kept(
     marks: &[bool],
 ) -> Result<Vec<Vec<Edge>>, AllocError>
     ensures { IfOk result (λ v. rows_data v.items
-        ≡ kept_rows (marked marks.now) (rows_data rows.now) (length rows.now)) }
+        ≡ kept_rows (is_marked_at marks.now) (rows_data rows.now) (length rows.now)) }
 {
     let mut all = Vec::new(alloc);
     for place in 0..rows.len() {

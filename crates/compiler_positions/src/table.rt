@@ -1,7 +1,7 @@
 //! Tables of positions.
 
 ghost use Rattle.std.specs.Prelude.{◌≡◌, ◌≤◌, length, map};
-ghost use Rattle.compiler_positions.specs.Rows.{TableData, rows_size, row_at, still_data};
+ghost use Rattle.compiler_positions.specs.Rows.{TableData, rows_size, edges_at, still_data};
 ghost use Rattle.compiler_positions.specs.Views.{edge_data, rows_data};
 
 use crate::edge::Edge;
@@ -83,7 +83,7 @@ impl Table {
 
     /// The edges of a position, none where it isn't there.
     pub fn row(&self, position: usize) -> &[Edge]
-        ensures { map edge_data result.now ≡ row_at self.now.rows position }
+        ensures { map edge_data result.now ≡ edges_at self.now.rows position }
     {
         match self.rows.get(position) {
             None => &[],

@@ -6,8 +6,8 @@ use Rattle.expressions.specs.declared.name.Name.{Name}
 use Rattle.expressions.specs.declared.name.Origin.{Origin}
 use Rattle.expressions.specs.declared.name.Origin.TheVariants.{Signal as FromSignal}
 use Rattle.expressions.specs.declared.name.Origin.TheVariants.{Counter as FromCounter}
-use Rattle.compiler_reads.specs.Marks.{AreMarks, places_from}
-use Rattle.compiler_reads.specs.Reads.{AreRead}
+use Rattle.assertions.specs.Marks.{AreMarks, places_from}
+use Rattle.assertions.specs.Reads.{AreRead}
 use Rattle.explaining.specs.declared.sheet.Sheet.{Sheet}
 use Rattle.explaining.specs.declared.sheet.SheetRow.{SheetRow}
 use Rattle.expressions.specs.declared.rows.Rows.{Rows}
@@ -20,9 +20,9 @@ use Rattle.explaining.specs.declared.cells.RowSource.{RowSource}
 use Rattle.explaining.specs.declared.cells.RowSource.TheVariants.{Signal, Counter, Listed}
 
 -- a boolean as a number
-abbrev pub number_of : Bool → ℕ
-number_of true = 1
-number_of false = 0
+abbrev pub bit_number : Bool → ℕ
+bit_number true = 1
+bit_number false = 0
 
 -- the value that a row shows at a clock: that of a signal, of a counter, or of a boolean of the
 -- assertion's list
@@ -30,7 +30,7 @@ abbrev pub value_of_row : Suite → Assertion → Rows → RowSource → ℕ →
 value_of_row suite a rows (Signal place) clock = column rows.signals place clock
 value_of_row suite a rows (Counter place) clock = column rows.counters place clock
 value_of_row suite a rows (Listed place) clock =
-    number_of
+    bit_number
     (is_true_at (samples_of rows)
     (expression_at suite.booleans.items (slice_get a.booleans.items place)) clock)
 
@@ -41,14 +41,14 @@ is_always_shown (Counter place) = true
 is_always_shown (Listed place) = false
 
 -- what a cell says of a value
-abbrev pub Says : Bool → Option ℕ → ℕ → Type 0
-Says always None value = always ≡ false
-Says always (Some shown) value = shown ≡ value
+abbrev pub CellSays : Bool → Option ℕ → ℕ → Type 0
+CellSays always None value = always ≡ false
+CellSays always (Some shown) value = shown ≡ value
 
 -- There is a cell for each clock. It has the value at the clock, or none where that need not be
 -- shown.
 abbrev pub ShowsValues : (ℕ → ℕ) → Bool → List ℕ → List (Option ℕ) → Type 0
-ShowsValues value always = AllZip (λ clock cell. Says always cell (value clock))
+ShowsValues value always = AllZip (λ clock cell. CellSays always cell (value clock))
 
 -- the cells of a row of an assertion
 abbrev pub ShowsSource : Suite → Assertion → Rows → List ℕ → RowSource → List (Option ℕ) → Type 0
@@ -56,7 +56,7 @@ ShowsSource suite a rows clocks source cells =
     ShowsValues (value_of_row suite a rows source) (is_always_shown source) clocks cells
 
 -- A row shows the values of its source.
-pub record IsRowOf (suite : Suite) (a : Assertion) (rows : Rows) (clocks : List ℕ)
+pub record IsShownRow (suite : Suite) (a : Assertion) (rows : Rows) (clocks : List ℕ)
     (source : RowSource) (row : SheetRow) : Type 0 where
   pub source_is : row.source ≡ source
   pub shows : ShowsSource suite a rows clocks source row.cells.items
@@ -64,7 +64,7 @@ pub record IsRowOf (suite : Suite) (a : Assertion) (rows : Rows) (clocks : List 
 -- There is a row for each source.
 abbrev pub ShowsRows :
     Suite → Assertion → Rows → List ℕ → List RowSource → List SheetRow → Type 0
-ShowsRows suite a rows clocks = AllZip (IsRowOf suite a rows clocks)
+ShowsRows suite a rows clocks = AllZip (IsShownRow suite a rows clocks)
 
 -- the booleans of so many places
 abbrev pub listed_below : ℕ → List RowSource

@@ -3,7 +3,7 @@
 ghost use Rattle.std.specs.Prelude.{◌≡◌, IsTrue, IfOk, slice_get};
 ghost use Rattle.expressions.specs.Rows.{samples_of};
 ghost use Rattle.assertions.specs.Shapes.{expression_at, is_true_at};
-ghost use Rattle.explaining.specs.Shown.{value_of_row, is_always_shown, Says, ShowsSource};
+ghost use Rattle.explaining.specs.Shown.{value_of_row, is_always_shown, CellSays, ShowsSource};
 
 use crate::asked::Asked;
 use assertions::{Assertion, Suite};
@@ -69,7 +69,7 @@ fn is_shown(asked: &Asked, source: RowSource, clock: usize) -> bool
 
 /// The cell of a row at a clock.
 fn cell_at(read: &Read<'_>, asked: &Asked, source: RowSource, clock: usize) -> Option<u128>
-    ensures { Says (is_always_shown source) result (value_of_row read.now.suite.now
+    ensures { CellSays (is_always_shown source) result (value_of_row read.now.suite.now
         read.now.assertion.now read.now.rows.now source clock) }
 {
     if is_shown(asked, source, clock) {

@@ -14,7 +14,7 @@
 //! asked at those clocks at which some match of its side could come to it.
 //!
 //! The definitions: where the values of a row come from, and that a row shows them, in
-//! `specs/Shown.antt`. What is read is that of `compiler_reads`, values are those of `expressions`,
+//! `specs/Shown.antt`. What is read is that of `assertions`, values are those of `expressions`,
 //! and causes those of `judging`.
 //!
 //! Not promised: that memory suffices, at which clocks a boolean is asked, how wide a column of the

@@ -2,13 +2,14 @@
 
 ghost use Rattle.std.specs.Prelude.{◌≡◌, ◌++◌, ◌<◌, ◌≤◌, ◌^◌, IfOk, OnOk, map, length};
 ghost use Rattle.explaining.specs.declared.cells.RowSource.TheVariants.{Signal, Counter};
-ghost use Rattle.explaining.specs.Shown.{IsRowOf, ShowsRows, ArePlaces, AreSources, listed_below};
+ghost use Rattle.explaining.specs.Shown.{IsShownRow, ShowsRows, ArePlaces, AreSources};
+ghost use Rattle.explaining.specs.Shown.{listed_below};
 ghost use Rattle.explaining.specs.Shown.{IsSheet};
 
 use crate::asked::{Asked, Attempt};
 use crate::cells::{Read, RowSource, cells_of};
 use crate::expression_text::{Names, expression_text};
-use compiler_reads::{marked_places, marks_of, names_read};
+use assertions::{marked_places, marks_of, names_read};
 use expressions::{Name, Origin};
 use std::alloc::{AllocError, Global};
 
@@ -182,7 +183,7 @@ fn row_of(
     source: RowSource,
     clocks: &[usize],
 ) -> Result<SheetRow, AllocError>
-    ensures { IfOk result (IsRowOf read.now.suite.now read.now.assertion.now
+    ensures { IfOk result (IsShownRow read.now.suite.now read.now.assertion.now
         read.now.rows.now clocks.now source) }
 {
     let label = label_of(alloc, read, names, source)?;

@@ -10,16 +10,16 @@ use Rattle.assertions.specs.declared.sequence.Boolean.{Boolean}
 use Rattle.assertions.specs.Quantifiers.{first_true, some_in}
 use Rattle.assertions.proofs.Quantifiers.{some_in-found, some_in-true, first_true-found, first_true-none}
 use Rattle.assertions.specs.Segments.{Seq, sat, is_match, longest}
-use Rattle.assertions.specs.Attempts.{Antecedent, IsEnd, IsBroken, Fails, is_leading, is_possible}
+use Rattle.assertions.specs.Attempts.{Antecedent, EndsAntecedent, IsBroken, Fails, is_leading, is_possible}
 use Rattle.assertions.proofs.Segments.{Matches-forward, Matches-longest, is_match-Matches, Matches-is_match}
 use Rattle.assertions.proofs.Attempts.{is_leading-Leads, Leads-is_leading}
 use Rattle.judging.specs.declared.cause.Cause.{Cause}
-use Rattle.judging.specs.Causes.{IsCause, IsPlaced}
+use Rattle.judging.specs.Causes.{IsCause, IsEndTick}
 use Rattle.assertions.specs.declared.assertion.Assertion.{Assertion}
 use Rattle.assertions.specs.Shapes.{shape}
 use Rattle.assertions.specs.Verdicts.{antecedent_of}
 use Rattle.judging.specs.declared.sides.Sides.{Sides}
-use Rattle.judging.specs.Tables.{marks, links, value_at, HasSeen}
+use Rattle.judging.specs.Tables.{marks, has_link, seen_value, HasSeen}
 use Rattle.judging.specs.Courses.{AreSides}
 use Rattle.judging.proofs.DecisionLaws.{broken_here, first_true-same}
 use Rattle.judging.proofs.ShiftLaws.{end_down, end_up, broken_down, broken_up}
@@ -44,7 +44,7 @@ breaks here n r s e = is_leading (sat here n) r 0 (e + 1) && not (is_possible he
 -- The attempt by places, where here is what was seen, and by ticks.
 module _ (B : Type 0) (value here : B → ℕ → Bool) (c n : ℕ)
     (same : (b : B) (k : ℕ) → k < n → here b k ≡ value b (c + k)) (r : Antecedent B) (s : Seq B) where
-  breaks-end : (k : ℕ) → k < n → IsTrue (breaks here n r s k) → IsEnd value r (c + n) c (c + k)
+  breaks-end : (k : ℕ) → k < n → IsTrue (breaks here n r s k) → EndsAntecedent value r (c + n) c (c + k)
   breaks-end k below t =
       end_up B value here c n same r k (
         omega arith,
@@ -60,7 +60,8 @@ module _ (B : Type 0) (value here : B → ℕ → Bool) (c n : ℕ)
       (not-true _ (and_parts (is_leading (sat here n) r 0 (k + 1)) (not (is_possible here s n k)) t).1))
 
   -- an end with a broken obligation is one of these places
-  broken-breaks : (e : ℕ) → IsEnd value r (c + n) c e → IsBroken value s (c + n) e → IsTrue (breaks here n r s (e - c))
+  broken-breaks : (e : ℕ) → EndsAntecedent value r (c + n) c e → IsBroken value s (c + n) e
+      → IsTrue (breaks here n r s (e - c))
   broken-breaks e end broken =
       let at : e ≡ c + (e - c) = omega (arith, end.0) in
       let down = end_down B value here c n same r e end in
@@ -78,14 +79,14 @@ module _ (B : Type 0) (value here : B → ℕ → Bool) (c n : ℕ)
       (broken-breaks h.0 h.1 h.2)
 
   module _ (ends : List Bool) (at : (j : ℕ) → j < n + 1 → marks ends j ≡ is_leading (sat here n) r 0 j) where
-    placed-IsEnd : (e : ℕ) → IsPlaced ends c n e → IsEnd value r (c + n) c e
+    placed-IsEnd : (e : ℕ) → IsEndTick ends c n e → EndsAntecedent value r (c + n) c e
     placed-IsEnd e p =
         let below : p.0 + 1 < n + 1 = omega (arith, p.1) in
-        subst (λ k. IsEnd value r (c + n) c k) (sym p.3)
+        subst (λ k. EndsAntecedent value r (c + n) c k) (sym p.3)
         (end_up B value here c n same r p.0
         (omega arith, p.1, is_leading-Leads B (sat here n) r 0 (p.0 + 1) (sym (at (p.0 + 1) below) ∙ p.2)))
 
-    IsEnd-placed : (e : ℕ) → IsEnd value r (c + n) c e → IsPlaced ends c n e
+    IsEnd-placed : (e : ℕ) → EndsAntecedent value r (c + n) c e → IsEndTick ends c n e
     IsEnd-placed e end =
         let down = end_down B value here c n same r e end in
         let from : c ≤ e = end.0 in
@@ -97,12 +98,12 @@ module _ (B : Type 0) (value here : B → ℕ → Bool) (c n : ℕ)
         )
 
     first_broken : (k : ℕ) (cause : Cause) → first_true 0 n (breaks here n r s) ≡ Some k → cause.broken ≡ c + k
-        → ((e : ℕ) → Contains cause.ends.items e ↔ IsPlaced ends c n e) → IsCause value r s (c + n) c cause
+        → ((e : ℕ) → Contains cause.ends.items e ↔ IsEndTick ends c n e) → IsCause value r s (c + n) c cause
     first_broken k cause is broken lists =
         let f = first_true-found 0 n (breaks here n r s) k is in
         record {
           ends = λ e. (λ h. placed-IsEnd e ((lists e).0 h), λ h. (lists e).1 (IsEnd-placed e h));
-          is_end = subst (λ e. IsEnd value r (c + n) c e) (sym broken) (breaks-end k f.below f.found);
+          is_end = subst (λ e. EndsAntecedent value r (c + n) c e) (sym broken) (breaks-end k f.below f.found);
           is_broken = subst (λ e. IsBroken value s (c + n) e) (sym broken) (breaks-broken k f.found);
           first = λ e end below bad.
               let from : c ≤ e = end.0 in
@@ -114,14 +115,14 @@ module _ (value : Boolean → ℕ → Bool) (a : Assertion) (start end : ℕ) (v
     (seen : HasSeen value start values) (long : start + length values ≡ end) (are : AreSides values a sides) where
   abbrev breaks_there : ℕ → Bool
   breaks_there e =
-      marks sides.ends.items (e + 1) && not (some_in e sides.room (links sides.consequents e))
+      marks sides.ends.items (e + 1) && not (some_in e sides.room (has_link sides.consequents e))
 
   there_here : first_true 0 (length values) breaks_there
-      ≡ first_true 0 (length values) (breaks (value_at values) (length values) (antecedent_of a) (shape a.consequent))
+      ≡ first_true 0 (length values) (breaks (seen_value values) (length values) (antecedent_of a) (shape a.consequent))
   there_here =
       first_true-same 0 (length values) breaks_there
-      (breaks (value_at values) (length values) (antecedent_of a) (shape a.consequent))
-      (λ e from below. broken_here Boolean (value_at values) (length values) (antecedent_of a) (shape a.consequent)
+      (breaks (seen_value values) (length values) (antecedent_of a) (shape a.consequent))
+      (λ e from below. broken_here Boolean (seen_value values) (length values) (antecedent_of a) (shape a.consequent)
       sides.count sides.room sides.ends.items sides.obligations.items sides.consequents are.seen are.ends are.wide
       are.obliged are.consequents e below)
 
@@ -129,40 +130,42 @@ module _ (value : Boolean → ℕ → Bool) (a : Assertion) (start end : ℕ) (v
   module _ (o : Option ℕ) (below : ℕ) (ends : List Bool) (len : below ≡ length values)
       (same : ends ≡ sides.ends.items)
       (found : o ≡ first_true 0 below
-      (λ e. marks ends (e + 1) && not (some_in e sides.room (links sides.consequents e)))) where
+      (λ e. marks ends (e + 1) && not (some_in e sides.room (has_link sides.consequents e)))) where
     searched : o
-        ≡ first_true 0 (length values) (breaks (value_at values) (length values) (antecedent_of a) (shape a.consequent))
+        ≡ first_true 0 (length values)
+        (breaks (seen_value values) (length values) (antecedent_of a) (shape a.consequent))
     searched =
         found
-        ∙ ap (λ k. first_true 0 k (λ e. marks ends (e + 1) && not (some_in e sides.room (links sides.consequents e))))
+        ∙ ap (λ k. first_true 0 k
+        (λ e. marks ends (e + 1) && not (some_in e sides.room (has_link sides.consequents e))))
         len
         ∙ ap (λ (l : List Bool). first_true 0 (length values)
-        (λ e. marks l (e + 1) && not (some_in e sides.room (links sides.consequents e)))) same
+        (λ e. marks l (e + 1) && not (some_in e sides.room (has_link sides.consequents e)))) same
         ∙ there_here
 
     pub none_law : o ≡ None → Fails value (antecedent_of a) (shape a.consequent) end start → ⊥
     none_law is =
         subst (λ n. Fails value (antecedent_of a) (shape a.consequent) n start → ⊥) long
-        (none_broken Boolean value (value_at values) start (length values) (λ b k below. seen.each b k below)
+        (none_broken Boolean value (seen_value values) start (length values) (λ b k below. seen.each b k below)
         (antecedent_of a) (shape a.consequent) (sym searched ∙ is))
 
     pub some_law : (k : ℕ) (cause : Cause) → o ≡ Some k → cause.broken ≡ start + k
-        → ((e : ℕ) → Contains cause.ends.items e ↔ IsPlaced ends start below e)
+        → ((e : ℕ) → Contains cause.ends.items e ↔ IsEndTick ends start below e)
         → IsCause value (antecedent_of a) (shape a.consequent) end start cause
     some_law k cause is broken lists =
-        let there : (e : ℕ) → Contains cause.ends.items e ↔ IsPlaced ends start (length values) e =
-        subst (λ n. (e : ℕ) → Contains cause.ends.items e ↔ IsPlaced ends start n e) len lists in
+        let there : (e : ℕ) → Contains cause.ends.items e ↔ IsEndTick ends start (length values) e =
+        subst (λ n. (e : ℕ) → Contains cause.ends.items e ↔ IsEndTick ends start n e) len lists in
         let at : (j : ℕ) → j < length values + 1
-        → marks ends j ≡ is_leading (sat (value_at values) (length values)) (antecedent_of a) 0 j =
+        → marks ends j ≡ is_leading (sat (seen_value values) (length values)) (antecedent_of a) 0 j =
         λ j inside. ap (λ (l : List Bool). marks l j) same ∙ are.ends j (omega (arith, are.seen)) in
         subst (λ n. IsCause value (antecedent_of a) (shape a.consequent) n start cause) long
-        (first_broken Boolean value (value_at values) start (length values) (λ b k below. seen.each b k below)
+        (first_broken Boolean value (seen_value values) start (length values) (λ b k below. seen.each b k below)
         (antecedent_of a) (shape a.consequent) ends at k cause (sym searched ∙ is) broken there)
 
 -- one place more
 pub placed_more : (ends : List Bool) (start place : ℕ) (old new : List ℕ) → new ≡ old ++ (start + place) ∷ []
-    → IsTrue (marks ends (place + 1)) → ((t : ℕ) → Contains old t ↔ IsPlaced ends start place t)
-    → (t : ℕ) → Contains new t ↔ IsPlaced ends start (place + 1) t
+    → IsTrue (marks ends (place + 1)) → ((t : ℕ) → Contains old t ↔ IsEndTick ends start place t)
+    → (t : ℕ) → Contains new t ↔ IsEndTick ends start (place + 1) t
 placed_more ends start place old new pushed here lists t = (
   λ h. elim (Contains-push_cases old (start + place) t (subst (λ (l : List ℕ). Contains l t) pushed h)) [
     | inl h ↦ let p = (lists t).0 h in (p.0, omega (arith, p.1), p.2, p.3)
@@ -181,8 +184,8 @@ placed_more ends start place old new pushed here lists t = (
 )
 
 pub placed_skip : (ends : List Bool) (start place : ℕ) (old : List ℕ) → marks ends (place + 1) ≡ false
-    → ((t : ℕ) → Contains old t ↔ IsPlaced ends start place t)
-    → (t : ℕ) → Contains old t ↔ IsPlaced ends start (place + 1) t
+    → ((t : ℕ) → Contains old t ↔ IsEndTick ends start place t)
+    → (t : ℕ) → Contains old t ↔ IsEndTick ends start (place + 1) t
 placed_skip ends start place old not_here lists t = (
   λ h. let p = (lists t).0 h in (p.0, omega (arith, p.1), p.2, p.3),
   λ p. elim (cases_lt p.0 place) [
@@ -193,5 +196,5 @@ placed_skip ends start place old not_here lists t = (
   ],
 )
 
-pub placed_none : (ends : List Bool) (start t : ℕ) → Contains [] t ↔ IsPlaced ends start 0 t
+pub placed_none : (ends : List Bool) (start t : ℕ) → Contains [] t ↔ IsEndTick ends start 0 t
 placed_none ends start t = (λ h. absurd (omega (arith, h.1)), λ p. absurd (omega (arith, p.1)))

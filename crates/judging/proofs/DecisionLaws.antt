@@ -20,7 +20,7 @@ use Rattle.signals.specs.declared.verdict.Verdict.TheVariants as outcome
 use Rattle.expressions.specs.declared.expr.Expr.{Expr}
 use Rattle.expressions.specs.Terms.{Samples}
 use Rattle.assertions.specs.Shapes.{is_true_at, expression_at, value_in, off_in}
-use Rattle.judging.specs.Tables.{marks, row_at, links, value_at, off_at, last_of, HasSeen, IsRow, IsRelation}
+use Rattle.judging.specs.Tables.{marks, row_at, has_link, seen_value, off_at, seen_end, HasSeen, IsRow, IsRelation}
 use Rattle.judging.proofs.RowLaws.{same_truth, get_or_end}
 use Rattle.judging.proofs.ShiftLaws.{decision_seen}
 
@@ -98,7 +98,7 @@ module _ (B : Type 0) (value : B → ℕ → Bool) (n : ℕ) where
     module _ (wide : n + longest s < room)
         (obliged : IsRow (λ e. nat_le (e + 1) n && marks ends (e + 1)) room obligations)
         (rel : IsRelation (is_match (sat value n) s) obligations consequents) where
-      from_end : (e j : ℕ) → e < n → IsTrue (marks ends (e + 1)) → j < room → links consequents e j
+      from_end : (e j : ℕ) → e < n → IsTrue (marks ends (e + 1)) → j < room → has_link consequents e j
           ≡ is_match (sat value n) s e j
       from_end e j below marked inside =
           let here : IsTrue (marks obligations e) =
@@ -107,41 +107,41 @@ module _ (B : Type 0) (value : B → ℕ → Bool) (n : ℕ) where
           rel.each e j here (omega (arith, obliged.long))
 
       failed_at : (e : ℕ) → e < n → (b : Bool) → marks ends (e + 1) ≡ b
-          → (b && not (some_in e room (links consequents e))) ≡ (b && not (is_possible value s n e))
+          → (b && not (some_in e room (has_link consequents e))) ≡ (b && not (is_possible value s n e))
       failed_at e below false is = refl
       failed_at e below true is =
           ap (λ p. true && not p)
-          (some_in-same e room (links consequents e) (λ j. is_match (sat value n) s e j)
+          (some_in-same e room (has_link consequents e) (λ j. is_match (sat value n) s e j)
           (λ j from inside. from_end e j below is inside)
           ∙ far_enough s e e room (omega arith))
 
       -- whether the antecedent ends there, with an obligation that can't be kept
       pub broken_here : (e : ℕ) → e < n
-          → (marks ends (e + 1) && not (some_in e room (links consequents e)))
+          → (marks ends (e + 1) && not (some_in e room (has_link consequents e)))
           ≡ (is_leading (sat value n) r 0 (e + 1) && not (is_possible value s n e))
       broken_here e below =
           failed_at e below (marks ends (e + 1)) refl
           ∙ ap (λ b. b && not (is_possible value s n e)) (at (e + 1) (omega arith))
 
-      pub failed_law : some_in 0 n (λ e. marks ends (e + 1) && not (some_in e room (links consequents e)))
+      pub failed_law : some_in 0 n (λ e. marks ends (e + 1) && not (some_in e room (has_link consequents e)))
           ≡ is_failed value r s n 0
       failed_law =
-          some_in-same 0 n (λ e. marks ends (e + 1) && not (some_in e room (links consequents e)))
+          some_in-same 0 n (λ e. marks ends (e + 1) && not (some_in e room (has_link consequents e)))
           (λ e. is_leading (sat value n) r 0 (e + 1) && not (is_possible value s n e))
           (λ e from below. broken_here e below)
 
       kept_at : (e : ℕ) → e < n → (b : Bool) → marks ends (e + 1) ≡ b
-          → (not b || some_in e (n + 1) (links consequents e)) ≡ (not b || is_kept value s n e)
+          → (not b || some_in e (n + 1) (has_link consequents e)) ≡ (not b || is_kept value s n e)
       kept_at e below false is = refl
       kept_at e below true is =
           ap (λ p. not true || p)
-          (some_in-same e (n + 1) (links consequents e) (λ j. is_match (sat value n) s e j)
+          (some_in-same e (n + 1) (has_link consequents e) (λ j. is_match (sat value n) s e j)
           (λ j from inside. from_end e j below is (omega arith)))
 
-      pub kept_law : each_in 0 n (λ e. not (marks ends (e + 1)) || some_in e (n + 1) (links consequents e))
+      pub kept_law : each_in 0 n (λ e. not (marks ends (e + 1)) || some_in e (n + 1) (has_link consequents e))
           ≡ all_kept value r s n 0
       kept_law =
-          each_in_same 0 n (λ e. not (marks ends (e + 1)) || some_in e (n + 1) (links consequents e))
+          each_in_same 0 n (λ e. not (marks ends (e + 1)) || some_in e (n + 1) (has_link consequents e))
           (λ e. not (is_leading (sat value n) r 0 (e + 1)) || is_kept value s n e)
           (λ e from below. kept_at e below (marks ends (e + 1)) refl
           ∙ ap (λ b. not b || is_kept value s n e) (at (e + 1) (omega arith)))
@@ -160,16 +160,16 @@ seen_more all places t first tick values new row h pushed is each = record { eac
     long : length new ≡ length values + 1
     long = ap (λ (l : List (List Bool)). length l) pushed ∙ length-append values (row ∷ [])
 
-    by : (b : Boolean) (k : ℕ) → k < length new → value_at new b k ≡ value_in all places t b (first + k)
+    by : (b : Boolean) (k : ℕ) → k < length new → seen_value new b k ≡ value_in all places t b (first + k)
     by One k below = refl
     by (Listed i) k below = elim (cases_lt k (length values)) [
       | inl lt ↦
-          ap (λ (l : List (List Bool)). links l k i) pushed
+          ap (λ (l : List (List Bool)). has_link l k i) pushed
           ∙ ap (λ (l : List Bool). marks l i) (get_or-append values (row ∷ []) [] k lt) ∙ h.each (Listed i) k lt
       | inr ge ↦
           let last : k ≡ length values = omega (arith, long) in
           let now : tick ≡ first + k = omega arith in
-          ap (λ (l : List (List Bool)). links l k i) pushed
+          ap (λ (l : List (List Bool)). has_link l k i) pushed
           ∙ ap (λ (l : List Bool). marks l i) (get_or_end values row [] k last) ∙ each i
           ∙ ap (λ n. is_true_at t (expression_at all (slice_get places i)) n) now
     ]
@@ -198,7 +198,7 @@ off_seen all places t first values (Some b) h k from below =
 
 pub verdict_seen : (all : List Expr) (places : List ℕ) (t : Samples) (first end : ℕ) (values : List (List Bool))
     (d : Option Boolean) (found : Option (ℕ × Decision)) → HasSeen (value_in all places t) first values
-    → first + length values ≡ last_of end found
+    → first + length values ≡ seen_end end found
     → verdict_by (off_at values d first) first end found ≡ verdict_by (off_in all places t d) first end found
 verdict_seen all places t first end values d None h long =
     ap (λ o. disabled_or o outcome.Open)
@@ -225,7 +225,7 @@ found_later find start below end lt so_far is =
 pub seen_decides : (value : Boolean → ℕ → Bool) (r : Antecedent Boolean) (s : Seq Boolean) (start below : ℕ)
     (values : List (List Bool))
     (o : Option Decision) → HasSeen value start values → start + length values ≡ below
-    → o ≡ decision (value_at values) r s (length values) 0 → decision value r s below start ≡ o
+    → o ≡ decision (seen_value values) r s (length values) 0 → decision value r s below start ≡ o
 seen_decides value r s start below values o h e is =
-    ap (λ n. decision value r s n start) (sym e) ∙ decision_seen Boolean value (value_at values) start (length values)
+    ap (λ n. decision value r s n start) (sym e) ∙ decision_seen Boolean value (seen_value values) start (length values)
     (λ b k under. h.each b k under) r s ∙ sym is

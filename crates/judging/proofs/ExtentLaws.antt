@@ -12,7 +12,7 @@ use Rattle.assertions.specs.Emptiness.{takes_ticks}
 use Rattle.assertions.proofs.Quantifiers.{some_in-found, some_in-true}
 use Rattle.assertions.proofs.Segments.{Matches-longest, Matches-mono, is_match-Matches, Matches-is_match}
 use Rattle.assertions.proofs.EmptinessLaws.{moves-takes, takes-moves}
-use Rattle.judging.specs.Tables.{marks, row_at, value_at, held_at, IsRow, IsRelation}
+use Rattle.judging.specs.Tables.{marks, row_at, seen_value, held_at, IsRow, IsRelation}
 use Rattle.judging.proofs.RowLaws.{same_truth}
 use Rattle.judging.proofs.DecisionLaws.{first_row}
 
@@ -27,7 +27,7 @@ takes_law w ordered values none count long starts ends table start rel is =
     λ b k. or_left _ _ (le-leb (length values) k (let e = ap (λ (vs : List (List Bool)). length vs) none in
     omega (arith, e))) in
     let at =
-    (first_row Boolean (value_at values) (length values) r count starts ends table (omega arith) start rel is).1 in
+    (first_row Boolean (seen_value values) (length values) r count starts ends table (omega arith) start rel is).1 in
     same_truth (some_in 1 count (marks ends)) (takes_ticks w)
     (λ t.
     let f = some_in-found 1 count (marks ends) t in

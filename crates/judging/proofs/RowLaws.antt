@@ -7,7 +7,7 @@ use Rattle.std.proofs.Math.ListN.{get_or-append}
 use Rattle.std.proofs.lemmas.Bool.{cases_lt, both_ways, le-leb, leb-true, false_from_ne_true, and_parts}
 use Rattle.assertions.specs.Quantifiers.{some_in, each_in}
 use Rattle.assertions.proofs.Quantifiers.{some_in-end, some_in-snoc, each_in-end, each_in-snoc}
-use Rattle.judging.specs.Tables.{marks, row_at, links, IsRow, IsRelation}
+use Rattle.judging.specs.Tables.{marks, row_at, has_link, IsRow, IsRelation}
 
 -- two tests that pass together
 pub same_truth : (a b : Bool) → (IsTrue a → IsTrue b) → (IsTrue b → IsTrue a) → a ≡ b
@@ -53,13 +53,13 @@ row_none test = record { long = refl; each = λ k below. absurd (omega arith) }
 -- the rows so far
 pub record IsRowsOf (test : ℕ → ℕ → Bool) (starts : List Bool) (place : ℕ) (rows : List (List Bool)) : Type 0 where
   pub long : length rows ≡ place
-  pub each : (i j : ℕ) → i < place → IsTrue (marks starts i) → j < length starts → links rows i j ≡ test i j
+  pub each : (i j : ℕ) → i < place → IsTrue (marks starts i) → j < length starts → has_link rows i j ≡ test i j
 
-rows_before : (rows : List (List Bool)) (row : List Bool) (i j : ℕ) → i < length rows → links (rows ++ row ∷ []) i j
-    ≡ links rows i j
+rows_before : (rows : List (List Bool)) (row : List Bool) (i j : ℕ) → i < length rows → has_link (rows ++ row ∷ []) i j
+    ≡ has_link rows i j
 rows_before rows row i j lt = ap (λ (l : List Bool). marks l j) (get_or-append rows (row ∷ []) [] i lt)
 
-rows_last : (rows : List (List Bool)) (row : List Bool) (i j : ℕ) → i ≡ length rows → links (rows ++ row ∷ []) i j
+rows_last : (rows : List (List Bool)) (row : List Bool) (i j : ℕ) → i ≡ length rows → has_link (rows ++ row ∷ []) i j
     ≡ marks row j
 rows_last rows row i j e = ap (λ (l : List Bool). marks l j) (get_or_end rows row [] i e)
 
@@ -70,7 +70,7 @@ pub rows_skip : (test : ℕ → ℕ → Bool) (starts : List Bool) (place : ℕ)
 rows_skip test starts place rows new row h pushed off = record {
   long = ap (λ (l : List (List Bool)). length l) pushed ∙ length-append rows (row ∷ []) ∙ ap (λ n. n + 1) h.long;
   each = λ i j below marked inside. elim (cases_lt i place) [
-    | inl lt ↦ ap (λ (l : List (List Bool)). links l i j) pushed ∙ rows_before rows row i j (omega (arith, h.long))
+    | inl lt ↦ ap (λ (l : List (List Bool)). has_link l i j) pushed ∙ rows_before rows row i j (omega (arith, h.long))
         ∙ h.each i j lt marked inside
     | inr ge ↦ let e : i ≡ place =
         omega (arith, ge) in absurd (both_ways _ off (subst (λ n. IsTrue (marks starts n)) e marked))
@@ -84,11 +84,11 @@ pub rows_more : (test : ℕ → ℕ → Bool) (starts : List Bool) (place : ℕ)
 rows_more test starts place rows new row h pushed here = record {
   long = ap (λ (l : List (List Bool)). length l) pushed ∙ length-append rows (row ∷ []) ∙ ap (λ n. n + 1) h.long;
   each = λ i j below marked inside. elim (cases_lt i place) [
-    | inl lt ↦ ap (λ (l : List (List Bool)). links l i j) pushed ∙ rows_before rows row i j (omega (arith, h.long))
+    | inl lt ↦ ap (λ (l : List (List Bool)). has_link l i j) pushed ∙ rows_before rows row i j (omega (arith, h.long))
         ∙ h.each i j lt marked inside
     | inr ge ↦
         let e : place ≡ i = omega (arith, ge) in
-        ap (λ (l : List (List Bool)). links l i j) pushed ∙ rows_last rows row i j (omega (arith, h.long))
+        ap (λ (l : List (List Bool)). has_link l i j) pushed ∙ rows_last rows row i j (omega (arith, h.long))
         ∙ here j inside ∙ ap (λ n. test n j) e
   ];
 }
@@ -134,7 +134,7 @@ or-false false = refl
 
 -- what a table reaches from the places of a row below m
 abbrev pub reached_below : List Bool → List (List Bool) → ℕ → ℕ → ℕ → Bool
-reached_below front rest gap m j = some_in 0 m (λ m. marks front m && (nat_le (m + gap) j && links rest m j))
+reached_below front rest gap m j = some_in 0 m (λ m. marks front m && (nat_le (m + gap) j && has_link rest m j))
 
 pub join_skip : (front row : List Bool) (rest : List (List Bool)) (gap count m : ℕ)
     → IsRow (reached_below front rest gap m) count row → marks front m ≡ false
@@ -142,9 +142,9 @@ pub join_skip : (front row : List Bool) (rest : List (List Bool)) (gap count m :
 join_skip front row rest gap count m h off = record {
   long = h.long;
   each = λ j below.
-      let p : ℕ → Bool = λ m. marks front m && (nat_le (m + gap) j && links rest m j) in
+      let p : ℕ → Bool = λ m. marks front m && (nat_le (m + gap) j && has_link rest m j) in
       h.each j below ∙ sym (or-false (some_in 0 m p))
-      ∙ ap (λ b. some_in 0 m p || (b && (nat_le (m + gap) j && links rest m j))) (sym off)
+      ∙ ap (λ b. some_in 0 m p || (b && (nat_le (m + gap) j && has_link rest m j))) (sym off)
       ∙ sym (some_in-snoc 0 m p (omega arith));
 }
 
@@ -156,10 +156,10 @@ pub join_more : (front row new more : List Bool) (rest : List (List Bool)) (gap 
 join_more front row new more rest gap count m h on is long each = record {
   long = long ∙ h.long;
   each = λ j below.
-      let p : ℕ → Bool = λ m. marks front m && (nat_le (m + gap) j && links rest m j) in
+      let p : ℕ → Bool = λ m. marks front m && (nat_le (m + gap) j && has_link rest m j) in
       each j (omega (arith, h.long)) ∙ ap (λ b. b || (nat_le (m + gap) j && marks more j)) (h.each j below)
       ∙ ap (λ (l : List Bool). some_in 0 m p || (nat_le (m + gap) j && marks l j)) is
-      ∙ ap (λ b. some_in 0 m p || (b && (nat_le (m + gap) j && links rest m j))) (sym on)
+      ∙ ap (λ b. some_in 0 m p || (b && (nat_le (m + gap) j && has_link rest m j))) (sym on)
       ∙ sym (some_in-snoc 0 m p (omega arith));
 }
 

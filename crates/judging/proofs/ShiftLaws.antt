@@ -8,7 +8,7 @@ use Rattle.assertions.specs.declared.decision.Decision.{Decision}
 use Rattle.assertions.specs.declared.decision.Decision.TheVariants.{Held, Vacuously, Failed}
 use Rattle.assertions.specs.Segments.{Seq, one, none, chop, fuse, either, both, meet, during, times, Chain, sat}
 use Rattle.assertions.specs.Segments.{Matches}
-use Rattle.assertions.specs.Attempts.{Antecedent, MatchesBy, Leads, IsEnd, IsBroken, IsDecided, decision}
+use Rattle.assertions.specs.Attempts.{Antecedent, MatchesBy, Leads, EndsAntecedent, IsBroken, IsDecided, decision}
 use Rattle.assertions.proofs.Segments.{Matches-forward, Chain-forward}
 use Rattle.assertions.proofs.Attempts.{decision-IsDecided, IsDecided-decision}
 
@@ -165,17 +165,17 @@ module _ (B : Type 0) (value here : B → ℕ → Bool) (c n : ℕ) (same : (b :
       → Leads (sat value (c + n)) r i j
   raise_led r = raise_by r.first r.sequence
 
-  pub end_down : (r : Antecedent B) (e : ℕ) → IsEnd value r (c + n) c e → IsEnd here r n 0 (e - c)
+  pub end_down : (r : Antecedent B) (e : ℕ) → EndsAntecedent value r (c + n) c e → EndsAntecedent here r n 0 (e - c)
   end_down r e h =
       (omega arith, omega (arith, h.0, h.1), lower_led r c (e + 1) 0 (e - c + 1) (omega arith) (omega (arith, h.0)) h.2)
 
-  pub end_up : (r : Antecedent B) (e : ℕ) → IsEnd here r n 0 e → IsEnd value r (c + n) c (c + e)
+  pub end_up : (r : Antecedent B) (e : ℕ) → EndsAntecedent here r n 0 e → EndsAntecedent value r (c + n) c (c + e)
   end_up r e h = (omega arith, omega (arith, h.1), raise_led r c (c + e + 1) 0 (e + 1) (omega arith) (omega arith) h.2)
 
   -- an end lies where it does beside the first tick
-  end_at : (r : Antecedent B) (e : ℕ) → c ≤ e → IsEnd here r n 0 (e - c) → IsEnd value r (c + n) c e
+  end_at : (r : Antecedent B) (e : ℕ) → c ≤ e → EndsAntecedent here r n 0 (e - c) → EndsAntecedent value r (c + n) c e
   end_at r e from h =
-      let same_end : c + (e - c) ≡ e = omega arith in subst (λ k. IsEnd value r (c + n) c k) same_end
+      let same_end : c + (e - c) ≡ e = omega arith in subst (λ k. EndsAntecedent value r (c + n) c k) same_end
       (end_up r (e - c) h)
 
   -- an obligation that is broken

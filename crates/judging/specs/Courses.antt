@@ -11,7 +11,7 @@ use Rattle.assertions.specs.Verdicts.{antecedent_of}
 use Rattle.assertions.specs.Segments.{longest, is_match}
 use Rattle.assertions.specs.Attempts.{is_leading, decision}
 use Rattle.judging.specs.declared.sides.Sides.{Sides}
-use Rattle.judging.specs.Tables.{marks, value_at, held_at, IsRow, IsRelation}
+use Rattle.judging.specs.Tables.{marks, seen_value, held_at, IsRow, IsRelation}
 
 -- which of an assertion's booleans are true at a tick of the rows
 abbrev pub value_over : Suite → Rows → Assertion → Boolean → ℕ → Bool
@@ -25,7 +25,7 @@ decision_over suite rows a start n =
 -- how an attempt is decided by the rows of values that it has seen
 abbrev pub decision_from : List (List Bool) → Assertion → Option Decision
 decision_from values a =
-    decision (value_at values) (antecedent_of a) (shape a.consequent) (length values) 0
+    decision (seen_value values) (antecedent_of a) (shape a.consequent) (length values) 0
 
 -- Up to where the sides of an assertion match, by these values: what the antecedent matches of so
 -- many places from the first one, what obligations it leaves below the last that was seen, and what

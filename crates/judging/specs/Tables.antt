@@ -17,14 +17,14 @@ abbrev pub row_at : List (List Bool) → ℕ → List Bool
 row_at rows i = slice_index_or rows i []
 
 -- whether a table has the place j in the row of i
-abbrev pub links : List (List Bool) → ℕ → ℕ → Bool
-links rows i j = marks (row_at rows i) j
+abbrev pub has_link : List (List Bool) → ℕ → ℕ → Bool
+has_link rows i j = marks (row_at rows i) j
 
 -- For each marked start the table has the places that pass. Nothing is said of the rows of other
 -- starts.
 pub record IsRelation (test : ℕ → ℕ → Bool) (starts : List Bool)
     (rows : List (List Bool)) : Type 0 where
-  pub each : (i j : ℕ) → IsTrue (marks starts i) → j < length starts → links rows i j ≡ test i j
+  pub each : (i j : ℕ) → IsTrue (marks starts i) → j < length starts → has_link rows i j ≡ test i j
 
 -- A row of so many places has those that pass.
 pub record IsRow (test : ℕ → Bool) (count : ℕ) (row : List Bool) : Type 0 where
@@ -35,34 +35,34 @@ pub record IsRow (test : ℕ → Bool) (count : ℕ) (row : List Bool) : Type 0 
 abbrev pub reached_from : List (List Bool) → List (List Bool) → ℕ → ℕ → ℕ → Bool
 reached_from front rest gap i j =
     some_in 0 (length (row_at front i))
-    (λ m. marks (row_at front i) m && (nat_le (m + gap) j && links rest m j))
+    (λ m. marks (row_at front i) m && (nat_le (m + gap) j && has_link rest m j))
 
 -- What passes from a place of the one table, or behind a place of the other.
-abbrev pub behind : List (List Bool) → List (List Bool) → (ℕ → ℕ → Bool) → ℕ → ℕ → Bool
-behind moved shared test i j =
-    some_in 0 (j + 1) (λ m. links moved i m && test m j)
-    || some_in 0 j (λ m. links shared i m && test m j)
+abbrev pub passes_behind : List (List Bool) → List (List Bool) → (ℕ → ℕ → Bool) → ℕ → ℕ → Bool
+passes_behind moved shared test i j =
+    some_in 0 (j + 1) (λ m. has_link moved i m && test m j)
+    || some_in 0 j (λ m. has_link shared i m && test m j)
 
 -- a boolean's value at a place, where row k of the values is of place k
-abbrev pub value_at : List (List Bool) → Boolean → ℕ → Bool
-value_at values One k = true
-value_at values (Listed i) k = links values k i
+abbrev pub seen_value : List (List Bool) → Boolean → ℕ → Bool
+seen_value values One k = true
+seen_value values (Listed i) k = has_link values k i
 
 -- whether a boolean counts as true at a place, of which so many as there are rows were seen
 abbrev pub held_at : List (List Bool) → Boolean → ℕ → Bool
-held_at values = sat (value_at values) (length values)
+held_at values = sat (seen_value values) (length values)
 
 -- The rows are what the booleans are from the first tick on.
 pub record HasSeen (value : Boolean → ℕ → Bool) (first : ℕ)
     (values : List (List Bool)) : Type 0 where
-  pub each : (b : Boolean) (k : ℕ) → k < length values → value_at values b k ≡ value b (first + k)
+  pub each : (b : Boolean) (k : ℕ) → k < length values → seen_value values b k ≡ value b (first + k)
 
 -- at which ticks the disabling boolean was seen to be true, if there is one
 abbrev pub off_at : List (List Bool) → Option Boolean → ℕ → ℕ → Bool
 off_at values None first k = false
-off_at values (Some b) first k = value_at values b (k - first)
+off_at values (Some b) first k = seen_value values b (k - first)
 
 -- the end of what an attempt sees: the ticks below the number by which it is decided, or all
-abbrev pub last_of : ℕ → Option (ℕ × Decision) → ℕ
-last_of end None = end
-last_of end (Some (n, d)) = n
+abbrev pub seen_end : ℕ → Option (ℕ × Decision) → ℕ
+seen_end end None = end
+seen_end end (Some (n, d)) = n

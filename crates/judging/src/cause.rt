@@ -6,9 +6,9 @@ ghost use Rattle.assertions.specs.Quantifiers.{some_in, first_true};
 ghost use Rattle.assertions.specs.Attempts.{Fails};
 ghost use Rattle.assertions.specs.Shapes.{shape};
 ghost use Rattle.assertions.specs.Verdicts.{antecedent_of};
-ghost use Rattle.judging.specs.Tables.{marks, links, HasSeen};
+ghost use Rattle.judging.specs.Tables.{marks, has_link, HasSeen};
 ghost use Rattle.judging.specs.Courses.{value_over};
-ghost use Rattle.judging.specs.Causes.{IsCause, IsPlaced};
+ghost use Rattle.judging.specs.Causes.{IsCause, IsEndTick};
 
 use crate::row::some_mark;
 use crate::seen::{Seen, values_at};
@@ -57,7 +57,7 @@ fn seen_between(
 fn first_broken(ends: &[bool], consequents: &Table, below: usize, count: usize) -> Option<usize>
     requires { below < 2 ^ 60 }
     ensures { result ≡ first_true 0 below (λ e.
-        marks ends.now (e + 1) && not (some_in e count (links consequents.now e))) }
+        marks ends.now (e + 1) && not (some_in e count (has_link consequents.now e))) }
 {
     for place in 0..below {
         if is_marked(ends, place + 1) && !some_mark(consequents.row(place), place, count) {
@@ -76,7 +76,7 @@ fn ticks_with_end(
 ) -> Result<Vec<usize>, AllocError>
     requires { start + below < 2 ^ 64 }
     ensures { IfOk result (λ ticks. (tick : ℕ)
-        → Contains ticks.items tick ↔ IsPlaced ends.now start below tick) }
+        → Contains ticks.items tick ↔ IsEndTick ends.now start below tick) }
 {
     let mut ticks = Vec::new(alloc);
     for place in 0..below {

@@ -2,7 +2,7 @@
 
 ghost use Rattle.std.specs.Prelude.{◌≡◌, ◌+◌, ◌^◌, ◌<◌, length, IfOk, IfSome};
 ghost use Rattle.assertions.specs.Quantifiers.{first_in};
-ghost use Rattle.judging.specs.Tables.{last_of, HasSeen};
+ghost use Rattle.judging.specs.Tables.{seen_end, HasSeen};
 ghost use Rattle.judging.specs.Courses.{value_over, decision_over};
 
 use crate::decision::decision_of;
@@ -36,7 +36,7 @@ pub(crate) fn course_of(
     ensures seen { IfOk result (λ course.
         HasSeen (value_over suite.now rows.now assertion.now) start course.seen.values) }
     ensures long { IfOk result (λ course.
-        start + length course.seen.values ≡ last_of end course.found) }
+        start + length course.seen.values ≡ seen_end end course.found) }
 {
     let mut seen = Seen {
         values: Table::new(alloc),

@@ -6,7 +6,7 @@ ghost use Rattle.assertions.specs.Written.{one_of, after, later};
 ghost use Rattle.assertions.specs.declared.sequence.Boolean.{Boolean};
 ghost use Rattle.assertions.specs.declared.sequence.Boolean.TheVariants.{One};
 ghost use Rattle.assertions.specs.Shapes.{shape};
-ghost use Rattle.judging.specs.Tables.{behind, held_at, IsRelation};
+ghost use Rattle.judging.specs.Tables.{passes_behind, held_at, IsRelation};
 
 use crate::relation::{
     both, composition_behind, intersection_of, last_ticks, moved_places, next, places_throughout,
@@ -124,7 +124,7 @@ fn ends_behind(
     starts: &[bool],
 ) -> Result<Table, AllocError>
     requires { length starts.now < 2 ^ 61 }
-    ensures { IfOk result (IsRelation (behind apart.now together.now
+    ensures { IfOk result (IsRelation (passes_behind apart.now together.now
         (is_match (held_at seen.now.values) (shape rest.now))) starts.now) }
 {
     let begins = starts_behind(alloc, apart, together, starts)?;

@@ -2,7 +2,7 @@
 
 ghost use Rattle.std.specs.Prelude.{◌≡◌, ◌+◌, ◌<◌, ◌≤◌, ◌^◌, ◌&&◌, ◌||◌, not, nat_le, IfOk, length};
 ghost use Rattle.assertions.specs.Quantifiers.{some_in, each_in};
-ghost use Rattle.judging.specs.Tables.{marks, links, IsRow};
+ghost use Rattle.judging.specs.Tables.{marks, has_link, IsRow};
 
 use crate::row::some_mark;
 use crate::table::{Table, is_marked};
@@ -71,9 +71,9 @@ pub(crate) fn outlook_of(ends: &[bool], consequents: &Table, below: usize, count
     requires { below < 2 ^ 60 }
     ensures ends { result.ends ≡ some_in 0 below (λ e. marks ends.now (e + 1)) }
     ensures broken { result.broken ≡ some_in 0 below (λ e.
-        marks ends.now (e + 1) && not (some_in e count (links consequents.now e))) }
+        marks ends.now (e + 1) && not (some_in e count (has_link consequents.now e))) }
     ensures kept { result.kept ≡ each_in 0 below (λ e.
-        not (marks ends.now (e + 1)) || some_in e (below + 1) (links consequents.now e)) }
+        not (marks ends.now (e + 1)) || some_in e (below + 1) (has_link consequents.now e)) }
 {
     let mut all = Outlook {
         ends: false,

@@ -4,7 +4,7 @@ ghost use Rattle.std.specs.Prelude.{◌≡◌, ℕ, ◌+◌, ◌-◌, ◌<◌, �
 ghost use Rattle.std.specs.Prelude.{nat_le, IsTrue, IfOk, length};
 ghost use Rattle.assertions.specs.Quantifiers.{some_in, each_in};
 ghost use Rattle.assertions.specs.Segments.{chain};
-ghost use Rattle.judging.specs.Tables.{marks, links, held_at, reached_from, IsRelation};
+ghost use Rattle.judging.specs.Tables.{marks, has_link, held_at, reached_from, IsRelation};
 
 use crate::row::{
     both_row, common_row, joined_row, kept_row, merge_from, merged_row, moved_row, only, shared_row,
@@ -62,7 +62,7 @@ pub(crate) fn moved_places(
     starts: &[bool],
 ) -> Result<Table, AllocError>
     ensures { IfOk result (IsRelation (λ i j.
-        some_in least end (λ gap. nat_le gap j && links front.now i (j - gap))) starts.now) }
+        some_in least end (λ gap. nat_le gap j && has_link front.now i (j - gap))) starts.now) }
 {
     let mut all = Table::new(alloc);
     for place in 0..starts.len() {
@@ -85,7 +85,7 @@ pub(crate) fn last_ticks(
 ) -> Result<Table, AllocError>
     requires { length starts.now < 2 ^ 61 }
     ensures { IfOk result
-        (IsRelation (λ i j. wanted && (nat_le i j && links front.now i (j + 1))) starts.now) }
+        (IsRelation (λ i j. wanted && (nat_le i j && has_link front.now i (j + 1))) starts.now) }
 {
     let mut all = Table::new(alloc);
     for place in 0..starts.len() {
@@ -130,7 +130,7 @@ pub(crate) fn union_of(
     starts: &[bool],
 ) -> Result<Table, AllocError>
     ensures { IfOk result
-        (IsRelation (λ i j. links one.now i j || links other.now i j) starts.now) }
+        (IsRelation (λ i j. has_link one.now i j || has_link other.now i j) starts.now) }
 {
     let mut all = Table::new(alloc);
     for place in 0..starts.len() {
@@ -152,7 +152,7 @@ pub(crate) fn intersection_of(
     starts: &[bool],
 ) -> Result<Table, AllocError>
     ensures { IfOk result
-        (IsRelation (λ i j. links one.now i j && links other.now i j) starts.now) }
+        (IsRelation (λ i j. has_link one.now i j && has_link other.now i j) starts.now) }
 {
     let mut all = Table::new(alloc);
     for place in 0..starts.len() {
@@ -174,8 +174,8 @@ pub(crate) fn both(
     starts: &[bool],
 ) -> Result<Table, AllocError>
     ensures { IfOk result (IsRelation (λ i j.
-        (links one.now i j && some_in 0 (j + 1) (links other.now i))
-        || (some_in 0 (j + 1) (links one.now i) && links other.now i j)) starts.now) }
+        (has_link one.now i j && some_in 0 (j + 1) (has_link other.now i))
+        || (some_in 0 (j + 1) (has_link one.now i) && has_link other.now i j)) starts.now) }
 {
     let mut all = Table::new(alloc);
     for place in 0..starts.len() {
@@ -198,7 +198,8 @@ pub(crate) fn places_throughout(
     starts: &[bool],
 ) -> Result<Table, AllocError>
     ensures { IfOk result (IsRelation
-        (λ i j. links body.now i j && each_in i j (held_at seen.now.values boolean)) starts.now) }
+        (λ i j. has_link body.now i j && each_in i j
+        (held_at seen.now.values boolean)) starts.now) }
 {
     let mut all = Table::new(alloc);
     for place in 0..starts.len() {
@@ -220,7 +221,7 @@ pub(crate) fn reached_places(
 ) -> Result<Vec<bool>, AllocError>
     ensures long { IfOk result (λ v. length v.items ≡ length starts.now) }
     ensures each { IfOk result (λ v. (i j : ℕ) → IsTrue (marks starts.now i) → j < length starts.now
-        → IsTrue (links table.now i j) → IsTrue (marks v.items j)) }
+        → IsTrue (has_link table.now i j) → IsTrue (marks v.items j)) }
 {
     let mut all = only(alloc, 0, false, starts.len())?;
     for place in 0..starts.len() {
@@ -240,9 +241,9 @@ pub(crate) fn starts_behind(
 ) -> Result<Vec<bool>, AllocError>
     ensures long { IfOk result (λ v. length v.items ≡ length starts.now) }
     ensures moved { IfOk result (λ v. (i j : ℕ) → IsTrue (marks starts.now i)
-        → j < length starts.now → IsTrue (links moved.now i j) → IsTrue (marks v.items j)) }
+        → j < length starts.now → IsTrue (has_link moved.now i j) → IsTrue (marks v.items j)) }
     ensures shared { IfOk result (λ v. (i j : ℕ) → IsTrue (marks starts.now i)
-        → j < length starts.now → IsTrue (links shared.now i j) → IsTrue (marks v.items j)) }
+        → j < length starts.now → IsTrue (has_link shared.now i j) → IsTrue (marks v.items j)) }
 {
     let mut all = reached_places(alloc, moved, starts)?;
     let more = reached_places(alloc, shared, starts)?;
@@ -276,7 +277,7 @@ pub(crate) fn repetition_of(
     starts: &[bool],
 ) -> Result<Table, AllocError>
     ensures { IfOk result (IsRelation
-        (λ i j. some_in least (most + 1) (λ k. chain (links bodies.now) k i j)) starts.now) }
+        (λ i j. some_in least (most + 1) (λ k. chain (has_link bodies.now) k i j)) starts.now) }
 {
     let mut last = same(alloc, true, starts)?;
     let mut all = same(alloc, least == 0, starts)?;

@@ -3,7 +3,7 @@
 ghost use Rattle.std.specs.Prelude.{◌≡◌, ℕ, ◌+◌, ◌-◌, ◌<◌, ◌≤◌, ◌&&◌, ◌||◌, ◌==◌, ◌^◌, true};
 ghost use Rattle.std.specs.Prelude.{nat_le, not, IfOk, length};
 ghost use Rattle.assertions.specs.Quantifiers.{some_in, each_in};
-ghost use Rattle.judging.specs.Tables.{marks, links, held_at, IsRow};
+ghost use Rattle.judging.specs.Tables.{marks, has_link, held_at, IsRow};
 
 use crate::seen::Seen;
 use crate::table::{Table, is_marked};
@@ -119,7 +119,8 @@ pub(crate) fn joined_row(
 ) -> Result<Vec<bool>, AllocError>
     requires { gap ≤ 1 }
     ensures { IfOk result (λ row. IsRow (λ j. some_in 0 (length front.now)
-        (λ m. marks front.now m && (nat_le (m + gap) j && links rest.now m j))) count row.items) }
+        (λ m. marks front.now m &&
+        (nat_le (m + gap) j && has_link rest.now m j))) count row.items) }
 {
     let mut row = only(alloc, 0, false, count)?;
     for place in 0..front.len() {

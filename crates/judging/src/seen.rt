@@ -3,7 +3,7 @@
 ghost use Rattle.std.specs.Prelude.{◌≡◌, ℕ, ◌∷◌, [], ◌++◌, slice_get, OnOk, OnErr, IfOk};
 ghost use Rattle.assertions.specs.Shapes.{is_true_at, expression_at};
 ghost use Rattle.expressions.specs.Rows.{samples_of};
-ghost use Rattle.judging.specs.Tables.{marks, value_at, held_at};
+ghost use Rattle.judging.specs.Tables.{marks, seen_value, held_at};
 
 use crate::table::{Table, is_marked};
 use assertions::Boolean;
@@ -20,7 +20,7 @@ pub(crate) struct Seen {
 impl Seen {
     /// A boolean's value at a place that was seen.
     pub fn value(&self, boolean: Boolean, place: usize) -> bool
-        ensures { result ≡ value_at self.now.values boolean place }
+        ensures { result ≡ seen_value self.now.values boolean place }
     {
         match boolean {
             Boolean::One => true,

@@ -41,8 +41,8 @@ abbrev pub AreVerdictsOver : Suite → List (List ℕ) → Assertion → List Ve
 AreVerdictsOver suite signals =
     AreVerdictsOn suite.booleans.items (read_over suite signals) (length signals)
 
-abbrev pub IsLineOver : Suite → List (List ℕ) → Assertion → LineData → Type 0
-IsLineOver suite signals = IsLine suite.booleans.items (read_over suite signals) (length signals)
+abbrev pub IsJudgedLine : Suite → List (List ℕ) → Assertion → LineData → Type 0
+IsJudgedLine suite signals = IsLine suite.booleans.items (read_over suite signals) (length signals)
 
 abbrev pub AreLinesOver : Suite → List (List ℕ) → List Assertion → List LineData → Type 0
 AreLinesOver suite signals =

@@ -3,7 +3,7 @@
 ghost use Rattle.std.specs.Prelude.{IfOk, map};
 ghost use Rattle.expressions.specs.Rows.{HasCounts};
 ghost use Rattle.verdicts.specs.Lines.{line};
-ghost use Rattle.judging_reports.specs.Judged.{AreVerdictsOver, IsLineOver, AreLinesOver};
+ghost use Rattle.judging_reports.specs.Judged.{AreVerdictsOver, IsJudgedLine, AreLinesOver};
 
 use assertions::{Assertion, Suite};
 use judging::{Rows, judge};
@@ -37,7 +37,7 @@ fn line_of(
     rows: &Rows,
 ) -> Result<Line, AllocError>
     requires { HasCounts suite.now.counters.items rows.now }
-    ensures { IfOk result (λ l. IsLineOver suite.now rows.now.signals assertion.now (line l)) }
+    ensures { IfOk result (λ l. IsJudgedLine suite.now rows.now.signals assertion.now (line l)) }
 {
     let verdicts = verdicts_of(alloc, assertion, suite, rows)?;
     let name = String::from_str(alloc, assertion.name.as_str())?;

@@ -23,21 +23,21 @@ use Rattle.verifier.specs.Programs.{IsAccepted}
 use Rattle.machine_definition.specs.Clocks.{disabling}
 use Rattle.verdicts.specs.Lines.{line_data_of}
 use Rattle.machine_runs.specs.Lines.{IsLineOver}
-use Rattle.machine_sections.specs.Automata.{Follows}
+use Rattle.machine_sections.specs.Automata.{AutomatonFollows}
 use Rattle.machine_sections.specs.Effects.{automaton_of}
-use Rattle.machine_sections.specs.Monitors.{monitor_of}
+use Rattle.machine_sections.specs.Monitors.{program_monitor}
 use Rattle.machine_sections.specs.History.{SamplesAs}
 use Rattle.machine_sections.specs.Laws.{Watches, Fills}
 use Rattle.laws_programs.specs.LineLaws.{AreVerdicts}
 use Rattle.laws_programs.proofs.Lines.{by-meaning}
 use Rattle.compiler_positions.specs.Laws.{Occurs, section_for, led_section}
-use Rattle.compiler_positions.specs.Sections.{told}
+use Rattle.compiler_positions.specs.Sections.{told_atom}
 use Rattle.compiler_positions.proofs.Theorem.{law-section_follows}
 use Rattle.compiler_positions.proofs.Firsts.{law-follows_first}
 use Rattle.assertions.specs.Listed.{EachBoolean, IsListed, IsListedOption}
 use Rattle.compiler_positions.specs.Sequences.{atom_of}
 use Rattle.compiler.specs.Programs.{disabling_atom, IsProgramOf}
-use Rattle.laws_programs.specs.Laws.{AreRowsOf, picked, AreVerdictsOver, ProgramsDecide}
+use Rattle.laws_programs.specs.Laws.{AreSuiteRows, picked_row, AreVerdictsOver, ProgramsDecide}
 use Rattle.laws_programs.proofs.Samples as made
 
 one-listed : (n : ℕ) (b : Boolean) → One ≡ b → IsListed n b
@@ -62,7 +62,7 @@ occurs-listed n (intersect r s) b h o = elim o [ inl x ↦ occurs-listed n r b h
 occurs-listed n (throughout c r) b h o = elim o [ inl x ↦ same-listed n b c h.0 x | inr y ↦ occurs-listed n r b h.1 y ]
 
 module _ (suite : Suite) (a : Assertion) (p : ProgramData) (of : IsProgramOf suite a p) (rows : List (List ℕ))
-    (fit : AreRowsOf suite rows) where
+    (fit : AreSuiteRows suite rows) where
   abbrev pub value : Boolean → ℕ → Bool
   value = value_in suite.booleans.items a.booleans.items (made.t suite a p of rows fit)
 
@@ -82,14 +82,14 @@ module _ (suite : Suite) (a : Assertion) (p : ProgramData) (of : IsProgramOf sui
       found
       ∙ ap (λ o. Some (is_true_at (made.t suite a p of rows fit) (expression_at suite.booleans.items o) k)) (sym found)
 
-  told-at : (k : ℕ) (b : Boolean) → IsListed (length a.booleans.items) b → told (atom_of b) (atoms k) ≡ value b k
+  told-at : (k : ℕ) (b : Boolean) → IsListed (length a.booleans.items) b → told_atom (atom_of b) (atoms k) ≡ value b k
   told-at k One h = refl
   told-at k (Listed i) h = get_or_from_slice_get (atoms k) i (value (Listed i) k) true (atom-at k i h)
 
   follows : (w : Written Boolean) (s : SectionData) → IsOrdered w → EachBoolean (IsListed (length a.booleans.items)) w →
-      s ≡ section_for atom_of One w → Follows value (every (kernel One w)) (automaton_of s atoms)
+      s ≡ section_for atom_of One w → AutomatonFollows value (every (kernel One w)) (automaton_of s atoms)
   follows w s ordered listed is =
-      subst (λ x. Follows value (every (kernel One w)) (automaton_of x atoms)) (sym is)
+      subst (λ x. AutomatonFollows value (every (kernel One w)) (automaton_of x atoms)) (sym is)
       (law-section_follows atom_of One atoms value w ordered
       (λ k b occurs. told-at k b (occurs-listed (length a.booleans.items) w b listed occurs)))
 
@@ -101,10 +101,10 @@ module _ (suite : Suite) (a : Assertion) (p : ProgramData) (of : IsProgramOf sui
   leads : (first : Bool) (w : Written Boolean) (s : SectionData) → IsOrdered w
       → EachBoolean (IsListed (length a.booleans.items)) w → (first ≡ true → AdmitsEmpty (kernel One w) → ⊥)
       → s ≡ led_section first atom_of One w
-      → Follows value (record { first = first; sequence = kernel One w }) (automaton_of s atoms)
+      → AutomatonFollows value (record { first = first; sequence = kernel One w }) (automaton_of s atoms)
   leads false w s ordered listed none is = follows w s ordered listed is
   leads true w s ordered listed none is =
-      subst (λ x. Follows value (first_match (kernel One w)) (automaton_of x atoms)) (sym is)
+      subst (λ x. AutomatonFollows value (first_match (kernel One w)) (automaton_of x atoms)) (sym is)
       (law-follows_first atom_of One atoms value w ordered
       (λ k b occurs. told-at k b (occurs-listed (length a.booleans.items) w b listed occurs))
       (filled w ordered (none refl)))
@@ -128,24 +128,25 @@ module _ (suite : Suite) (a : Assertion) (p : ProgramData) (of : IsProgramOf sui
   disabled-at (Some One) h k = absurd h
   disabled-at (Some (Listed i)) h k = ap (λ o. unwrap_or o false) (atom-at k i h)
 
-  pub same-off : off ≡ (monitor_of p atoms).off
+  pub same-off : off ≡ (program_monitor p atoms).off
   same-off =
       fun_ext
       (λ k. sym (ap (λ d. unwrap_or (disabling d (atoms k)) false) of.disable
       ∙ disabled-at a.disabling of.disabling_listed k))
 
   decides : IsAccepted p → (verdicts : List Verdict) → AreVerdictsOver suite rows a verdicts →
-      IsLineOver p (map (picked of.layout.signals) rows) (line_data_of (string_bytes a.name) verdicts)
+      IsLineOver p (map (picked_row of.layout.signals) rows) (line_data_of (string_bytes a.name) verdicts)
   decides accepted verdicts judged =
-      let long : length rows ≡ length (map (picked of.layout.signals) rows) =
-      sym (length-map rows (picked of.layout.signals)) in
-      subst (λ n. IsLineOver p (map (picked of.layout.signals) rows) (line_data_of n verdicts)) of.name
-      (by-meaning p (map (picked of.layout.signals) rows) (made.counters suite a p of rows fit) atoms value
+      let long : length rows ≡ length (map (picked_row of.layout.signals) rows) =
+      sym (length-map rows (picked_row of.layout.signals)) in
+      subst (λ n. IsLineOver p (map (picked_row of.layout.signals) rows) (line_data_of n verdicts)) of.name
+      (by-meaning p (map (picked_row of.layout.signals) rows) (made.counters suite a p of rows fit) atoms value
       (antecedent_of a) (shape a.consequent) verdicts accepted
       (subst (λ n. SamplesAs p (made.signals suite a p of rows fit) (made.counters suite a p of rows fit) atoms n) long
       (made.samples suite a p of rows fit accepted))
       watches fills
-      (subst (λ n. AreVerdicts value (monitor_of p atoms).off (antecedent_of a) (shape a.consequent) n verdicts) long
+      (subst (λ n. AreVerdicts value (program_monitor p atoms).off (antecedent_of a)
+      (shape a.consequent) n verdicts) long
       (subst (λ o. AreVerdicts value o (antecedent_of a) (shape a.consequent) (length rows) verdicts) same-off
       judged)))
 

@@ -11,7 +11,7 @@ use Rattle.signals.specs.declared.verdict.Verdict.TheVariants.{Holds, Vacuous, F
 use Rattle.signals.specs.declared.verdict.Decided.{Decided}
 use Rattle.verdicts.specs.declared.line.Failure.{Failure}
 use Rattle.verdicts.specs.Tallies.{fails_at, failing_at, failing_in, clock_behind, end_of, failing_of}
-use Rattle.machine_sections.specs.Standing.{select, falls_at}
+use Rattle.machine_sections.specs.Standing.{select_ticks, falls_at}
 use Rattle.machine_sections.specs.Laws.{fallen, all_fallen, open_starts}
 use Rattle.machine_runs.specs.Lines.{failure_of}
 use Rattle.laws_programs.specs.LineLaws.{FallsBefore, still_open}
@@ -33,13 +33,13 @@ one-more (Fails t) j i ds fs h =
 
 module _ (v : ℕ → Verdict) where
   at-clock : (j i k : ℕ)
-      → filter_map failure_of (select (λ c. falls_at j (v c)) (λ c. record { start = c; verdict = v c }) i k)
+      → filter_map failure_of (select_ticks (λ c. falls_at j (v c)) (λ c. record { start = c; verdict = v c }) i k)
       ≡ failing_at j i (map v (range_with_len i k))
   unfolding failing_at
   at-clock j i zero = refl
   at-clock j i (suc k) =
       let next : i + 1 ≡ suc i = omega arith in
-      one-more (v i) j i (select (λ c. falls_at j (v c)) (λ c. record { start = c; verdict = v c }) (i + 1) k)
+      one-more (v i) j i (select_ticks (λ c. falls_at j (v c)) (λ c. record { start = c; verdict = v c }) (i + 1) k)
       (failing_at j (suc i) (map v (range_with_len (i + 1) k)))
       (at-clock j (i + 1) k ∙ ap (λ s. failing_at j s (map v (range_with_len (i + 1) k))) next)
 

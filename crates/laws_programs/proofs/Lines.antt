@@ -16,7 +16,7 @@ use Rattle.machine_definition.specs.Clocks.{Attempt}
 use Rattle.machine_definition.specs.Runs.{Decides}
 use Rattle.machine_definition.specs.Runs.{open_ones}
 use Rattle.machine_runs.specs.Lines.{failure_of, line_over}
-use Rattle.machine_sections.specs.Monitors.{monitor_of}
+use Rattle.machine_sections.specs.Monitors.{program_monitor}
 use Rattle.machine_sections.specs.Laws.{all_fallen, starts_of}
 use Rattle.machine_sections.proofs.Selections.{map-same}
 use Rattle.machine_sections.proofs.Histories.{listed}
@@ -62,7 +62,7 @@ open-starts (a ∷ live) = ap (λ ds. record { start = a.start; verdict = outcom
 
 pub by-meaning : LineByMeaning
 by-meaning p rows counters atoms value r s verdicts accepted samples watches fills are =
-    let off = (monitor_of p atoms).off in
+    let off = (program_monitor p atoms).off in
     let n = length rows in
     let v : ℕ → Verdict = verdict value off r s n in
     let over = runs-by-meaning p (row_of rows) counters atoms value r s n accepted samples watches fills in

@@ -12,7 +12,8 @@ use Rattle.bytecode.specs.declared.sample_instr.SampleInstr.TheVariants.{JumpIfZ
 use Rattle.bytecode.specs.Instructions.{FrameData, Effect, leaves, too_few, misfit, is_there, sample_flow}
 use Rattle.bytecode.specs.Instructions.{sample_effect}
 use Rattle.machine_definition.specs.Outcomes.{Ran, trapped, bad_operand, past_history}
-use Rattle.machine_definition.specs.Samples.{Operand, operand, width_of, Made, results, making, top, follow, reaches}
+use Rattle.machine_definition.specs.Samples.{Operand, operand, operand_width, Made, results, making, top, follow}
+use Rattle.machine_definition.specs.Samples.{reaches}
 use Rattle.machine_definition.specs.Samples.{met}
 use Rattle.machine_definition.specs.Samples.{obey_sample, run_sample}
 
@@ -86,8 +87,8 @@ module _ (f : FrameData) (d : Limits) (one two : ℕ → ℕ → ℕ) (agree : (
       obey_sample f d one pc xs made go left i ≡ obey_sample f d two pc xs made other left i
   same-obey pc xs made go other left None same = refl
   same-obey pc xs made go other left (Some i) same =
-      same-met i pc xs made go left (is_there f i) (sample_effect f i (map width_of xs))
-      ∙ ap (λ g. met f d two i pc xs made g left (is_there f i) (sample_effect f i (map width_of xs))) same
+      same-met i pc xs made go left (is_there f i) (sample_effect f i (map operand_width xs))
+      ∙ ap (λ g. met f d two i pc xs made g left (is_there f i) (sample_effect f i (map operand_width xs))) same
 
   pub same-run : (code : List SampleInstr) (left pc : ℕ) (xs : List Operand) (made : Made) →
       run_sample f d one code left pc xs made ≡ run_sample f d two code left pc xs made

@@ -9,7 +9,7 @@ use Rattle.std.proofs.lemmas.List.Sums.{sum_by-append, sum_by-cons}
 use Rattle.signals.specs.declared.verdict.Verdict.{Verdict}
 use Rattle.signals.specs.declared.verdict.Verdict.TheVariants.{Holds, Vacuous, Fails, Disabled, Open}
 use Rattle.signals.specs.declared.verdict.Decided.{Decided}
-use Rattle.machine_sections.specs.Standing.{select, is_open, falls_at}
+use Rattle.machine_sections.specs.Standing.{select_ticks, is_open, falls_at}
 use Rattle.laws_programs.specs.LineLaws.{FallsBefore}
 
 -- x for each of so many clocks that passes
@@ -62,10 +62,10 @@ module _ (q : Verdict → Bool) (v : ℕ → Verdict) where
   weigh-cons d ds = sum_by-cons (λ w. if q w then 1 else 0) d.verdict (map (λ (d : Decided). d.verdict) ds)
 
   abbrev fall : ℕ → ℕ → ℕ → List Decided
-  fall i k j = select (λ c. falls_at j (v c)) (λ c. record { start = c; verdict = v c }) i k
+  fall i k j = select_ticks (λ c. falls_at j (v c)) (λ c. record { start = c; verdict = v c }) i k
 
   abbrev still : ℕ → ℕ → List Decided
-  still i k = map (λ c. record { start = c; verdict = Open }) (select (λ c. is_open (v c)) (λ c. c) i k)
+  still i k = map (λ c. record { start = c; verdict = Open }) (select_ticks (λ c. is_open (v c)) (λ c. c) i k)
 
   fall-more : (j i k : ℕ) → weigh (fall i (suc k) j) ≡ (if falls_at j (v i) then one (v i) else 0)
       + weigh (fall (i + 1) k j)

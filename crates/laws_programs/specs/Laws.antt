@@ -17,14 +17,14 @@ use Rattle.laws_programs.specs.LineLaws.{AreVerdicts}
 use Rattle.compiler.specs.Programs.{IsProgramOf}
 
 -- rows of the suite's signals, whose values have the signals' widths
-abbrev pub AreRowsOf : Suite → List (List ℕ) → Type 0
-AreRowsOf suite rows =
+abbrev pub AreSuiteRows : Suite → List (List ℕ) → Type 0
+AreSuiteRows suite rows =
     (k place : ℕ) (s : Signal) → slice_get suite.names.items place ≡ Some s →
     cell rows k place < 2 ^ s.width
 
 -- a row of the signals at some places
-abbrev pub picked : List ℕ → List ℕ → List ℕ
-picked places row = map (λ place. slice_index row place) places
+abbrev pub picked_row : List ℕ → List ℕ → List ℕ
+picked_row places row = map (λ place. slice_index row place) places
 
 -- the verdicts on an assertion of the suite over these rows
 abbrev pub AreVerdictsOver : Suite → List (List ℕ) → Assertion → List Verdict → Type 0
@@ -42,7 +42,7 @@ AreVerdictsOver suite rows a =
 abbrev pub ProgramsDecide : Type 0
 ProgramsDecide =
     (suite : Suite) (a : Assertion) (p : ProgramData) → IsAccepted p →
-    (of : IsProgramOf suite a p) → (rows : List (List ℕ)) → AreRowsOf suite rows →
+    (of : IsProgramOf suite a p) → (rows : List (List ℕ)) → AreSuiteRows suite rows →
     (verdicts : List Verdict) → AreVerdictsOver suite rows a verdicts →
-    IsLineOver p (map (picked of.layout.signals) rows)
+    IsLineOver p (map (picked_row of.layout.signals) rows)
     (line_data_of (string_bytes a.name) verdicts)

@@ -11,7 +11,7 @@ use Rattle.verifier.specs.Programs.{IsAccepted}
 use Rattle.assertions.specs.declared.sequence.Boolean.{Boolean}
 use Rattle.assertions.specs.Segments.{Seq}
 use Rattle.assertions.specs.Attempts.{Antecedent, IsVerdict}
-use Rattle.machine_sections.specs.Monitors.{monitor_of}
+use Rattle.machine_sections.specs.Monitors.{program_monitor}
 use Rattle.machine_sections.specs.History.{SamplesAs}
 use Rattle.machine_sections.specs.Laws.{Watches, Fills, all_fallen, open_starts}
 use Rattle.machine_runs.specs.Lines.{line_over, IsLineOver}
@@ -59,5 +59,5 @@ LineByMeaning =
     (value : Boolean → ℕ → Bool) (r : Antecedent Boolean) (s : Seq Boolean)
     (verdicts : List Verdict) → IsAccepted p →
     SamplesAs p (row_of rows) counters atoms (length rows) → Watches p atoms value r s →
-    Fills value s → AreVerdicts value (monitor_of p atoms).off r s (length rows) verdicts →
+    Fills value s → AreVerdicts value (program_monitor p atoms).off r s (length rows) verdicts →
     IsLineOver p rows (line_data_of p.header.name verdicts)

@@ -9,12 +9,13 @@ use Rattle.parser_grammar.specs.Trees.{AssertionForm, ItemForm}
 use Rattle.assertions.specs.declared.sequence.Boolean.{Boolean}
 use Rattle.assertions.specs.declared.assertion.Assertion.{Assertion}
 use Rattle.assertions.specs.declared.suite.Suite.{Suite}
-use Rattle.compiler_reads.specs.Marks.{places_from}
-use Rattle.types_sequences.specs.Drafts.{Draft, IsIn}
+use Rattle.assertions.specs.Marks.{places_from}
+use Rattle.types_sequences.specs.Drafts.{Draft, IsNumberIn}
 use Rattle.types_names.specs.Scopes.{Scope, path_text, first_byte}
 use Rattle.types_names.specs.Columns.{columns_of}
 use Rattle.types_suites.specs.declared.fault.TypeFault.TheVariants.{OtherClock}
-use Rattle.types_suites.specs.Texts.{declarations_of, counters_of, assertions_of, label_text, clocks_unlike, clock_of}
+use Rattle.types_suites.specs.Texts.{declarations_of, counters_of, assertions_of, label_text, clocks_unlike}
+use Rattle.types_suites.specs.Texts.{suite_clock}
 use Rattle.types_suites.specs.Readings.{AllRead}
 use Rattle.types_suites.specs.Suites.{AreSignals, AreCounters, AreAssertions}
 use Rattle.compiler.specs.declared.fault.CompileFault.{CompileFault}
@@ -28,7 +29,7 @@ use Rattle.cli.specs.Dumps.{width_named}
 use Rattle.cli.specs.Named.{scope_over}
 use Rattle.cli.specs.Reported.{SaysSuite}
 use Rattle.laws_reports.specs.ReadInText.{IsLongText, HasLongName}
-use Rattle.laws_reports.specs.Causes.{IsCause, HasCause, FaultsHaveCauses, HasNamedCause, BuildFaultsHaveCauses}
+use Rattle.laws_reports.specs.Causes.{IsCompileCause, HasCause, FaultsHaveCauses, HasNamedCause, BuildFaultsHaveCauses}
 use Rattle.laws_reports.proofs.ReadLaws.{TextReads, text_reads}
 use Rattle.laws_reports.proofs.ManyLaws.{long_is, reads_many, reads_long}
 
@@ -84,7 +85,7 @@ some_form : (a b : AssertionForm) → Some a ≡ Some b → a ≡ b
 some_form a b h = cc
 
 one_clock : (clock : List ℕ) (forms : List AssertionForm) (place : ℕ) (a : AssertionForm) →
-    ((at : ℕ) → IsIn at (clocks_unlike clock forms) → ⊥) → slice_get forms place ≡ Some a →
+    ((at : ℕ) → IsNumberIn at (clocks_unlike clock forms) → ⊥) → slice_get forms place ≡ Some a →
     path_text a.clock ≡ clock
 one_clock clock [] place a none is = absurd cc
 one_clock clock (b ∷ forms) place a none is =
@@ -92,9 +93,9 @@ one_clock clock (b ∷ forms) place a none is =
   where
     here : (t : Bool) → bytes_eq (path_text b.clock) clock ≡ t →
         ((at : ℕ) →
-        IsIn at (if t then clocks_unlike clock forms else first_byte b.clock ∷ clocks_unlike clock forms) → ⊥) →
+        IsNumberIn at (if t then clocks_unlike clock forms else first_byte b.clock ∷ clocks_unlike clock forms) → ⊥) →
         (k : ℕ) → slice_get (b ∷ forms) k ≡ Some a →
-        ((i : ℕ) → ((at : ℕ) → IsIn at (clocks_unlike clock forms) → ⊥) → slice_get forms i ≡ Some a →
+        ((i : ℕ) → ((at : ℕ) → IsNumberIn at (clocks_unlike clock forms) → ⊥) → slice_get forms i ≡ Some a →
         path_text a.clock ≡ clock) →
         path_text a.clock ≡ clock
     here false e f k h rest = absurd (f (first_byte b.clock) (inl refl))
@@ -126,7 +127,7 @@ module _ (law : SmallHaveCode) (s : Scope) (items : List ItemForm) (suite : Suit
             ]
       ]
 
-  cause_of : (fault : CompileFault) → WhyNotCompiled suite m fault → IsCause s items place found.form fault
+  cause_of : (fault : CompileFault) → WhyNotCompiled suite m fault → IsCompileCause s items place found.form fault
   cause_of compiles.TooManyAtoms why = found.keeps.few why.stands
   cause_of compiles.CodeTooLong why =
       λ small. law suite m why.signals why.counters why.reading (found.keeps.small small) why.stands
@@ -162,7 +163,7 @@ module _ (law : SmallHaveCode) (keep : SuitesKeepTo) where
       }))
       at in
       let one =
-      one_clock (clock_of (assertions_of items)) (assertions_of items) place found.form
+      one_clock (suite_clock (assertions_of items)) (assertions_of items) place found.form
       (λ byte. x.typed.faultless (OtherClock byte)) found.is in
       record {
         has =

@@ -16,7 +16,7 @@ use Rattle.expressions.specs.declared.name.Origin.TheVariants as origins
 use Rattle.assertions.specs.declared.signal.Signal.{Signal}
 use Rattle.assertions.specs.declared.assertion.Assertion.{Assertion}
 use Rattle.assertions.specs.declared.suite.Suite.{Suite}
-use Rattle.compiler_reads.specs.Marks.{AreMarks, is_marked, places_from}
+use Rattle.assertions.specs.Marks.{AreMarks, is_marked, places_from}
 use Rattle.types_names.specs.Scopes.{Scope}
 use Rattle.types_names.specs.Columns.{column_of, columns_of}
 use Rattle.types_suites.specs.Suites.{AreSignals}

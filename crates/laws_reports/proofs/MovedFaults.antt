@@ -13,7 +13,7 @@ use Rattle.parser_grammar.specs.Trees.{CounterForm, DeclarationForm, AssertionFo
 use Rattle.parser_grammar.specs.Trees.{assertion}
 use Rattle.assertions.specs.Written.{Written}
 use Rattle.types_sequences.specs.Drafts as drafts
-use Rattle.types_sequences.specs.Drafts.{Draft, IsIn, IsCyclic}
+use Rattle.types_sequences.specs.Drafts.{Draft, IsNumberIn, IsCyclic}
 use Rattle.types_names.specs.declared.own.Sought.{Sought}
 use Rattle.types_names.specs.Scopes.{Scope, path_text, first_byte, bits_of, meaning, sequence_named}
 use Rattle.types_names.specs.Width.{own_width, chain_width, parts_width, path_width_by, unary_width, unary_of}
@@ -29,7 +29,7 @@ use Rattle.types_suites.specs.declared.fault.TypeFault.TheVariants.{CyclicSequen
 use Rattle.types_suites.specs.Readings.{Dot, dot, joined_by, outline, outline_steps, outline_others, outline_by}
 use Rattle.types_suites.specs.Readings.{least_of, extra_of}
 use Rattle.types_suites.specs.Texts.{declarations_of, assertions_of, label_byte, assertions_after, name_made}
-use Rattle.types_suites.specs.Texts.{names_from, repeated_names, duplicates, label_text, clocks_unlike, clock_of}
+use Rattle.types_suites.specs.Texts.{names_from, repeated_names, duplicates, label_text, clocks_unlike, suite_clock}
 use Rattle.types_suites.specs.Texts.{other_clocks, tree_byte, sequence_byte, led_byte, is_led}
 use Rattle.types_suites.specs.Readings.{outlines_of}
 use Rattle.types_suites.specs.Faults.{Side, outline_before, antecedents_in, consequent_in, sides_of}
@@ -247,8 +247,8 @@ module _ (lies : ℕ → ℕ × ℕ) where
       ≡ other_clocks (assertions_of items)
   other_clocks-moved items =
       ap (λ (clock : List ℕ). clocks_unlike clock (assertions_of (map (moved_item lies) items)))
-      (clock-moved lies items) ∙ ap (clocks_unlike (clock_of (assertions_of items))) (assertions-moved items)
-      ∙ differing-moved (clock_of (assertions_of items)) (assertions_of items)
+      (clock-moved lies items) ∙ ap (clocks_unlike (suite_clock (assertions_of items))) (assertions-moved items)
+      ∙ differing-moved (suite_clock (assertions_of items)) (assertions_of items)
 
   -- outlines
   module _ (s : Scope) where
@@ -393,8 +393,8 @@ module _ (lies : ℕ → ℕ × ℕ) where
         let first : SideAt ds ys IsSo at = subst (λ (zs : List Side). SideAt ds zs IsSo at) (sym f) h in
         subst (λ (bs : List (Draft Dot)). SideAt bs ys IsSo at) (sym e) first
 
-    is_in-moved : (at : ℕ) (xs ys : List ℕ) → ys ≡ xs → IsIn at xs → IsIn at ys
-    is_in-moved at xs ys e h = subst (λ (zs : List ℕ). IsIn at zs) (sym e) h
+    is_in-moved : (at : ℕ) (xs ys : List ℕ) → ys ≡ xs → IsNumberIn at xs → IsNumberIn at ys
+    is_in-moved at xs ys e h = subst (λ (zs : List ℕ). IsNumberIn at zs) (sym e) h
 
     -- A fault that stands in items stands in them moved.
     pub stands-moved : (items : List ItemForm) (fault : TypeFault) → FaultStands s items fault

@@ -16,8 +16,8 @@ use Rattle.types_sequences.specs.Drafts.{Draft}
 use Rattle.types_names.specs.Scopes.{Scope, path_text, meaning_by, meaning, meaning_place, sequence_named}
 use Rattle.types_names.specs.Columns.{path_signals, signals, link_signals, part_signals, sequence_signals}
 use Rattle.types_names.specs.Columns.{step_signals, other_signals, column_of}
-use Rattle.types_expressions.specs.Meanings.{IsRead, Means, Chains, Joins, JoinsMore}
-use Rattle.types_suites.specs.Readings.{IsAtom, ReadsBoolean, Reads, ReadsSteps, ReadsOthers}
+use Rattle.types_expressions.specs.Meanings.{IsReference, Means, Chains, Joins, JoinsMore}
+use Rattle.types_suites.specs.Readings.{IsBooleanOf, ReadsBoolean, Reads, ReadsSteps, ReadsOthers}
 use Rattle.laws_reports.proofs.MovedTrees.{moved, moved_tree, moved_links, moved_parts, moved_sequence, moved_steps}
 use Rattle.laws_reports.proofs.MovedTrees.{moved_others}
 
@@ -126,10 +126,10 @@ module _ (lies : ℕ → ℕ × ℕ) where
 
     module _ (cs : List (List ℕ)) where
       read-moved : (words : List Token) (x : Option Select) (e : Term)
-          → IsRead (meaning s words) (column_of cs (path_text words)) x e
-          → IsRead (meaning s (map (moved lies) words)) (column_of cs (path_text (map (moved lies) words))) x e
+          → IsReference (meaning s words) (column_of cs (path_text words)) x e
+          → IsReference (meaning s (map (moved lies) words)) (column_of cs (path_text (map (moved lies) words))) x e
       read-moved words x e h =
-          subst (λ (p : List ℕ). IsRead (meaning_by (s.own p) (s.dump p)) (column_of cs p) x e)
+          subst (λ (p : List ℕ). IsReference (meaning_by (s.own p) (s.dump p)) (column_of cs p) x e)
           (sym (path_text-moved words)) h
 
       -- what an expression means
@@ -161,7 +161,7 @@ module _ (lies : ℕ → ℕ × ℕ) where
         joins_more-moved (part d parts) a e h = (h.0, means-moved d h.0 h.1, joins_more-moved parts _ e h.2)
 
       module _ (bs : List Expr) where
-        pub atom-moved : (t : Tree) (b : Boolean) → IsAtom s cs bs t b → IsAtom s cs bs (moved_tree lies t) b
+        pub atom-moved : (t : Tree) (b : Boolean) → IsBooleanOf s cs bs t b → IsBooleanOf s cs bs (moved_tree lies t) b
         atom-moved t b h =
             record {
               place = h.place;

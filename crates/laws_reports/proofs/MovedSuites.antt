@@ -20,7 +20,7 @@ use Rattle.types_names.specs.declared.own.Own.TheVariants as own
 use Rattle.types_names.specs.Scopes.{Scope, width_in, owns_from}
 use Rattle.types_names.specs.Columns.{signals, sequence_signals, property_signals, optional_signals}
 use Rattle.types_names.specs.Columns.{clause_signals, item_signals, file_signals, with_paths, columns_of}
-use Rattle.types_suites.specs.Texts.{label_text, declarations_of, counters_of, assertions_of, clock_of}
+use Rattle.types_suites.specs.Texts.{label_text, declarations_of, counters_of, assertions_of, suite_clock}
 use Rattle.types_suites.specs.Readings.{AllRead}
 use Rattle.types_suites.specs.Suites.{AreSignals, IsCondition, IsRule, IsCounter, AreCounters, ReadsAntecedent}
 use Rattle.types_suites.specs.Suites.{ReadsConsequent, IsDisabling, IsDisabledBy, IsDisablingPlace, IsUsedPlace}
@@ -46,8 +46,8 @@ module _ (lies : ℕ → ℕ × ℕ) where
   label-moved n None = refl
   label-moved n (Some t) = refl
 
-  pub clock-moved : (items : List ItemForm) → clock_of (assertions_of (map (moved_item lies) items))
-      ≡ clock_of (assertions_of items)
+  pub clock-moved : (items : List ItemForm) → suite_clock (assertions_of (map (moved_item lies) items))
+      ≡ suite_clock (assertions_of items)
   clock-moved [] = refl
   clock-moved (counter x ∷ items) = clock-moved items
   clock-moved (declaration x ∷ items) = clock-moved items

@@ -9,7 +9,7 @@ use Rattle.expressions.specs.declared.name.Origin.TheVariants as origins
 use Rattle.expressions.specs.declared.name.Name.{Name}
 use Rattle.expressions.specs.Terms as terms
 use Rattle.expressions.specs.Terms.{Term}
-use Rattle.compiler_reads.specs.Names.{names_in}
+use Rattle.assertions.specs.Names.{names_in}
 use Rattle.types_names.specs.declared.own.Own.TheVariants.{Counter, Sequence}
 use Rattle.types_names.specs.declared.own.Meaning.{Meaning}
 use Rattle.types_names.specs.declared.own.Meaning.TheVariants.{Signal, Own as Declared}
@@ -22,7 +22,7 @@ use Rattle.types_names.specs.declared.operator.Call.TheVariants as calls
 use Rattle.types_names.specs.Scopes.{Scope, path_text, meaning}
 use Rattle.types_names.specs.Columns.{path_signals, signals, link_signals, part_signals, column_of}
 use Rattle.types_names.specs.Width.{binary_of, unary_of, call_of}
-use Rattle.types_expressions.specs.Meanings.{binary_term, unary_term, call_term, IsNameOf, IsRead}
+use Rattle.types_expressions.specs.Meanings.{binary_term, unary_term, call_term, IsNameOf, IsReference}
 use Rattle.types_expressions.specs.Meanings.{Means, Chains, Joins, JoinsMore}
 use Rattle.laws_reports.specs.ReadInText.{path_counters, counters, link_counters, part_counters}
 
@@ -72,7 +72,7 @@ module _ (s : Scope) (cs : List (List ℕ)) (P : List ℕ → Type 0) (C : ℕ �
 
   read_from : (p : List ℕ) (means : Option Meaning) (x : Option Select) (e : Term) →
       AllByRecursion P (path_signals p means) → AllByRecursion C (path_counters means) →
-      IsRead means (column_of cs p) x e → TermFrom e
+      IsReference means (column_of cs p) x e → TermFrom e
   read_from p means None e f g h =
       term_same (terms.named h.name) e h.is (name_from p means h.name f g h.names, tt)
   read_from p means (Some x) e f g h =

@@ -17,7 +17,7 @@ use Rattle.types_sequences.specs.Placed.{atom_true}
 use Rattle.types_names.specs.Scopes.{Scope, sequence_named}
 use Rattle.types_expressions.specs.Meanings.{Means}
 use Rattle.types_expressions.proofs.OneMeaning.{one-meaning}
-use Rattle.types_suites.specs.Readings.{least_of, extra_of, IsAtom, ReadsBoolean, joined_by, Reads, ReadsSteps}
+use Rattle.types_suites.specs.Readings.{least_of, extra_of, IsBooleanOf, ReadsBoolean, joined_by, Reads, ReadsSteps}
 use Rattle.types_suites.specs.Readings.{ReadsOthers, AllRead}
 
 -- what one tree means is true at the same ticks
@@ -144,7 +144,7 @@ module _ (ones others : List Expr) where
 
   module _ (s : Scope) (cs : List (List ℕ)) where
     -- one expression, by two places
-    pub atoms_alike : (t : Tree) (a b : Boolean) → IsAtom s cs ones t a → IsAtom s cs others t b
+    pub atoms_alike : (t : Tree) (a b : Boolean) → IsBooleanOf s cs ones t a → IsBooleanOf s cs others t b
         → AreTrueAlike ones others a b
     atoms_alike t a b m n x k =
         ap (λ (c : Boolean). atom_true ones x c k) m.is

@@ -20,16 +20,16 @@ use Rattle.assertions.specs.declared.suite.Suite.{Suite}
 use Rattle.assertions.specs.Written as written
 use Rattle.assertions.specs.Written.{Written}
 use Rattle.assertions.specs.Listed.{IsUsed}
-use Rattle.compiler_reads.specs.Names.{expression_names, rule_names, counter_names}
-use Rattle.compiler_reads.specs.Reads.{names_of, IsRead, at_once, through, boolean_names}
-use Rattle.types_sequences.specs.Drafts.{Draft, IsIn}
+use Rattle.assertions.specs.Names.{expression_names, rule_names, counter_names}
+use Rattle.assertions.specs.Reads.{names_of, IsRead, at_once, through, boolean_names}
+use Rattle.types_sequences.specs.Drafts.{Draft, IsNumberIn}
 use Rattle.types_sequences.specs.Outlines.{map_written}
 use Rattle.types_sequences.specs.Leaves.{leaves}
 use Rattle.types_names.specs.Scopes.{Scope}
 use Rattle.types_names.specs.Columns.{signals, columns_of}
 use Rattle.types_expressions.specs.Meanings.{Means}
 use Rattle.types_suites.specs.Texts.{declarations_of, counters_of}
-use Rattle.types_suites.specs.Readings.{IsAtom, AllRead}
+use Rattle.types_suites.specs.Readings.{IsBooleanOf, AllRead}
 use Rattle.types_suites.specs.Suites.{IsCondition, IsRule, IsCounter, AreCounters, IsDisablingPlace, IsAssertion}
 use Rattle.laws_suites.specs.WrittenOut.{Leaf, tree_bodies, antecedent_trees, consequent_trees, given}
 use Rattle.laws_suites.specs.WrittenOut.{AreWrittenOut, expressions_of, all_expressions}
@@ -55,7 +55,7 @@ none_there x c = omega (arith, c.1)
 pub record PlaceTree (s : Scope) (cs : List (List ℕ)) (bs : List Expr) (trees : List Tree) (p : ℕ) : Type 0 where
   pub tree : Tree
   pub among : Contains trees tree
-  pub atom : IsAtom s cs bs tree (Listed p)
+  pub atom : IsBooleanOf s cs bs tree (Listed p)
 
 -- the declaration of a counter at a place
 record FormAt (s : Scope) (cs : List (List ℕ)) (forms : List CounterForm) (place : ℕ) (m : Counter) :
@@ -80,7 +80,7 @@ module _ (s : Scope) (cs : List (List ℕ)) where
       record { form = r.form; is = r.is; made = r.made }
 
   module _ (bs : List Expr) where
-    atom_found : (t : Tree) (p : ℕ) (h : IsAtom s cs bs t (Listed p)) → slice_get bs p ≡ Some h.expression
+    atom_found : (t : Tree) (p : ℕ) (h : IsBooleanOf s cs bs t (Listed p)) → slice_get bs p ≡ Some h.expression
     atom_found t p h =
         let is : Listed p ≡ Listed h.place = h.is in
         let same : p ≡ h.place = cc in
@@ -157,7 +157,7 @@ module _ (s : Scope) (cs : List (List ℕ)) where
         record {
           tree = t;
           among = (0, omega arith, refl);
-          atom = subst (λ (k : ℕ). IsAtom s cs bs t (Listed k)) same h;
+          atom = subst (λ (k : ℕ). IsBooleanOf s cs bs t (Listed k)) same h;
         }
 
     wider_first : (ts us : List Tree) (p : ℕ) → PlaceTree s cs bs ts p → PlaceTree s cs bs (ts ++ us) p
@@ -219,7 +219,7 @@ module _ (s : Scope) (cs : List (List ℕ)) (items : List ItemForm) (bs : List E
       subst (λ (o : Option Expr). AreTextNames (expression_names o)) (sym (atom_found s cs bs x.tree p x.atom))
       (tree_from x.tree (of_assertion x.among) (term_of x.atom.expression) x.atom.means)
 
-  list_from : (ps : List ℕ) → ((p : ℕ) → IsIn p ps → PlaceTree s cs bs trees p) →
+  list_from : (ps : List ℕ) → ((p : ℕ) → IsNumberIn p ps → PlaceTree s cs bs trees p) →
       AreTextNames (flat_map (λ place. expression_names (slice_get bs place)) ps)
   list_from [] f = tt
   list_from (p ∷ ps) f =
@@ -327,7 +327,7 @@ module _ (suite : Suite) (s : Scope) (items : List ItemForm) (bodies : List (Dra
     abbrev behind : Written Leaf
     behind = map_written (second_of s cs bs) w.both
 
-    place_tree : (p : ℕ) → IsIn p made.booleans.items → PlaceTree s cs bs (all_expressions a before behind) p
+    place_tree : (p : ℕ) → IsNumberIn p made.booleans.items → PlaceTree s cs bs (all_expressions a before behind) p
     place_tree p i =
         let rest = expressions_of behind ++ given a.disable in
         elim (h.used p i) [

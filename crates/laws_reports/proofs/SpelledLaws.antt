@@ -8,7 +8,7 @@ use Rattle.assertions.specs.declared.sequence.Boolean.TheVariants.{One}
 use Rattle.assertions.specs.Segments.{sat}
 use Rattle.assertions.specs.Written.{Written, boolean, delay, lead, repeat, or, and, intersect, throughout, kernel}
 use Rattle.assertions.specs.Written.{after, later}
-use Rattle.types_sequences.specs.Drafts.{Draft, spelling_of, named_within, Spells}
+use Rattle.types_sequences.specs.Drafts.{Draft, spelling_of, named_within, IsWrittenOut}
 use Rattle.types_sequences.specs.Outlines.{map_draft, map_written}
 use Rattle.types_sequences.specs.Entries.{Alike}
 use Rattle.types_sequences.specs.Placed.{atom_true}
@@ -20,7 +20,7 @@ use Rattle.laws_reports.proofs.PairLaws.{Pair, firsts, seconds, IsPaired, ArePai
 -- What other booleans in the same places spell is what was spelled, with the booleans changed.
 record IsMapped {B C : Type 0} (f : B → C) (bodies : List (Draft B)) (d : Draft B) (w : Written C) : Type 0 where
   from : Written B
-  spells : Spells bodies d from
+  spells : IsWrittenOut bodies d from
   is : map_written f from ≡ w
 
 mapped_by : {B C : Type 0} (f : B → C) (bodies : List (Draft B)) (d : Draft B) (w : Written C) (depth : ℕ)
@@ -30,7 +30,7 @@ mapped_by f bodies d w depth None h e = absurd cc
 mapped_by f bodies d w depth (Some v) h e = record { from = v; spells = (depth, h); is = cc }
 
 spells_mapped : {B C : Type 0} (f : B → C) (bodies : List (Draft B)) (d : Draft B) (w : Written C)
-    → Spells (map (map_draft f) bodies) (map_draft f d) w → IsMapped f bodies d w
+    → IsWrittenOut (map (map_draft f) bodies) (map_draft f d) w → IsMapped f bodies d w
 spells_mapped f bodies d w s =
     mapped_by f bodies d w s.0 (spelling_of (named_within bodies s.0) d) refl
     (sym (spelled_map f (named_within bodies s.0) (named_within (map (map_draft f) bodies) s.0) (named_map f bodies s.0)
@@ -96,14 +96,14 @@ module _ (ones others : List Expr) where
 
   -- What paired drafts spell does.
   pub spelled_alike : (ds es : List (Draft Boolean)) (a b : Draft Boolean) (v w : Written Boolean)
-      → ArePaired ones others ds es → IsPaired ones others a b → Spells ds a v → Spells es b w → SayOne v w
+      → ArePaired ones others ds es → IsPaired ones others a b → IsWrittenOut ds a v → IsWrittenOut es b w → SayOne v w
   spelled_alike ds es a b v w all one s t x n =
-      let first : Spells (map (firsts ones others) all.both) (firsts ones others one.both) v =
-      subst (λ (d : Draft Boolean). Spells (map (firsts ones others) all.both) d v) one.first
-      (subst (λ (bodies : List (Draft Boolean)). Spells bodies a v) all.first s) in
-      let second : Spells (map (seconds ones others) all.both) (seconds ones others one.both) w =
-      subst (λ (d : Draft Boolean). Spells (map (seconds ones others) all.both) d w) one.second
-      (subst (λ (bodies : List (Draft Boolean)). Spells bodies b w) all.second t) in
+      let first : IsWrittenOut (map (firsts ones others) all.both) (firsts ones others one.both) v =
+      subst (λ (d : Draft Boolean). IsWrittenOut (map (firsts ones others) all.both) d v) one.first
+      (subst (λ (bodies : List (Draft Boolean)). IsWrittenOut bodies a v) all.first s) in
+      let second : IsWrittenOut (map (seconds ones others) all.both) (seconds ones others one.both) w =
+      subst (λ (d : Draft Boolean). IsWrittenOut (map (seconds ones others) all.both) d w) one.second
+      (subst (λ (bodies : List (Draft Boolean)). IsWrittenOut bodies b w) all.second t) in
       let from = spells_mapped first_of all.both one.both v first in
       let same : map_written second_of from.from ≡ w =
       spells_one (map (seconds ones others) all.both) (seconds ones others one.both) (map_written second_of from.from) w

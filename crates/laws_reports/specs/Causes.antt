@@ -19,12 +19,12 @@ use Rattle.laws_reports.specs.ReadInText.{ReadsMany, HasLongName}
 -- K1: over 127 booleans are written. K2: the assertion isn't small. K3: it reads over 255 signals
 -- and counters. K4: its name, its clock's path or that of a signal that it reads has over 65,535
 -- bytes. So many assertions stand before it.
-abbrev pub IsCause : Scope → List ItemForm → ℕ → AssertionForm → CompileFault → Type 0
-IsCause s items before a TooManyAtoms = HasManyBooleans s items a
-IsCause s items before a CodeTooLong = IsSmallText s items a → ⊥
-IsCause s items before a TooManySlots = ReadsMany s items a
-IsCause s items before a TextTooLong = HasLongName s items before a
-IsCause s items before a Memory = Unit {0}
+abbrev pub IsCompileCause : Scope → List ItemForm → ℕ → AssertionForm → CompileFault → Type 0
+IsCompileCause s items before a TooManyAtoms = HasManyBooleans s items a
+IsCompileCause s items before a CodeTooLong = IsSmallText s items a → ⊥
+IsCompileCause s items before a TooManySlots = ReadsMany s items a
+IsCompileCause s items before a TextTooLong = HasLongName s items before a
+IsCompileCause s items before a Memory = Unit {0}
 
 -- It stands of the assertion at a place among those of the text.
 pub record HasCause (c : Contents) (text : List ℕ) (place : ℕ) (fault : CompileFault) : Type 0 where
@@ -32,7 +32,7 @@ pub record HasCause (c : Contents) (text : List ℕ) (place : ℕ) (fault : Comp
   pub spelled : HasItems text items
   pub assertion : AssertionForm
   pub is : slice_get (assertions_of items) place ≡ Some assertion
-  pub cause : IsCause (scope_over c.variables items) items place assertion fault
+  pub cause : IsCompileCause (scope_over c.variables items) items place assertion fault
 
 -- Some assertion of a text that isn't compiled has the cause.
 abbrev pub FaultsHaveCauses : Type 0

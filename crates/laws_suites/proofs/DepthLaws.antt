@@ -33,21 +33,22 @@ use Rattle.types_names.specs.declared.operator.Unary.TheVariants as unaries
 use Rattle.types_names.specs.Scopes.{Scope, meaning, path_text}
 use Rattle.types_names.specs.Columns.{column_of}
 use Rattle.types_names.specs.Width.{binary_of, unary_of, call_of, ticks_of}
-use Rattle.types_expressions.specs.Meanings.{binary_term, unary_term, call_term, IsRead, Means, Chains, Joins}
+use Rattle.types_expressions.specs.Meanings.{binary_term, unary_term, call_term, IsReference, Means, Chains, Joins}
 use Rattle.types_expressions.specs.Meanings.{JoinsMore}
-use Rattle.compiler_expressions.specs.Laws.{Each}
-use Rattle.compiler_expressions.specs.Depths.{depth, level, bracketed, braced, reduction_depth, left_depth, IsShortPast}
+use Rattle.compiler_expressions.specs.Laws.{EachPart}
+use Rattle.compiler_expressions.specs.Depths.{depth, term_level, bracketed, braced, reduction_depth, left_depth}
+use Rattle.compiler_expressions.specs.Depths.{IsShortPast}
 use Rattle.laws_suites.proofs.LevelLaws.{binary_level, level-infix}
 
 -- so many are open in it
 pub record Shallow (deep : ℕ) (e : Term) : Type 0 where
   pub within : depth e ≤ deep
-  pub near : Each IsShortPast e
+  pub near : EachPart IsShortPast e
 
 -- so many are open in it where it is an operand, with brackets round what is looser than the level
 pub record Fits (most deep : ℕ) (e : Term) : Type 0 where
-  pub within : bracketed most (level e) (depth e) ≤ deep
-  pub near : Each IsShortPast e
+  pub within : bracketed most (term_level e) (depth e) ≤ deep
+  pub near : EachPart IsShortPast e
 
 -- brackets
 
@@ -60,17 +61,17 @@ bracketed-either m l d = elim (cases_lt m l) [
 fits-open : (m deep : ℕ) (e : Term) → Fits m deep e → Shallow deep e
 fits-open m deep e fits = record {
   within =
-      elim (bracketed-either m (level e) (depth e)) [
+      elim (bracketed-either m (term_level e) (depth e)) [
         | inl a ↦ omega (arith, a.1, fits.within)
         | inr b ↦ omega (arith, b.1, fits.within)
       ];
   near = fits.near;
 }
 
-in-place : (m deep : ℕ) (e : Term) → level e ≤ m → Shallow deep e → Fits m deep e
+in-place : (m deep : ℕ) (e : Term) → term_level e ≤ m → Shallow deep e → Fits m deep e
 in-place m deep e tight shallow = record {
   within =
-      elim (bracketed-either m (level e) (depth e)) [
+      elim (bracketed-either m (term_level e) (depth e)) [
         | inl a ↦ omega (arith, a.1, shallow.within)
         | inr b ↦ absurd (omega (arith, b.0))
       ];
@@ -80,7 +81,7 @@ in-place m deep e tight shallow = record {
 in-round : (m deep : ℕ) (e : Term) → Shallow deep e → Fits m (suc deep) e
 in-round m deep e shallow = record {
   within =
-      elim (bracketed-either m (level e) (depth e)) [
+      elim (bracketed-either m (term_level e) (depth e)) [
         | inl a ↦ omega (arith, a.1, shallow.within)
         | inr b ↦ omega (arith, b.1, shallow.within)
       ];
@@ -89,12 +90,12 @@ in-round m deep e shallow = record {
 
 looser : (m deep : ℕ) (e : Term) → Fits m deep e → Fits (suc m) deep e
 looser m deep e fits = record {
-  within = elim (bracketed-either m (level e) (depth e)) [
-    | inl a ↦ elim (bracketed-either (suc m) (level e) (depth e)) [
+  within = elim (bracketed-either m (term_level e) (depth e)) [
+    | inl a ↦ elim (bracketed-either (suc m) (term_level e) (depth e)) [
       | inl x ↦ omega (arith, a.1, x.1, fits.within)
       | inr y ↦ absurd (omega (arith, a.0, y.0))
     ]
-    | inr b ↦ elim (bracketed-either (suc m) (level e) (depth e)) [
+    | inr b ↦ elim (bracketed-either (suc m) (term_level e) (depth e)) [
       | inl x ↦ omega (arith, b.1, x.1, fits.within)
       | inr y ↦ omega (arith, b.1, y.1, fits.within)
     ]
@@ -104,15 +105,15 @@ looser m deep e fits = record {
 
 -- operators
 
-binary-left : (op : Binary) (a b : Term) → (level (binary_term op a b) ≡ binary_level op)
-    × (depth (binary_term op a b) ≡ left_depth (binary_level op) (level a) (depth a) (level b) (depth b))
+binary-left : (op : Binary) (a b : Term) → (term_level (binary_term op a b) ≡ binary_level op)
+    × (depth (binary_term op a b) ≡ left_depth (binary_level op) (term_level a) (depth a) (term_level b) (depth b))
 binary-left (Arithmetic op) a b = (refl, refl)
 binary-left (Shift op) a b = (refl, refl)
 binary-left (Comparison op) a b = (refl, refl)
 binary-left (Connective op) a b = (refl, refl)
 
-binary-near : (op : Binary) (a b : Term) → Each IsShortPast a → Each IsShortPast b
-    → Each IsShortPast (binary_term op a b)
+binary-near : (op : Binary) (a b : Term) → EachPart IsShortPast a → EachPart IsShortPast b
+    → EachPart IsShortPast (binary_term op a b)
 binary-near (Arithmetic op) a b x y = (tt, x, y)
 binary-near (Shift op) a b x y = (tt, x, y)
 binary-near (Comparison op) a b x y = (tt, x, y)
@@ -123,13 +124,14 @@ binary-fits : (op : Binary) (m deep : ℕ) (a b : Term) → binary_level op ≡ 
 binary-fits op m deep a b is first second =
     let shape = binary-left op a b in
     let less : suc m - 1 ≡ m = omega arith in
-    let own : left_depth (binary_level op) (level a) (depth a) (level b) (depth b)
-    ≡ left_depth (suc m) (level a) (depth a) (level b) (depth b) =
-    ap (λ n. left_depth n (level a) (depth a) (level b) (depth b)) is in
-    let right : bracketed (suc m - 1) (level b) (depth b) ≡ bracketed m (level b) (depth b) =
-    ap (λ n. bracketed n (level b) (depth b)) less in
-    let sides : left_depth (suc m) (level a) (depth a) (level b) (depth b) ≤ deep =
-    max_le (bracketed (suc m) (level a) (depth a)) (bracketed (suc m - 1) (level b) (depth b)) deep first.within
+    let own : left_depth (binary_level op) (term_level a) (depth a) (term_level b) (depth b)
+    ≡ left_depth (suc m) (term_level a) (depth a) (term_level b) (depth b) =
+    ap (λ n. left_depth n (term_level a) (depth a) (term_level b) (depth b)) is in
+    let right : bracketed (suc m - 1) (term_level b) (depth b) ≡ bracketed m (term_level b) (depth b) =
+    ap (λ n. bracketed n (term_level b) (depth b)) less in
+    let sides : left_depth (suc m) (term_level a) (depth a) (term_level b) (depth b) ≤ deep =
+    max_le (bracketed (suc m) (term_level a) (depth a))
+    (bracketed (suc m - 1) (term_level b) (depth b)) deep first.within
     (omega (arith, right, second.within)) in
     in-place (suc m) deep (binary_term op a b) (omega (arith, shape.0, is))
     (record { within = omega (arith, shape.1, own, sides); near = binary-near op a b first.near second.near })
@@ -156,7 +158,7 @@ unary-fits unaries.Complement deep a fits =
 unary-fits (unaries.Reduce op) deep a fits =
     in-place 0 (suc deep) (terms.reduce op a) (omega arith)
     (record
-    { within = omega (arith, fits.within, reduction-within op (level a) (depth a)); near = (tt, fits.near) })
+    { within = omega (arith, fits.within, reduction-within op (term_level a) (depth a)); near = (tt, fits.near) })
 
 call-fits : (f : Function) (deep : ℕ) (a : Term) → Shallow deep a → Fits 0 (suc deep) (call_term (call_of f) a)
 call-fits Rose deep a shallow =
@@ -223,7 +225,7 @@ fits-as : (m deep : ℕ) (e f : Term) → e ≡ f → Fits m deep f → Fits m d
 fits-as m deep e f is fits = subst (Fits m deep) (sym is) fits
 
 path-fits : {d : ℕ} {x : Option Select} {ts rest : List Token} (means : Option Meaning) (column : Option ℕ) (e : Term)
-    → IsSelected d x ts rest → IsRead means column x e → Fits 0 d e
+    → IsSelected d x ts rest → IsReference means column x e → Fits 0 d e
 path-fits {d = d} means column e whole is =
     fits-as 0 d e (terms.named is.name) is.is
     (in-place 0 d (terms.named is.name) (omega arith) (record { within = omega arith; near = tt }))
@@ -255,7 +257,7 @@ braced-most (terms.change x y) d = omega arith
 -- so many are open in what is joined so far
 pub record Joined (deep : ℕ) (e : Term) : Type 0 where
   pub within : braced e (depth e) ≤ deep
-  pub near : Each IsShortPast e
+  pub near : EachPart IsShortPast e
 
 joined-first : (deep : ℕ) (e : Term) → Shallow deep e → Joined (suc deep) e
 joined-first deep e shallow =

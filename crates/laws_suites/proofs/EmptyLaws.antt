@@ -20,10 +20,10 @@ use Rattle.assertions.specs.Shapes.{written_form, shape, value_in}
 use Rattle.assertions.specs.Attempts.{IsDegenerateBy}
 use Rattle.assertions.proofs.Segments.{Matches-mono}
 use Rattle.assertions.proofs.FirstLaws.{empty-degenerate}
-use Rattle.types_sequences.specs.Drafts.{Draft, Spells}
+use Rattle.types_sequences.specs.Drafts.{Draft, IsWrittenOut}
 use Rattle.types_sequences.specs.Outlines.{map_written}
 use Rattle.types_sequences.specs.Entries.{Alike}
-use Rattle.types_sequences.specs.Placed.{atom_true, IsPlaced}
+use Rattle.types_sequences.specs.Placed.{atom_true, MatchesByPlaces}
 use Rattle.types_sequences.proofs.AlikeLaws.{alike_one, alike_one_of, alike_after, alike_later}
 use Rattle.types_sequences.proofs.AlikeLaws.{alike_times, alike_either, alike_both, alike_meet, alike_during}
 use Rattle.types_sequences.proofs.MapLaws.{spells_map}
@@ -77,7 +77,7 @@ or_left false y h = absurd cc
 none_seen : (value : Boolean → ℕ → Bool) (b : Boolean) (k : ℕ) → IsTrue (sat value 0 b k)
 none_seen value b k = or_left (nat_le 0 k) (value b k) (le-leb 0 k (omega arith))
 
-empty_meant : (e : List Expr) (places : List ℕ) (w u : Written Boolean) → IsPlaced e places w u →
+empty_meant : (e : List Expr) (places : List ℕ) (w u : Written Boolean) → MatchesByPlaces e places w u →
     AdmitsEmpty (kernel One u) → AdmitsEmpty (kernel One w)
 empty_meant e places w u h empty =
     let t : Samples = record { signal_at = λ p k. 0; counter_at = λ p k. 0 } in
@@ -141,9 +141,9 @@ module _ (s : Scope) (cs : List (List ℕ)) (e : List Expr) where
       subst (λ (xs : List trees.AssertionForm). IsSide side (consequents_of s xs)) (sym is)
       (consequent_there s before a more) in
       let spelled =
-      subst (λ (bs : List (Draft Dot)). Spells bs side.outline (map_written f w))
+      subst (λ (bs : List (Draft Dot)). IsWrittenOut bs side.outline (map_written f w))
       (outlined s cs e items bodies read)
-      (subst (λ (z : Draft Dot). Spells (map dotted bodies) z (map_written f w))
+      (subst (λ (z : Draft Dot). IsWrittenOut (map dotted bodies) z (map_written f w))
       (consequent_outline a.property d reads) (spells_map f bodies d w meant.spells)) in
       let none =
       empty_meant e made.booleans.items w (written_form made.consequent) meant.placed empty in
@@ -198,9 +198,9 @@ module _ (s : Scope) (cs : List (List ℕ)) (e : List Expr) where
       subst (λ (xs : List trees.AssertionForm). IsSide side (sides_of s xs)) (sym is)
       (antecedent_there s side before a more led.one) in
       let spelled =
-      subst (λ (bs : List (Draft Dot)). Spells bs side.outline (map_written f w))
+      subst (λ (bs : List (Draft Dot)). IsWrittenOut bs side.outline (map_written f w))
       (outlined s cs e items bodies read)
-      (subst (λ (z : Draft Dot). Spells (map dotted bodies) z (map_written f w))
+      (subst (λ (z : Draft Dot). IsWrittenOut (map dotted bodies) z (map_written f w))
       led.outlined (spells_map f bodies d w meant.spells)) in
       let none =
       empty_meant e made.booleans.items w (written_form made.antecedent) meant.placed empty in

@@ -22,7 +22,7 @@ use Rattle.assertions.specs.Listed.{IsListedOption}
 use Rattle.bytecode.specs.Texts as texts
 use Rattle.compiler_expressions.specs.Samples.{clear_terms, rule_terms}
 use Rattle.compiler_expressions.proofs.NarrowLaws.{expression-narrow}
-use Rattle.types_sequences.specs.Drafts.{Draft, IsIn}
+use Rattle.types_sequences.specs.Drafts.{Draft, IsNumberIn}
 use Rattle.types_sequences.proofs.UsedLaws.{each_used}
 use Rattle.types_names.specs.declared.own.Own.TheVariants as own
 use Rattle.types_names.specs.Scopes.{Scope}
@@ -30,14 +30,14 @@ use Rattle.types_names.specs.Asked.{scope_for}
 use Rattle.types_names.specs.Columns.{is_listed, with_path, with_paths, columns_of}
 use Rattle.types_names.specs.Columns.{file_signals}
 use Rattle.types_expressions.specs.Meanings.{Means}
-use Rattle.types_suites.specs.Texts.{declarations_of, counters_of, assertions_of, clock_of}
+use Rattle.types_suites.specs.Texts.{declarations_of, counters_of, assertions_of, suite_clock}
 use Rattle.types_suites.specs.Texts.{label_text}
-use Rattle.types_suites.specs.Readings.{IsAtom, AllRead}
+use Rattle.types_suites.specs.Readings.{IsBooleanOf, AllRead}
 use Rattle.types_suites.specs.Suites.{AreSignals, IsCondition, IsRule, AreCounters, IsDisabling}
 use Rattle.types_suites.specs.Suites.{IsDisablingPlace, IsAssertion, AreAssertions}
 use Rattle.types_suites.specs.Faults.{IsFaultless}
-use Rattle.compiler.specs.Conditions.{IsKnown, IsKnownAt, CountsByKnown, IsSound, IsPlaced}
-use Rattle.compiler.specs.Conditions.{IsProper, IsFit}
+use Rattle.compiler.specs.Conditions.{IsKnownTerm, IsKnownAt, CountsByKnown, IsSoundSuite, ListsItsBooleans}
+use Rattle.compiler.specs.Conditions.{IsProper, FitsSuite}
 use Rattle.laws_suites.specs.TextTrees.{OfOne, OfTwo, OfAssertion, EachTree}
 use Rattle.laws_suites.specs.Depths.{MeansShallow, TextsAreShallow}
 use Rattle.laws_suites.specs.Laws.{SuitesFit}
@@ -69,7 +69,7 @@ signal_paths s (c ∷ cs) (x ∷ xs) h g =
     (subst IsPathText (sym g.0.0) h.0, signal_paths s cs xs h.1 g.1)
 
 clock_path : (items : List ItemForm) → HasAssertion items →
-    AllByRecursion IsSpoken (assertions_of items) → IsPathText (clock_of (assertions_of items))
+    AllByRecursion IsSpoken (assertions_of items) → IsPathText (suite_clock (assertions_of items))
 clock_path [] has h = elim has [ ]
 clock_path (counter c ∷ items) has h = clock_path items has h
 clock_path (declaration d ∷ items) has h = clock_path items has h
@@ -86,7 +86,7 @@ assertions_all Q (counter c ∷ items) h = assertions_all Q items h.1
 assertions_all Q (declaration d ∷ items) h = assertions_all Q items h.1
 assertions_all Q (assertion a ∷ items) h = (h.0, assertions_all Q items h.1)
 
-all_in : (R : ℕ → Type 0) (xs : List ℕ) → ((p : ℕ) → IsIn p xs → R p) → AllByRecursion R xs
+all_in : (R : ℕ → Type 0) (xs : List ℕ) → ((p : ℕ) → IsNumberIn p xs → R p) → AllByRecursion R xs
 all_in R [] f = tt
 all_in R (x ∷ xs) f = (f x (inl refl), all_in R xs (λ p i. f p (inr i)))
 
@@ -105,7 +105,7 @@ module _
   abbrev Shallow : Tree → Type 0
   Shallow t = MeansShallow s cs t
 
-  known : (t : Tree) (e : Expr) → Shallow t → Means s cs t (term_of e) → IsKnown suite (term_of e)
+  known : (t : Tree) (e : Expr) → Shallow t → Means s cs t (term_of e) → IsKnownTerm suite (term_of e)
   known t e q m =
       let low = q (term_of e) m in
       record {
@@ -117,14 +117,14 @@ module _
 
   -- counters
   condition_known : (o : Option Tree) (m : Option Expr) → OfOne Shallow o → IsCondition s cs o m →
-      AllByRecursion (IsKnown suite) (clear_terms m)
+      AllByRecursion (IsKnownTerm suite) (clear_terms m)
   condition_known None None q h = tt
   condition_known None (Some e) q h = elim h [ ]
   condition_known (Some t) None q h = elim h [ ]
   condition_known (Some t) (Some e) q h = (known t e q h, tt)
 
   rule_known : (o : Option (Tree × Tree)) (m : Option Rule) → OfTwo Shallow o → IsRule s cs o m →
-      AllByRecursion (IsKnown suite) (rule_terms m)
+      AllByRecursion (IsKnownTerm suite) (rule_terms m)
   rule_known None None q h = tt
   rule_known None (Some r) q h = elim h [ ]
   rule_known (Some p) None q h = elim h [ ]
@@ -140,7 +140,7 @@ module _
       let load = rule_known c.load m.load q.0.load h.0.load in
       let add = rule_known c.add m.add q.0.add h.0.add in
       let sub = rule_known c.sub m.sub q.0.sub h.0.sub in
-      let P = IsKnown suite in
+      let P = IsKnownTerm suite in
       let one = clear_terms m.clear in
       let two = rule_terms m.load in
       let three = rule_terms m.add in (
@@ -156,7 +156,7 @@ module _
   IsKnownBoolean One = Unit {0}
   IsKnownBoolean (Listed p) = IsKnownAt suite p
 
-  atom_known : (t : Tree) (b : Boolean) → Shallow t → IsAtom s cs suite.booleans.items t b →
+  atom_known : (t : Tree) (b : Boolean) → Shallow t → IsBooleanOf s cs suite.booleans.items t b →
       IsKnownBoolean b
   atom_known t b q h =
       subst IsKnownBoolean (sym h.is)
@@ -186,7 +186,7 @@ module _
       AllRead s cs suite.booleans.items (map (λ d. d.body) (declarations_of items)) bodies) where
     place_known : (n : ℕ) (a : trees.AssertionForm) (made : Assertion) → OfAssertion Shallow a →
         IsAssertion s cs suite.booleans.items bodies n a made → (p : ℕ) →
-        IsIn p made.booleans.items → IsKnownAt suite p
+        IsNumberIn p made.booleans.items → IsKnownAt suite p
     place_known n a made q h p i =
         let bs = suite.booleans.items in
         let all = bodies_each IsKnownBoolean s cs bs Shallow atom_known items bodies shallow read in
@@ -208,17 +208,17 @@ module _
           ]
         ]
 
-    assertions_fit : IsFaultless s items → IsSound suite → (before : List trees.AssertionForm)
+    assertions_fit : IsFaultless s items → IsSoundSuite suite → (before : List trees.AssertionForm)
         (n : ℕ) (more : List trees.AssertionForm) (ms : List Assertion) →
         assertions_of items ≡ before ++ more → AllByRecursion (OfAssertion Shallow) more →
         AllByRecursion IsSpoken more →
-        AreAssertions s cs suite.booleans.items bodies n more ms → AllByRecursion (IsFit suite) ms
+        AreAssertions s cs suite.booleans.items bodies n more ms → AllByRecursion (FitsSuite suite) ms
     assertions_fit faultless sound before n [] [] is q spoken h = tt
     assertions_fit faultless sound before n [] (m ∷ ms) is q spoken h = elim h [ ]
     assertions_fit faultless sound before n (a ∷ more) [] is q spoken h = elim h [ ]
     assertions_fit faultless sound before n (a ∷ more) (m ∷ ms) is q spoken h =
         let one = h.0 in
-        let placed : IsPlaced suite m =
+        let placed : ListsItsBooleans suite m =
         record {
           booleans = all_in (IsKnownAt suite) m.booleans.items (place_known n a m q.0 one);
           antecedent = one.antecedent_meant.listed;
@@ -254,7 +254,7 @@ suites-fit law widths text suite x =
     DeclaredCounter suite.counters.items 0 place width =
     λ p place width is.
     declared_counter s cs items suite.counters.items p 0 0 place width h.counters is in
-    let sound : IsSound suite =
+    let sound : IsSoundSuite suite =
     record {
       clock = subst IsPathText (sym h.clock) (clock_path items x.spelled.asserts spoken.1);
       signals =

@@ -19,10 +19,10 @@ use Rattle.parser_grammar.specs.declared.operator.Implication.{Implication}
 use Rattle.parser_grammar.specs.declared.operator.Implication.TheVariants.{Overlapped}
 use Rattle.parser_grammar.specs.declared.operator.Implication.TheVariants.{NonOverlapped}
 use Rattle.types_sequences.specs.Drafts as drafts
-use Rattle.types_sequences.specs.Drafts.{Draft, both_there, spelling_of, named_within, Spells}
+use Rattle.types_sequences.specs.Drafts.{Draft, both_there, spelling_of, named_within, IsWrittenOut}
 use Rattle.types_names.specs.Scopes.{Scope, sequence_named}
 use Rattle.types_suites.specs.Texts.{declarations_of}
-use Rattle.types_suites.specs.Readings.{least_of, extra_of, IsAtom, ReadsBoolean, Reads, ReadsSteps}
+use Rattle.types_suites.specs.Readings.{least_of, extra_of, IsBooleanOf, ReadsBoolean, Reads, ReadsSteps}
 use Rattle.types_suites.specs.Readings.{joined_by, ReadsOthers, AllRead}
 use Rattle.types_suites.specs.Suites.{before_by, ReadsAntecedent, ReadsConsequent}
 use Rattle.laws_suites.specs.TextTrees.{OfSequence, OfSteps, OfOthers, OfProperty, EachTree}
@@ -100,7 +100,7 @@ module _ (P : Boolean → Type 0) where
       body_found (named_within bodies depth) (named_each bodies h depth) bodies h p
 
   pub spells_each : (bodies : List (Draft Boolean)) → AllByRecursion (EachDraft P) bodies →
-      (d : Draft Boolean) (w : Written Boolean) → EachDraft P d → Spells bodies d w →
+      (d : Draft Boolean) (w : Written Boolean) → EachDraft P d → IsWrittenOut bodies d w →
       EachBoolean P w
   spells_each bodies h d w each s =
       subst (EachFound P) s.1
@@ -112,7 +112,7 @@ module _ (P : Boolean → Type 0) where
       (cs : List (List ℕ))
       (bs : List Expr)
       (Q : Tree → Type 0)
-      (atom : (t : Tree) (b : Boolean) → Q t → IsAtom s cs bs t b → P b) where
+      (atom : (t : Tree) (b : Boolean) → Q t → IsBooleanOf s cs bs t b → P b) where
     moved : (a d : Draft Boolean) → d ≡ a → EachDraft P a → EachDraft P d
     moved a d is h = subst (EachDraft P) (sym is) h
 

@@ -14,13 +14,13 @@ use Rattle.assertions.specs.declared.sequence.Boolean.{Boolean}
 use Rattle.assertions.specs.declared.sequence.Boolean.TheVariants.{One, Listed}
 use Rattle.assertions.specs.Written.{Written}
 use Rattle.types_sequences.specs.Drafts as drafts
-use Rattle.types_sequences.specs.Drafts.{Draft, spelling_of, named_within, Spells}
+use Rattle.types_sequences.specs.Drafts.{Draft, spelling_of, named_within, IsWrittenOut}
 use Rattle.types_sequences.specs.Implications.{rewritten_antecedent}
 use Rattle.types_sequences.specs.Outlines.{map_draft, map_written}
-use Rattle.types_sequences.specs.Leaves.{place_in}
+use Rattle.types_sequences.specs.Leaves.{place_listed}
 use Rattle.types_sequences.proofs.MapLaws.{spelled_map, named_map, spells_map}
 use Rattle.types_names.specs.Scopes.{Scope, sequence_named}
-use Rattle.types_suites.specs.Readings.{least_of, extra_of, IsAtom, ReadsBoolean, joined_by, Reads, ReadsSteps}
+use Rattle.types_suites.specs.Readings.{least_of, extra_of, IsBooleanOf, ReadsBoolean, joined_by, Reads, ReadsSteps}
 use Rattle.types_suites.specs.Readings.{ReadsOthers, AllRead}
 use Rattle.types_suites.specs.Suites.{before_by, ReadsAntecedent, ReadsConsequent}
 use Rattle.laws_suites.specs.WrittenOut.{Leaf, leaf_by, trees_in, trees_of_steps, trees_of_others, antecedent_trees}
@@ -38,7 +38,7 @@ module _ (s : Scope) (cs : List (List ℕ)) (bs : List Expr) where
   IsLeafOf One None = Unit {0}
   IsLeafOf One (Some t) = ⊥
   IsLeafOf (Listed p) None = ⊥
-  IsLeafOf (Listed p) (Some t) = IsAtom s cs bs t (Listed p)
+  IsLeafOf (Listed p) (Some t) = IsBooleanOf s cs bs t (Listed p)
 
   pub record Pair : Type 0 where
     pub first : Boolean
@@ -127,7 +127,7 @@ module _ (s : Scope) (cs : List (List ℕ)) (bs : List Expr) where
     second = ap (λ (x : Draft Leaf). drafts.throughout o x) h.second;
   }
 
-  atom_leaf : (t : Tree) (b : Boolean) → IsAtom s cs bs t b → IsLeafOf b (Some t)
+  atom_leaf : (t : Tree) (b : Boolean) → IsBooleanOf s cs bs t b → IsLeafOf b (Some t)
   atom_leaf t One h = let e : One ≡ Listed h.place = h.is in absurd cc
   atom_leaf t (Listed p) h = h
 
@@ -215,7 +215,7 @@ module _ (s : Scope) (cs : List (List ℕ)) (bs : List Expr) where
   pub record SpellBoth (es : List (Draft Leaf)) (e : Draft Leaf) (w : Written Boolean) : Type 0 where
     pub both : Written Pair
     pub first : map_written first_of both ≡ w
-    pub second : Spells es e (map_written second_of both)
+    pub second : IsWrittenOut es e (map_written second_of both)
 
   both_by : (ds : List (Draft Pair)) (d : Draft Pair) (w : Written Boolean) (depth : ℕ) (o : Option (Written Pair)) →
       spelling_of (named_within ds depth) d ≡ o → option_map (map_written first_of) o ≡ Some w →
@@ -225,11 +225,11 @@ module _ (s : Scope) (cs : List (List ℕ)) (bs : List Expr) where
       record { both = z; first = cc; second = spells_map second_of ds d z (depth, h) }
 
   pub spelled_both : (ds : List (Draft Boolean)) (es : List (Draft Leaf)) (a : Draft Boolean) (e : Draft Leaf)
-      (w : Written Boolean) → ArePaired ds es → IsPaired a e → Spells ds a w → SpellBoth es e w
+      (w : Written Boolean) → ArePaired ds es → IsPaired a e → IsWrittenOut ds a w → SpellBoth es e w
   spelled_both ds es a e w all one h =
-      let spelled : Spells (map firsts all.both) (firsts one.both) w =
-      subst (λ (d : Draft Boolean). Spells (map firsts all.both) d w) one.first
-      (subst (λ (bodies : List (Draft Boolean)). Spells bodies a w) all.first h) in
+      let spelled : IsWrittenOut (map firsts all.both) (firsts one.both) w =
+      subst (λ (d : Draft Boolean). IsWrittenOut (map firsts all.both) d w) one.first
+      (subst (λ (bodies : List (Draft Boolean)). IsWrittenOut bodies a w) all.first h) in
       let found =
       both_by all.both one.both w spelled.0 (spelling_of (named_within all.both spelled.0) one.both) refl
       (sym (spelled_map first_of (named_within all.both spelled.0)
@@ -239,20 +239,20 @@ module _ (s : Scope) (cs : List (List ℕ)) (bs : List Expr) where
 
   -- Its places are those of its expressions, one for each.
   abbrev pub IsPlaceOf : ℕ → Tree → Type 0
-  IsPlaceOf p t = IsAtom s cs bs t (Listed p)
+  IsPlaceOf p t = IsBooleanOf s cs bs t (Listed p)
 
   zip_more : (b : Boolean) (o : Leaf) (ps : List ℕ) (ts : List Tree) → IsLeafOf b o → AllZip IsPlaceOf ps ts →
-      AllZip IsPlaceOf (place_in b ++ ps) (given o ++ ts)
+      AllZip IsPlaceOf (place_listed b ++ ps) (given o ++ ts)
   zip_more One None ps ts h k = k
   zip_more One (Some t) ps ts h k = elim h [ ]
   zip_more (Listed p) None ps ts h k = elim h [ ]
   zip_more (Listed p) (Some t) ps ts h k = (h, k)
 
   pub pairs_zip : (zs : List Pair) →
-      AllZip IsPlaceOf (flat_map place_in (map first_of zs)) (flat_map given (map second_of zs))
+      AllZip IsPlaceOf (flat_map place_listed (map first_of zs)) (flat_map given (map second_of zs))
   pairs_zip [] = tt
   pairs_zip (z ∷ zs) =
-      zip_more z.first z.second (flat_map place_in (map first_of zs)) (flat_map given (map second_of zs)) z.same
+      zip_more z.first z.second (flat_map place_listed (map first_of zs)) (flat_map given (map second_of zs)) z.same
       (pairs_zip zs)
 
   pub zip_two : (ps qs : List ℕ) (ts us : List Tree) → AllZip IsPlaceOf ps ts → AllZip IsPlaceOf qs us →

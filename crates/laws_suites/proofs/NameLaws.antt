@@ -32,11 +32,11 @@ use Rattle.types_names.specs.Scopes.{owns_from, width_in}
 use Rattle.types_names.specs.Columns.{column_of}
 use Rattle.types_names.specs.Width.{binary_of, unary_of, call_of, ticks_of}
 use Rattle.types_expressions.specs.Meanings.{binary_term, unary_term, call_term, IsName, IsNameOf}
-use Rattle.types_expressions.specs.Meanings.{IsRead, Means, Chains, Joins, JoinsMore}
+use Rattle.types_expressions.specs.Meanings.{IsReference, Means, Chains, Joins, JoinsMore}
 use Rattle.types_suites.specs.Texts.{counters_of}
 use Rattle.types_suites.specs.Suites.{AreSignals, AreCounters}
-use Rattle.compiler_expressions.specs.Laws.{Each, OfName}
-use Rattle.compiler.specs.Conditions.{IsAt, IsNamed}
+use Rattle.compiler_expressions.specs.Laws.{EachPart, OfName}
+use Rattle.compiler.specs.Conditions.{IsOriginIn, IsSuiteName}
 
 -- The signal of a column.
 record ColumnSignal (s : Scope) (p : List ℕ) (xs : List Signal) (place : ℕ) : Type 0 where
@@ -133,10 +133,10 @@ module _ (s : Scope) (cs : List (List ℕ)) where
     some_width v w h = cc
 
     signal_named : (p : List ℕ) (width : ℕ) (name : Name) → s.dump p ≡ Some width →
-        IsName origins.Signal (column_of cs p) width name → IsNamed suite name
+        IsName origins.Signal (column_of cs p) width name → IsSuiteName suite name
     signal_named p width name known h =
         let r = column_signal s cs suite.names.items p name.place signals h.place_is in
-        subst (λ (o : Origin). IsAt suite o name.place name.width) (sym h.origin_is)
+        subst (λ (o : Origin). IsOriginIn suite o name.place name.width) (sym h.origin_is)
         (record {
           signal = r.signal;
           found = r.found;
@@ -145,12 +145,12 @@ module _ (s : Scope) (cs : List (List ℕ)) where
 
     counter_named : (p : List ℕ) (place width : ℕ) (name : Name) →
         s.own p ≡ Some (own.Counter place width) →
-        IsName origins.Counter (Some place) width name → IsNamed suite name
+        IsName origins.Counter (Some place) width name → IsSuiteName suite name
     counter_named p place width name known h =
         let r = owned p place width known in
         let at : r.later ≡ name.place =
         omega (arith, r.at, some_width place name.place h.place_is) in
-        subst (λ (o : Origin). IsAt suite o name.place name.width) (sym h.origin_is)
+        subst (λ (o : Origin). IsOriginIn suite o name.place name.width) (sym h.origin_is)
         (record {
           counter = r.made;
           found = subst (λ (i : ℕ). slice_get suite.counters.items i ≡ Some r.made) at r.found;
@@ -158,7 +158,7 @@ module _ (s : Scope) (cs : List (List ℕ)) where
         })
 
     name_known : (p : List ℕ) (o : Option Own) (w : Option ℕ) (name : Name) → s.own p ≡ o →
-        s.dump p ≡ w → IsNameOf (meaning_by o w) (column_of cs p) name → IsNamed suite name
+        s.dump p ≡ w → IsNameOf (meaning_by o w) (column_of cs p) name → IsSuiteName suite name
     name_known p None None name e f h = elim h [ ]
     name_known p None (Some width) name e f h = signal_named p width name f h
     name_known p (Some (own.Counter place width)) w name e f h =
@@ -166,13 +166,13 @@ module _ (s : Scope) (cs : List (List ℕ)) where
     name_known p (Some (own.Sequence place)) w name e f h = elim h [ ]
 
     named_in : (words : List Token) (name : Name) →
-        IsNameOf (meaning s words) (column_of cs (path_text words)) name → IsNamed suite name
+        IsNameOf (meaning s words) (column_of cs (path_text words)) name → IsSuiteName suite name
     named_in words name h =
         let p = path_text words in
         name_known p (s.own p) (s.dump p) name refl refl h
 
     abbrev AreNamed : Term → Type 0
-    AreNamed e = Each (OfName (IsNamed suite)) e
+    AreNamed e = EachPart (OfName (IsSuiteName suite)) e
 
     binary_named : (op : Binary) (a b : Term) → AreNamed a → AreNamed b →
         AreNamed (binary_term op a b)
@@ -193,7 +193,7 @@ module _ (s : Scope) (cs : List (List ℕ)) where
     moved a e is h = subst AreNamed (sym is) h
 
     read_named : (words : List Token) (x : Option Select) (e : Term) →
-        IsRead (meaning s words) (column_of cs (path_text words)) x e → AreNamed e
+        IsReference (meaning s words) (column_of cs (path_text words)) x e → AreNamed e
     read_named words None e h = moved (terms.named h.name) e h.is (named_in words h.name h.names)
     read_named words (Some x) e h =
         moved (terms.slice h.part) e h.is (named_in words h.part.name h.names)

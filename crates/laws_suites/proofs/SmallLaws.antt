@@ -15,19 +15,19 @@ use Rattle.assertions.specs.declared.assertion.Assertion.{Assertion}
 use Rattle.assertions.specs.declared.suite.Suite.{Suite}
 use Rattle.assertions.specs.Written.{Written, weight}
 use Rattle.assertions.specs.Shapes.{written_form}
-use Rattle.compiler_reads.specs.Names.{expression_names}
+use Rattle.assertions.specs.Names.{expression_names}
 use Rattle.compiler_expressions.specs.Chosen.{term_found, terms_at}
-use Rattle.compiler_expressions.specs.Laws.{Each, IsNoChange, size}
+use Rattle.compiler_expressions.specs.Laws.{EachPart, IsNoChange, size}
 use Rattle.compiler_positions.specs.Laws.{IsPlain, booleans}
 use Rattle.types_sequences.specs.Drafts.{Draft}
 use Rattle.types_sequences.specs.Outlines.{map_written}
-use Rattle.types_sequences.specs.Leaves.{leaves, place_in, places_of, is_one, form_of}
+use Rattle.types_sequences.specs.Leaves.{leaves, place_listed, sequence_places, is_one, form_of}
 use Rattle.types_sequences.proofs.MapLaws.{weight_map, spells_one}
 use Rattle.types_names.specs.Scopes.{Scope}
 use Rattle.types_names.specs.Asked.{scope_for}
 use Rattle.types_names.specs.Columns.{columns_of}
 use Rattle.types_suites.specs.Texts.{declarations_of, assertions_of}
-use Rattle.types_suites.specs.Readings.{IsAtom, AllRead}
+use Rattle.types_suites.specs.Readings.{IsBooleanOf, AllRead}
 use Rattle.types_suites.specs.Suites.{IsMeant, IsDisabledBy, off_places, IsAssertion, AreAssertions}
 use Rattle.compiler.specs.Readings.{boolean_terms}
 use Rattle.compiler.specs.Small.{IsSmallSide, IsSmall}
@@ -69,12 +69,12 @@ module _ (s : Scope) (cs : List (List ℕ)) (bs : List Expr) where
       found None h = omega (arith, h)
       found (Some e) h = omega (arith, sum_by-cons size (term_of e) (terms_at bs ps), h)
 
-  terms_still : (ps : List ℕ) → AllByRecursion IsQuietAt ps → AllByRecursion (Each IsNoChange) (terms_at bs ps)
+  terms_still : (ps : List ℕ) → AllByRecursion IsQuietAt ps → AllByRecursion (EachPart IsNoChange) (terms_at bs ps)
   terms_still [] h = tt
   terms_still (p ∷ ps) h = found (slice_get bs p) h.0 (terms_still ps h.1)
     where
-      found : (o : Option Expr) → IsQuietFound o → AllByRecursion (Each IsNoChange) (terms_at bs ps) →
-          AllByRecursion (Each IsNoChange) (term_found o (terms_at bs ps))
+      found : (o : Option Expr) → IsQuietFound o → AllByRecursion (EachPart IsNoChange) (terms_at bs ps) →
+          AllByRecursion (EachPart IsNoChange) (term_found o (terms_at bs ps))
       found None q k = k
       found (Some e) q k = (q.still, k)
 
@@ -92,7 +92,7 @@ module _ (s : Scope) (cs : List (List ℕ)) (bs : List Expr) where
       (quiet_names (slice_get bs p) h.0) (names_quiet ps h.1) n c
 
   -- places of expressions of the text
-  atom_found : (t : Tree) (p : ℕ) (h : IsAtom s cs bs t (Listed p)) → slice_get bs p ≡ Some h.expression
+  atom_found : (t : Tree) (p : ℕ) (h : IsBooleanOf s cs bs t (Listed p)) → slice_get bs p ≡ Some h.expression
   atom_found t p h =
       let is : Listed p ≡ Listed h.place = h.is in
       let same : p ≡ h.place = cc in
@@ -143,15 +143,15 @@ module _ (s : Scope) (cs : List (List ℕ)) (bs : List Expr) where
     abbrev side_written : Written Leaf
     side_written = map_written (second_of s cs bs) both.both
 
-    side_zip : AllZip (IsPlaceOf s cs bs) (places_of m.meant) (expressions_of side_written)
+    side_zip : AllZip (IsPlaceOf s cs bs) (sequence_places m.meant) (expressions_of side_written)
     side_zip =
         let z = both.both in
         let one = sym (leaves_map (first_of s cs bs) z) ∙ ap leaves both.first in
         let two = sym (leaves_map (second_of s cs bs) z) in
-        subst (λ (xs : List Boolean). AllZip (IsPlaceOf s cs bs) (flat_map place_in xs)
+        subst (λ (xs : List Boolean). AllZip (IsPlaceOf s cs bs) (flat_map place_listed xs)
         (flat_map given (leaves side_written))) one
         (subst (λ (xs : List Leaf). AllZip (IsPlaceOf s cs bs)
-        (flat_map place_in (map (first_of s cs bs) (leaves z))) (flat_map given xs)) two
+        (flat_map place_listed (map (first_of s cs bs) (leaves z))) (flat_map given xs)) two
         (pairs_zip s cs bs (leaves z)))
 
     side_small : IsSmallSide side_written → IsSmallSide made
@@ -226,16 +226,16 @@ module _ (suite : Suite) (s : Scope) (cs : List (List ℕ)) (items : List ItemFo
       -- the places of all that is meant, as often as it is written
       abbrev meant_places : List ℕ
       meant_places =
-          places_of h.antecedent_meant.meant ++ (places_of h.consequent_meant.meant ++ off_places h.off)
+          sequence_places h.antecedent_meant.meant ++ (sequence_places h.consequent_meant.meant ++ off_places h.off)
 
       all_zip : AllZip (IsPlaceOf s cs bs) meant_places (all_expressions a before behind)
       all_zip =
-          zip_two s cs bs (places_of h.antecedent_meant.meant)
-          (places_of h.consequent_meant.meant ++ off_places h.off) (expressions_of before)
+          zip_two s cs bs (sequence_places h.antecedent_meant.meant)
+          (sequence_places h.consequent_meant.meant ++ off_places h.off) (expressions_of before)
           (expressions_of behind ++ given a.disable)
           (side_zip s cs bs bodies (tree_bodies s items) made.booleans.items h.antecedent
           (antecedent_trees s a.property) (written_form made.antecedent) h.antecedent_meant v)
-          (zip_two s cs bs (places_of h.consequent_meant.meant) (off_places h.off) (expressions_of behind)
+          (zip_two s cs bs (sequence_places h.consequent_meant.meant) (off_places h.off) (expressions_of behind)
           (given a.disable)
           (side_zip s cs bs bodies (tree_bodies s items) made.booleans.items h.consequent
           (consequent_trees s a.property) (written_form made.consequent) h.consequent_meant w)
@@ -245,11 +245,11 @@ module _ (suite : Suite) (s : Scope) (cs : List (List ℕ)) (items : List ItemFo
       list_fewer g P =
           let one = h.antecedent_meant in
           let two = h.consequent_meant in
-          let rest = places_of two.kept ++ off_places h.off in
+          let rest = sequence_places two.kept ++ off_places h.off in
           subst (λ (ps : List ℕ). Fewer g P ps meant_places) (sym h.list)
-          (fewer_two g P (places_of one.kept) rest (places_of one.meant)
-          (places_of two.meant ++ off_places h.off) (places_kept g P one.meant one.kept one.trimmed)
-          (fewer_two g P (places_of two.kept) (off_places h.off) (places_of two.meant) (off_places h.off)
+          (fewer_two g P (sequence_places one.kept) rest (sequence_places one.meant)
+          (sequence_places two.meant ++ off_places h.off) (places_kept g P one.meant one.kept one.trimmed)
+          (fewer_two g P (sequence_places two.kept) (off_places h.off) (sequence_places two.meant) (off_places h.off)
           (places_kept g P two.meant two.kept two.trimmed) (fewer_same g P (off_places h.off))))
 
       has_many : 127 < length made.booleans.items → HasManyBooleans s items a

@@ -12,7 +12,7 @@ use Rattle.expressions.specs.declared.name.Origin.TheVariants as origins
 use Rattle.expressions.specs.declared.name.Name.{Name}
 use Rattle.expressions.specs.Terms as terms
 use Rattle.expressions.specs.Terms.{Term}
-use Rattle.compiler_reads.specs.Names.{names_in}
+use Rattle.assertions.specs.Names.{names_in}
 use Rattle.types_names.specs.declared.own.Own.TheVariants.{Counter, Sequence}
 use Rattle.types_names.specs.declared.own.Meaning.{Meaning}
 use Rattle.types_names.specs.declared.own.Meaning.TheVariants.{Signal, Own as Declared}
@@ -26,9 +26,9 @@ use Rattle.types_names.specs.declared.operator.Call.TheVariants as calls
 use Rattle.types_names.specs.Scopes.{Scope, path_text, meaning}
 use Rattle.types_names.specs.Columns.{column_of}
 use Rattle.types_names.specs.Width.{binary_of, unary_of, call_of, ticks_of}
-use Rattle.types_expressions.specs.Meanings.{binary_term, unary_term, call_term, IsNameOf, IsRead}
+use Rattle.types_expressions.specs.Meanings.{binary_term, unary_term, call_term, IsNameOf, IsReference}
 use Rattle.types_expressions.specs.Meanings.{Means, Chains, Joins, JoinsMore}
-use Rattle.compiler_expressions.specs.Laws.{Each, IsNoChange, size}
+use Rattle.compiler_expressions.specs.Laws.{EachPart, IsNoChange, size}
 use Rattle.laws_suites.specs.WrittenOut.{tree_size, links_size, parts_size}
 use Rattle.laws_suites.specs.Small.{IsNoCounter, IsStill, AreStillLinks, AreStillParts}
 
@@ -49,7 +49,7 @@ call_size (calls.Reduce op) a = refl
 
 module _ (s : Scope) (cs : List (List ℕ)) where
   read_size : (means : Option Meaning) (column : Option ℕ) (x : Option Select) (e : Term) →
-      IsRead means column x e → size e ≡ 1
+      IsReference means column x e → size e ≡ 1
   read_size means column None e h = ap size h.is
   read_size means column (Some x) e h = ap size h.is
 
@@ -110,7 +110,7 @@ module _ (s : Scope) (cs : List (List ℕ)) where
 
 -- no call, and signals alone
 pub record IsQuiet (e : Term) : Type 0 where
-  pub still : Each IsNoChange e
+  pub still : EachPart IsNoChange e
   pub signals : (n : Name) → Contains (names_in e) n → n.origin ≡ origins.Signal
 
 pub none_there : {X : Type 0} (x : X) → Contains [] x → ⊥
@@ -165,7 +165,7 @@ name_signal (Some (Declared (Counter place width))) column name q h = elim q [ ]
 name_signal (Some (Declared (Sequence place))) column name q h = elim h [ ]
 
 quiet_read : (means : Option Meaning) (column : Option ℕ) (x : Option Select) (e : Term) → IsNoCounter means →
-    IsRead means column x e → IsQuiet e
+    IsReference means column x e → IsQuiet e
 quiet_read means column None e q h =
     quiet_same (terms.named h.name) e h.is
     (record {

@@ -13,7 +13,7 @@ use Rattle.assertions.specs.Written.{Written, boolean, delay, lead, repeat, or, 
 use Rattle.assertions.specs.Written.{IsOrdered}
 use Rattle.assertions.specs.Emptiness.{admits_empty}
 use Rattle.types_sequences.specs.Trimmed.{weightless_form, IsReplaced, IsTrimmed}
-use Rattle.types_sequences.specs.Leaves.{leaves, place_in, places_of}
+use Rattle.types_sequences.specs.Leaves.{leaves, place_listed, sequence_places}
 use Rattle.compiler_positions.specs.Laws.{IsPlain, booleans}
 
 zero_factor : (a b : ℕ) → a * b ≡ 0 → (a ≡ 0) ⊎ (b ≡ 0)
@@ -200,29 +200,32 @@ module _ (g : ℕ → ℕ) (P : ℕ → Type 0) where
         all = λ a. all_two xs ys (h.all (all_first us vs a)) (k.all (all_second us vs a));
       }
 
-  places_two : (xs ys us vs : List Boolean) → Fewer g P (flat_map place_in xs) (flat_map place_in us) →
-      Fewer g P (flat_map place_in ys) (flat_map place_in vs) →
-      Fewer g P (flat_map place_in (xs ++ ys)) (flat_map place_in (us ++ vs))
+  places_two : (xs ys us vs : List Boolean) → Fewer g P (flat_map place_listed xs) (flat_map place_listed us) →
+      Fewer g P (flat_map place_listed ys) (flat_map place_listed vs) →
+      Fewer g P (flat_map place_listed (xs ++ ys)) (flat_map place_listed (us ++ vs))
   places_two xs ys us vs h k =
-      subst (λ (ps : List ℕ). Fewer g P ps (flat_map place_in (us ++ vs))) (sym (flat_map-append place_in xs ys))
-      (subst (λ (ps : List ℕ). Fewer g P (flat_map place_in xs ++ flat_map place_in ys) ps)
-      (sym (flat_map-append place_in us vs))
-      (fewer_two (flat_map place_in xs) (flat_map place_in ys) (flat_map place_in us) (flat_map place_in vs) h k))
+      subst (λ (ps : List ℕ). Fewer g P ps (flat_map place_listed (us ++ vs)))
+      (sym (flat_map-append place_listed xs ys))
+      (subst (λ (ps : List ℕ). Fewer g P (flat_map place_listed xs ++ flat_map place_listed ys) ps)
+      (sym (flat_map-append place_listed us vs))
+      (fewer_two (flat_map place_listed xs) (flat_map place_listed ys) (flat_map place_listed us)
+      (flat_map place_listed vs) h k))
 
-  nothing_placed : (b : Bool) → places_of (weightless_form One b) ≡ []
+  nothing_placed : (b : Bool) → sequence_places (weightless_form One b) ≡ []
   nothing_placed true = refl
   nothing_placed false = refl
 
-  replaced_fewer : (w u : Written Boolean) → IsReplaced One w u → Fewer g P (places_of u) (places_of w)
+  replaced_fewer : (w u : Written Boolean) → IsReplaced One w u → Fewer g P (sequence_places u) (sequence_places w)
   replaced_fewer w u h =
-      subst (λ (ps : List ℕ). Fewer g P ps (places_of w))
-      (sym (ap places_of h.is ∙ nothing_placed (admits_empty w))) (fewer_none (places_of w))
+      subst (λ (ps : List ℕ). Fewer g P ps (sequence_places w))
+      (sym (ap sequence_places h.is ∙ nothing_placed (admits_empty w))) (fewer_none (sequence_places w))
 
-  on_two : (u a : Written Boolean) (ys : List ℕ) → u ≡ a → Fewer g P (places_of a) ys → Fewer g P (places_of u) ys
-  on_two u a ys is h = subst (λ (x : Written Boolean). Fewer g P (places_of x) ys) (sym is) h
+  on_two : (u a : Written Boolean) (ys : List ℕ) → u ≡ a → Fewer g P (sequence_places a) ys
+      → Fewer g P (sequence_places u) ys
+  on_two u a ys is h = subst (λ (x : Written Boolean). Fewer g P (sequence_places x) ys) (sym is) h
 
-  pub places_kept : (w u : Written Boolean) → IsTrimmed One w u → Fewer g P (places_of u) (places_of w)
-  places_kept (boolean b) u h = on_two u (boolean b) _ h (fewer_same (places_of (boolean b)))
+  pub places_kept : (w u : Written Boolean) → IsTrimmed One w u → Fewer g P (sequence_places u) (sequence_places w)
+  places_kept (boolean b) u h = on_two u (boolean b) _ h (fewer_same (sequence_places (boolean b)))
   places_kept (delay r least most s) u (inl h) = replaced_fewer (delay r least most s) u h
   places_kept (delay r least most s) u (inr h) =
       on_two u (delay h.0 least most h.1) _ h.4
@@ -246,5 +249,5 @@ module _ (g : ℕ → ℕ) (P : ℕ → Type 0) where
   places_kept (throughout b r) u (inl h) = replaced_fewer (throughout b r) u h
   places_kept (throughout b r) u (inr h) =
       on_two u (throughout b h.0) _ h.2
-      (places_two (b ∷ []) (leaves h.0) (b ∷ []) (leaves r) (fewer_same (places_of (boolean b)))
+      (places_two (b ∷ []) (leaves h.0) (b ∷ []) (leaves r) (fewer_same (sequence_places (boolean b)))
       (places_kept r h.0 h.1))

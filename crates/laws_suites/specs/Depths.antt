@@ -6,14 +6,14 @@ use Rattle.parser_grammar.specs.Files.{IsFile, most_open}
 use Rattle.expressions.specs.Terms.{Term}
 use Rattle.types_names.specs.Scopes.{Scope}
 use Rattle.types_expressions.specs.Meanings.{Means}
-use Rattle.compiler_expressions.specs.Laws.{Each}
+use Rattle.compiler_expressions.specs.Laws.{EachPart}
 use Rattle.compiler_expressions.specs.Depths.{depth, IsShortPast}
 use Rattle.laws_suites.specs.TextTrees.{EachTree}
 
 -- At most 64 brackets and operators are open at once in it, and no $past looks back over 64 ticks.
 pub record IsShallow (e : Term) : Type 0 where
   pub shallow : depth e ≤ most_open
-  pub near : Each IsShortPast e
+  pub near : EachPart IsShortPast e
 
 -- What an expression of a text means is so.
 abbrev pub MeansShallow : Scope → List (List ℕ) → Tree → Type 0

@@ -9,7 +9,7 @@ use Rattle.assertions.specs.declared.suite.Suite.{Suite}
 use Rattle.types_names.specs.Asked.{scope_for}
 use Rattle.types_suites.specs.Suites.{IsSuite}
 use Rattle.types_suites.specs.Faults.{IsFaultless}
-use Rattle.compiler.specs.Conditions.{IsFit}
+use Rattle.compiler.specs.Conditions.{FitsSuite}
 
 -- The text's bytes are cut into tokens, these spell items in which no fault of types stands over
 -- the dump's paths, which have these widths, and the suite says what the items say.
@@ -25,4 +25,4 @@ pub record SaysOver (widths : List ℕ → Option ℕ) (text : List ℕ) (suite 
 abbrev pub SuitesFit : Type 0
 SuitesFit =
     (widths : List ℕ → Option ℕ) (text : List ℕ) (suite : Suite) → SaysOver widths text suite →
-    AllByRecursion (IsFit suite) suite.assertions.items
+    AllByRecursion (FitsSuite suite) suite.assertions.items

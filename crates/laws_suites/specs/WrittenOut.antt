@@ -12,7 +12,7 @@ use Rattle.parser_grammar.specs.Trees.{Steps, no_step, step, Others, no_other, o
 use Rattle.parser_grammar.specs.Trees.{PropertyForm, plain, implication, AssertionForm, ItemForm}
 use Rattle.assertions.specs.Written.{Written}
 use Rattle.types_sequences.specs.Drafts as drafts
-use Rattle.types_sequences.specs.Drafts.{Draft, Spells}
+use Rattle.types_sequences.specs.Drafts.{Draft, IsWrittenOut}
 use Rattle.types_sequences.specs.Implications.{rewritten_antecedent}
 use Rattle.types_sequences.specs.Leaves.{leaves}
 use Rattle.types_names.specs.Scopes.{Scope, sequence_named}
@@ -64,8 +64,8 @@ consequent_trees s (implication word a i c) = trees_in s c
 -- The two sides of an assertion, with the names written out.
 pub record AreWrittenOut (s : Scope) (items : List ItemForm) (a : AssertionForm)
     (before behind : Written Leaf) : Type 0 where
-  pub antecedent : Spells (tree_bodies s items) (antecedent_trees s a.property) before
-  pub consequent : Spells (tree_bodies s items) (consequent_trees s a.property) behind
+  pub antecedent : IsWrittenOut (tree_bodies s items) (antecedent_trees s a.property) before
+  pub consequent : IsWrittenOut (tree_bodies s items) (consequent_trees s a.property) behind
 
 abbrev pub given : Leaf → List Tree
 given None = []

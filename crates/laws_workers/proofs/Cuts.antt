@@ -36,9 +36,9 @@ use Rattle.assertions.specs.Segments.{Seq}
 use Rattle.assertions.specs.Attempts.{Antecedent, verdict}
 use Rattle.machine_definition.specs.Outcomes.{Ran, done, and_then}
 use Rattle.machine_definition.specs.Machine.{State, Outcome, opening, clocks}
-use Rattle.machine_definition.specs.Runs.{behind, run_from}
-use Rattle.machine_sections.specs.Monitors.{monitor_of}
-use Rattle.machine_sections.specs.Standing.{select, falls_at, is_open, falling}
+use Rattle.machine_definition.specs.Runs.{outcome_behind, run_from}
+use Rattle.machine_sections.specs.Monitors.{program_monitor}
+use Rattle.machine_sections.specs.Standing.{select_ticks, falls_at, is_open, falling}
 use Rattle.machine_sections.specs.History.{SamplesAs}
 use Rattle.machine_sections.specs.Laws.{Watches, Fills, fallen, open_starts, starts_of, all_fallen}
 use Rattle.machine_sections.proofs.Selections.{map-same, select-same}
@@ -100,7 +100,7 @@ module _ (p : ProgramData) (rows : List (List ℕ)) (counters : ℕ → List ℕ
     (samples : SamplesAs p (row_of rows) counters atoms (length rows))
     (watches : Watches p atoms value r s) (fills : Fills value s) where
   abbrev v : ℕ → ℕ → Verdict
-  v = verdict value (monitor_of p atoms).off r s
+  v = verdict value (program_monitor p atoms).off r s
 
   abbrev over : ℕ → Verdict
   over = v (length rows)

@@ -41,17 +41,17 @@ use Rattle.verifier.specs.Programs.{IsAccepted}
 use Rattle.vcd_reader.specs.Variables.{variable_named}
 use Rattle.vcd_reader.specs.Dump.{Contents}
 use Rattle.cycle_window.specs.Ticks.{ticks_of, sample, row_of}
-use Rattle.machine_sections.specs.Monitors.{monitor_of}
+use Rattle.machine_sections.specs.Monitors.{program_monitor}
 use Rattle.machine_sections.specs.History.{SamplesAs}
 use Rattle.machine_sections.specs.Laws.{open_starts, starts_of}
 use Rattle.machine_definition.specs.Outcomes.{done}
 use Rattle.machine_definition.specs.Machine.{State, opening, clocks}
 use Rattle.machine_runs.specs.Batches.{batch_of}
 use Rattle.laws_programs.specs.LineLaws.{row_of as row_at}
-use Rattle.compiler_reads.specs.Reads.{Reads}
+use Rattle.assertions.specs.Reads.{Reads}
 use Rattle.compiler.specs.Programs.{IsSlotOf, IsProgramOf}
 use Rattle.compiler.proofs.ListLaws.{some-one}
-use Rattle.laws_programs.specs.Laws.{AreRowsOf, picked}
+use Rattle.laws_programs.specs.Laws.{AreSuiteRows, picked_row}
 use Rattle.laws_programs.proofs.Samples as made
 use Rattle.laws_programs.proofs.Decides as decides
 use Rattle.workers_core.specs.States.{MonitorState, BatchState, place}
@@ -68,13 +68,13 @@ use Rattle.laws_workers.specs.Headline.{
 use Rattle.laws_workers.proofs.Cuts as cuts
 
 module _ (suite : Suite) (a : Assertion) (p : ProgramData) (of : IsProgramOf suite a p)
-    (rows : List (List ℕ)) (fit : AreRowsOf suite rows) (accepted : IsAccepted p)
+    (rows : List (List ℕ)) (fit : AreSuiteRows suite rows) (accepted : IsAccepted p)
     (verdict_at : ℕ → Verdict) (are : AreVerdictsOf suite rows a verdict_at) where
   abbrev own : List (List ℕ)
-  own = map (picked of.layout.signals) rows
+  own = map (picked_row of.layout.signals) rows
 
   long : length rows ≡ length own
-  long = sym (length-map rows (picked of.layout.signals))
+  long = sym (length-map rows (picked_row of.layout.signals))
 
   abbrev value : Boolean → ℕ → Bool
   value = decides.value suite a p of rows fit
@@ -90,13 +90,13 @@ module _ (suite : Suite) (a : Assertion) (p : ProgramData) (of : IsProgramOf sui
   -- the verdict that is computed
   abbrev meant : ℕ → Verdict
   meant =
-      verdict value (monitor_of p atoms).off (antecedent_of a) (shape a.consequent) (length own)
+      verdict value (program_monitor p atoms).off (antecedent_of a) (shape a.consequent) (length own)
 
   same : (c : ℕ) → c < length own → meant c ≡ verdict_at c
   same c below =
-      IsVerdict-only Boolean value (monitor_of p atoms).off (antecedent_of a)
+      IsVerdict-only Boolean value (program_monitor p atoms).off (antecedent_of a)
       (shape a.consequent) (length own) c (verdict_at c)
-      (subst (λ n. IsVerdict value (monitor_of p atoms).off (antecedent_of a)
+      (subst (λ n. IsVerdict value (program_monitor p atoms).off (antecedent_of a)
       (shape a.consequent) n c (verdict_at c)) long
       (subst (λ (off : ℕ → Bool).
       IsVerdict value off (antecedent_of a) (shape a.consequent) (length rows) c
@@ -136,7 +136,7 @@ module _ (c : Contents) (code : ℕ) (suite : Suite) (a : Assertion) (rows : Lis
   cells : (k : ℕ) → k < length rows → (places : List ℕ) (slots : List SlotData) → AllByRecursion Reading places
       → AllZip (IsSlotOf suite) places slots
       → map (sample c (slice_index (ticks_of c code) k)) (filter_map named slots)
-      ≡ picked places (slice_index_or rows k [])
+      ≡ picked_row places (slice_index_or rows k [])
   cells k lt [] [] reads h = refl
   cells k lt [] (s ∷ slots) reads h = absurd h
   cells k lt (p ∷ places) [] reads h = absurd h
@@ -150,12 +150,13 @@ module _ (c : Contents) (code : ℕ) (suite : Suite) (a : Assertion) (rows : Lis
 
   row-same : (p : ProgramData) (places : List ℕ) → AllByRecursion Reading places
       → AllZip (IsSlotOf suite) places p.signals → (k : ℕ) → k < length rows
-      → row_of c (sampled c.variables p) (slice_index (ticks_of c code) k) ≡ picked places (slice_index_or rows k [])
+      → row_of c (sampled c.variables p) (slice_index (ticks_of c code) k)
+      ≡ picked_row places (slice_index_or rows k [])
   unfolding row_of
   row-same p places reads slots k lt = cells k lt places p.signals reads slots
 
   pub own-rows : (p : ProgramData) (of : IsProgramOf suite a p)
-      → map (row_of c (sampled c.variables p)) (ticks_of c code) ≡ map (picked of.layout.signals) rows
+      → map (row_of c (sampled c.variables p)) (ticks_of c code) ≡ map (picked_row of.layout.signals) rows
   own-rows p of =
       let ticks = ticks_of c code in
       let variables = sampled c.variables p in
@@ -165,14 +166,14 @@ module _ (c : Contents) (code : ℕ) (suite : Suite) (a : Assertion) (rows : Lis
       (All-weaker (Contains places) Reading (λ place at. (of.reads_signals.exactly place).0 at) places
       (All-contains_itself places)) in
       let left : length (map (row_of c variables) ticks) ≡ length ticks = length-map ticks (row_of c variables) in
-      let right : length (map (picked places) rows) ≡ length rows = length-map rows (picked places) in
-      same_lists (map (row_of c variables) ticks) (map (picked places) rows) (left ∙ sym read.ticks ∙ sym right)
+      let right : length (map (picked_row places) rows) ≡ length rows = length-map rows (picked_row places) in
+      same_lists (map (row_of c variables) ticks) (map (picked_row places) rows) (left ∙ sym read.ticks ∙ sym right)
       (λ k d lt.
       let below : k < length ticks = omega (arith, lt, left) in
       let within : k < length rows = omega (arith, below, read.ticks) in
       get_or-map (row_of c variables) ticks k 0 d below
       ∙ row-same p places reads of.slots k within
-      ∙ sym (get_or-map (picked places) rows k [] d within))
+      ∙ sym (get_or-map (picked_row places) rows k [] d within))
 
 -- the monitor of a program
 record Runs (ms : List MonitorState) (i : ℕ) (p : ProgramData) : Type 0 where
@@ -194,7 +195,7 @@ as-meant v c follows number p is suite a of rows read verdict_at are =
     (ap (λ (ps : List ProgramData). slice_get ps number) follows.programs ∙ is) in
     let accepted : IsAccepted p =
     subst IsAccepted run.is (follows.accepted number run.monitor run.at) in
-    let own : rows_over v.job c p ≡ map (picked of.layout.signals) rows =
+    let own : rows_over v.job c p ≡ map (picked_row of.layout.signals) rows =
     own-rows c v.job.code suite a rows read p of in
     record {
       batches = λ n b at mine.

@@ -10,8 +10,8 @@ use Rattle.workers_core.specs.States.{
   BatchState,
   Setting,
   place,
-  moved,
-  cleared,
+  monitor_moved,
+  monitor_cleared,
   batch,
 }
 use Rattle.laws_workers.specs.Rounds.{IsWaiting, further}
@@ -45,8 +45,8 @@ module _ (g : Setting) (a b k : ℕ) (m : MonitorState) (h : IsWaiting g a m) (a
 
   further-is : further g k m ≡ new
   further-is =
-      ap (λ (over : List (List ℕ)). moved m (run_from m.program m.state over)) over-is
-      ∙ ap (moved m) ran.ran
+      ap (λ (over : List (List ℕ)). monitor_moved m (run_from m.program m.state over)) over-is
+      ∙ ap (monitor_moved m) ran.ran
 
   new-now : place new ≡ b
   new-now =
@@ -61,7 +61,7 @@ module _ (g : Setting) (a b k : ℕ) (m : MonitorState) (h : IsWaiting g a m) (a
   pub goes : Goes g a b k m
   goes = record { now = h.now; to = ap place further-is ∙ new-now }
 
-  new-waits : IsWaiting g b (cleared new)
+  new-waits : IsWaiting g b (monitor_cleared new)
   new-waits =
       record {
         accepted = h.accepted;
@@ -73,8 +73,8 @@ module _ (g : Setting) (a b k : ℕ) (m : MonitorState) (h : IsWaiting g a m) (a
             (omega (arith, all)) come;
       }
 
-  pub waits : IsWaiting g b (cleared (further g k m))
-  waits = subst (λ (x : MonitorState). IsWaiting g b (cleared x)) (sym further-is) new-waits
+  pub waits : IsWaiting g b (monitor_cleared (further g k m))
+  waits = subst (λ (x : MonitorState). IsWaiting g b (monitor_cleared x)) (sym further-is) new-waits
 
   abbrev told : ℕ → ℕ → ℕ → List Decided → BatchState
   told i first last decided =

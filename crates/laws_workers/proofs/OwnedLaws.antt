@@ -31,11 +31,11 @@ use Rattle.std.proofs.lemmas.Option.{slice_get_within}
 use Rattle.workers_core.proofs.CorePartLaws.{each-set}
 use Rattle.laws_workers.specs.Steps.{owned_from, owned_by, owned_lists}
 use Rattle.laws_workers.specs.Rounds.{AreOwners}
-use Rattle.laws_workers.specs.Owners.{RisesFrom, Rises, total, AreDealt}
+use Rattle.laws_workers.specs.Owners.{AreRisingFrom, AreRising, total, AreDealt}
 use Rattle.laws_workers.proofs.ListLaws.{written, unwritten, mapped}
 
 -- rising numbers rise from less, too
-rises-low : (low high : ℕ) (xs : List ℕ) → low ≤ high → RisesFrom high xs → RisesFrom low xs
+rises-low : (low high : ℕ) (xs : List ℕ) → low ≤ high → AreRisingFrom high xs → AreRisingFrom low xs
 rises-low low high [] le h = tt
 rises-low low high (x ∷ xs) le h = (omega (arith, le, h.0), h.1)
 
@@ -43,11 +43,11 @@ rises-low low high (x ∷ xs) le h = (omega (arith, le, h.0), h.1)
 abbrev pub front : Bool → ℕ → List ℕ → List ℕ
 front b x xs = cond b (x ∷ xs) xs
 
-front-rises : (b : Bool) (x : ℕ) (xs : List ℕ) → RisesFrom (x + 1) xs → RisesFrom x (front b x xs)
+front-rises : (b : Bool) (x : ℕ) (xs : List ℕ) → AreRisingFrom (x + 1) xs → AreRisingFrom x (front b x xs)
 front-rises true x xs h = (omega arith, h)
 front-rises false x xs h = rises-low x (x + 1) xs (omega arith) h
 
-owned-rises : (owners : List ℕ) (low w : ℕ) → RisesFrom low (owned_from low owners w)
+owned-rises : (owners : List ℕ) (low w : ℕ) → AreRisingFrom low (owned_from low owners w)
 owned-rises [] low w = tt
 owned-rises (v ∷ owners) low w =
     front-rises (v == w) low (owned_from (low + 1) owners w) (owned-rises owners (low + 1) w)
@@ -114,7 +114,7 @@ owners-are-dealt monitors crew owners o =
     record {
       rise = λ w xs is.
           let r = mapped (owned_by owners) (range_with_len 0 crew) w xs is in
-          subst Rises r.same (owned-rises owners 0 r.of);
+          subst AreRising r.same (owned-rises owners 0 r.of);
       all = λ h.
           weighed-all h crew owners 0 o.known
           ∙ ap (λ (n : ℕ). total h (range_with_len 0 n)) o.each;
@@ -122,13 +122,13 @@ owners-are-dealt monitors crew owners o =
 
 -- each of lists rises
 abbrev AllRise : ℕ → List (List ℕ) → Type 0
-AllRise low lists = (w : ℕ) (xs : List ℕ) → slice_get lists w ≡ Some xs → RisesFrom low xs
+AllRise low lists = (w : ℕ) (xs : List ℕ) → slice_get lists w ≡ Some xs → AreRisingFrom low xs
 
 -- how often a number is there
 abbrev only : ℕ → ℕ → ℕ
 only low x = cond (x == low) 1 0
 
-only-above : (low : ℕ) (xs : List ℕ) → RisesFrom (low + 1) xs → total (only low) xs ≡ 0
+only-above : (low : ℕ) (xs : List ℕ) → AreRisingFrom (low + 1) xs → total (only low) xs ≡ 0
 only-above low [] h = refl
 only-above low (x ∷ xs) h =
     let no : (x == low) ≡ false = grind (arith, h.0) in
@@ -136,13 +136,13 @@ only-above low (x ∷ xs) h =
     let rest = only-above low xs (rises-low (low + 1) (x + 1) xs (omega (arith, h.0)) h.1) in
     omega (arith, none, rest)
 
-range-rises : (a n : ℕ) → RisesFrom a (range_with_len a n)
+range-rises : (a n : ℕ) → AreRisingFrom a (range_with_len a n)
 range-rises a zero = tt
 range-rises a (suc n) = (omega arith, range-rises (a + 1) n)
 
 -- those that rise from low, and don't have it, rise from the next
-rises-more : (low : ℕ) (xs : List ℕ) → RisesFrom low xs → total (only low) xs ≡ 0
-    → RisesFrom (low + 1) xs
+rises-more : (low : ℕ) (xs : List ℕ) → AreRisingFrom low xs → total (only low) xs ≡ 0
+    → AreRisingFrom (low + 1) xs
 rises-more low [] h none = tt
 rises-more low (x ∷ xs) h none =
     let other : (x ≡ low → ⊥) = λ is.
@@ -162,7 +162,7 @@ later : (low : ℕ) (xs : List ℕ) (lists : List (List ℕ)) → HasFront low l
 later low xs lists f = record { at = suc f.at; rest = f.rest; is = f.is }
 
 front-step : (low x : ℕ) (xs : List ℕ) (lists : List (List ℕ)) (b : Bool) → (x == low) ≡ b →
-    RisesFrom low (x ∷ xs) → 0 < total (total (only low)) ((x ∷ xs) ∷ lists) →
+    AreRisingFrom low (x ∷ xs) → 0 < total (total (only low)) ((x ∷ xs) ∷ lists) →
     (0 < total (total (only low)) lists → HasFront low lists) → HasFront low ((x ∷ xs) ∷ lists)
 front-step low x xs lists true is h some next =
     let same : x ≡ low = grind (arith, is) in
@@ -266,7 +266,7 @@ owns-from (suc count) low lists rise all =
     let set = total-set (total h) lists f.at (low ∷ f.rest) f.rest f.is in
     omega (arith, set, all h) in
     let still : AllRise low next =
-    each-set (λ w xs. RisesFrom low xs) lists f.at f.rest rise
+    each-set (λ w xs. AreRisingFrom low xs) lists f.at f.rest rise
     (rises-low low (low + 1) f.rest (omega arith) (rise f.at (low ∷ f.rest) f.is).1) in
     let without : total (total (only low)) next ≡ 0 = omega (arith, left (only low), above) in
     let further : AllRise (low + 1) next = λ w xs is.

@@ -6,8 +6,8 @@ use Rattle.std.specs.List.{list_all, range_with_len}
 use Rattle.std.proofs.lemmas.List.{length-map, length-replicate}
 use Rattle.workers_core.specs.declared.step.Step.TheVariants as steps
 use Rattle.workers_core.specs.States.{CoreState, WorkerState, MonitorState, Setting, place, is_at, is_idle}
-use Rattle.workers_core.specs.States.{is_free, cleared, put_done, emptied, next_slide, next_gather}
-use Rattle.laws_workers.specs.Steps.{after, turns, working_steps, round_steps, owned_by, owned_lists}
+use Rattle.workers_core.specs.States.{is_free, monitor_cleared, put_done, emptied, next_slide, next_gather}
+use Rattle.laws_workers.specs.Steps.{state_after, turns, working_steps, round_steps, owned_by, owned_lists}
 use Rattle.laws_workers.specs.Rounds.{IsWaiting, IsAtRest, AreOwners, with_done, next_end, next_clocks}
 use Rattle.laws_workers.specs.Rounds.{further, all_further, batches_from, worked, gathered}
 use Rattle.laws_workers.specs.RoundTheorems.{IsRound}
@@ -87,7 +87,7 @@ module _ (g : Setting) (n : ℕ) (owners : List ℕ) (s : CoreState) (h : IsAtRe
       amid a b (all_further g k s.monitors) [] (map with_done (owned_lists owners count))
       (s.board ++ batches_from g k 0 s.monitors)
 
-  working : after g s (working_steps owners k) ≡ Some (worked g owners s)
+  working : state_after g s (working_steps owners k) ≡ Some (worked g owners s)
   working =
       ap (option_and_then (from g (turns owners k))) slides
       ∙ ap (from g (turns owners k)) slid-is
@@ -114,7 +114,7 @@ module _ (g : Setting) (n : ℕ) (owners : List ℕ) (s : CoreState) (h : IsAtRe
       ∙ ap (λ (ws : List ℕ). Some (ended ws (map emptied (crew (owned_by owners) 0 n)))) waiting
       ∙ ap (λ (ws : List WorkerState). Some (ended s.waiting ws)) workers
 
-  whole : after g s (round_steps owners k) ≡ Some (gathered g s)
+  whole : state_after g s (round_steps owners k) ≡ Some (gathered g s)
   whole =
       after-append g (working_steps owners k) (steps.Gather ∷ []) s
       ∙ ap (option_and_then (from g (steps.Gather ∷ []))) working
@@ -124,7 +124,7 @@ module _ (g : Setting) (n : ℕ) (owners : List ℕ) (s : CoreState) (h : IsAtRe
   still-waits : (i : ℕ) (m : MonitorState) → slice_get (all_further g k s.monitors) i ≡ Some m
       → IsWaiting g b m
   still-waits i m is =
-      let r = mapped (λ x. cleared (further g k x)) s.monitors i m is in
+      let r = mapped (λ x. monitor_cleared (further g k x)) s.monitors i m is in
       subst (λ (x : MonitorState). IsWaiting g b x) r.same
       (waits g a b k r.of (h.monitors i r.of r.is) all inside)
 
@@ -132,7 +132,7 @@ module _ (g : Setting) (n : ℕ) (owners : List ℕ) (s : CoreState) (h : IsAtRe
   rests =
       record {
         waiting = h.waiting
-            ∙ ap (range_with_len 0) (sym (length-map s.monitors (λ x. cleared (further g k x))));
+            ∙ ap (range_with_len 0) (sym (length-map s.monitors (λ x. monitor_cleared (further g k x))));
         workers = h.workers;
         monitors = still-waits;
       }

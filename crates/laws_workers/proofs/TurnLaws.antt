@@ -19,7 +19,7 @@ use Rattle.workers_core.specs.States.{
   hand_of,
   held,
   done_of,
-  cleared,
+  monitor_cleared,
   batch,
   with_monitor,
   next,
@@ -28,7 +28,7 @@ use Rattle.workers_core.specs.States.{
   next_publish,
 }
 use Rattle.workers_core.proofs.CorePartLaws.{claimed, advancing, publishing}
-use Rattle.laws_workers.specs.Steps.{after, turns, owned_from}
+use Rattle.laws_workers.specs.Steps.{state_after, turns, owned_from}
 use Rattle.laws_workers.specs.Rounds.{with_done, further, all_further, batches_from}
 use Rattle.laws_workers.proofs.ListLaws.{mid-get, mid-set, written, rewritten}
 use Rattle.laws_workers.proofs.OwnedLaws.{front}
@@ -37,11 +37,11 @@ use Rattle.laws_workers.proofs.MonitorLaws.{Goes}
 
 -- from a state on
 abbrev pub from : Setting → List Step → CoreState → Option CoreState
-from g steps s = after g s steps
+from g steps s = state_after g s steps
 
 -- steps behind steps
 append-step : (g : Setting) (xs ys : List Step) →
-    ((s : CoreState) → after g s (xs ++ ys) ≡ option_and_then (from g ys) (after g s xs)) →
+    ((s : CoreState) → state_after g s (xs ++ ys) ≡ option_and_then (from g ys) (state_after g s xs)) →
     (o : Option CoreState) →
     option_and_then (from g (xs ++ ys)) o
     ≡ option_and_then (from g ys) (option_and_then (from g xs) o)
@@ -49,7 +49,7 @@ append-step g xs ys rest None = refl
 append-step g xs ys rest (Some s) = rest s
 
 pub after-append : (g : Setting) (xs ys : List Step) (s : CoreState)
-    → after g s (xs ++ ys) ≡ option_and_then (from g ys) (after g s xs)
+    → state_after g s (xs ++ ys) ≡ option_and_then (from g ys) (state_after g s xs)
 after-append g [] ys s = refl
 after-append g (x ∷ xs) ys s = append-step g xs ys (λ t. after-append g xs ys t) (next g s x)
 
@@ -157,7 +157,7 @@ module _ (g : Setting) (a b k n v low : ℕ) (before : List MonitorState) (m : M
 
   abbrev told : CoreState
   told =
-      amid a b (slice_set (slice_set monitors low new) low (cleared new)) waiting
+      amid a b (slice_set (slice_set monitors low new) low (monitor_cleared new)) waiting
       (slice_set holding v
       (record { hand = None; done = done_of (slice_get holding v) ++ low ∷ [] }))
       (board ++ batch low new ∷ [])
@@ -168,14 +168,14 @@ module _ (g : Setting) (a b k n v low : ℕ) (before : List MonitorState) (m : M
 
   abbrev end : CoreState
   end =
-      amid a b ((before ++ cleared new ∷ []) ++ rest) waiting (crew (added D v low) 0 n)
+      amid a b ((before ++ monitor_cleared new ∷ []) ++ rest) waiting (crew (added D v low) 0 n)
       (board ++ batch low new ∷ [])
 
-  monitors-are : slice_set (slice_set monitors low new) low (cleared new)
-      ≡ (before ++ cleared new ∷ []) ++ rest
+  monitors-are : slice_set (slice_set monitors low new) low (monitor_cleared new)
+      ≡ (before ++ monitor_cleared new ∷ []) ++ rest
   monitors-are =
-      rewritten monitors low new (cleared new) ∙ mid-set before m (cleared new) rest low behind
-      ∙ sym (append_assoc before (cleared new ∷ []) rest)
+      rewritten monitors low new (monitor_cleared new) ∙ mid-set before m (monitor_cleared new) rest low behind
+      ∙ sym (append_assoc before (monitor_cleared new ∷ []) rest)
 
   workers-are : slice_set holding v
       (record { hand = None; done = done_of (slice_get holding v) ++ low ∷ [] })
@@ -195,12 +195,12 @@ module _ (g : Setting) (a b k n v low : ℕ) (before : List MonitorState) (m : M
       (record { hand = None; done = done_of (slice_get holding v) ++ low ∷ [] }))
       (board ++ batch low new ∷ [])) monitors-are
       ∙ ap (λ (ws : List WorkerState).
-      amid a b ((before ++ cleared new ∷ []) ++ rest) waiting ws (board ++ batch low new ∷ []))
+      amid a b ((before ++ monitor_cleared new ∷ []) ++ rest) waiting ws (board ++ batch low new ∷ []))
       workers-are
 
   turn : (later : List Step)
-      → after g start (steps.Claim v ∷ steps.Advance v k ∷ steps.Publish v ∷ later)
-      ≡ after g end later
+      → state_after g start (steps.Claim v ∷ steps.Advance v k ∷ steps.Publish v ∷ later)
+      ≡ state_after g end later
   turn later =
       ap (option_and_then (from g (steps.Advance v k ∷ steps.Publish v ∷ later))) claims
       ∙ ap (option_and_then (from g (steps.Publish v ∷ later))) advances
@@ -242,11 +242,11 @@ through-none g a b k n low before D board =
 
 through-next : (g : Setting) (a b k n low v : ℕ) (owners : List ℕ) (before : List MonitorState)
     (m : MonitorState) (ms : List MonitorState) (D : ℕ → List ℕ) (board : List BatchState)
-    → through g a b k n (low + 1) (before ++ cleared (further g k m) ∷ []) ms
+    → through g a b k n (low + 1) (before ++ monitor_cleared (further g k m) ∷ []) ms
     (joined (added D v low) (low + 1) owners) (board ++ batch low (further g k m) ∷ [])
     ≡ through g a b k n low before (m ∷ ms) (joined D low (v ∷ owners)) board
 through-next g a b k n low v owners before m ms D board =
-    let x = cleared (further g k m) in
+    let x = monitor_cleared (further g k m) in
     let one = batch low (further g k m) in
     let bs = batches_from g k (low + 1) ms in
     let E = joined (added D v low) (low + 1) owners in
@@ -264,7 +264,7 @@ pub all-turns : (g : Setting) (a b k n : ℕ) → a < b → a + k ≡ b → (own
     (before ms : List MonitorState) (D : ℕ → List ℕ) (board : List BatchState) →
     length before ≡ low → length owners ≡ length ms →
     ((i w : ℕ) → slice_get owners i ≡ Some w → w < n) → EachGoes g a b k ms →
-    after g (amid a b (before ++ ms) (range_with_len low (length ms)) (crew D 0 n) board)
+    state_after g (amid a b (before ++ ms) (range_with_len low (length ms)) (crew D 0 n) board)
     (turns owners k)
     ≡ Some (through g a b k n low before ms (joined D low owners) board)
 all-turns g a b k n some all [] low before [] D board behind same known h =
@@ -274,7 +274,7 @@ all-turns g a b k n some all [] low before (m ∷ ms) D board behind same known 
 all-turns g a b k n some all (v ∷ owners) low before [] D board behind same known h =
     absurd (omega (arith, same))
 all-turns g a b k n some all (v ∷ owners) low before (m ∷ ms) D board behind same known h =
-    let x = cleared (further g k m) in
+    let x = monitor_cleared (further g k m) in
     let longer : length (before ++ x ∷ []) ≡ low + 1 =
     omega (arith, length-append before (x ∷ []), behind) in
     turn g a b k n v low before m ms (range_with_len (low + 1) (length ms)) D board behind

@@ -14,10 +14,10 @@ use Rattle.bytecode.specs.Values.{ProgramData}
 use Rattle.vcd_reader.specs.Variables.{variable_named}
 use Rattle.vcd_reader.specs.Dump.{Contents}
 use Rattle.cycle_window.specs.Ticks.{ticks_of, sample}
-use Rattle.compiler_reads.specs.Reads.{Reads}
+use Rattle.assertions.specs.Reads.{Reads}
 use Rattle.machine_sections.specs.Laws.{fallen, open_starts, starts_of}
 use Rattle.compiler.specs.Programs.{IsProgramOf}
-use Rattle.laws_programs.specs.Laws.{AreRowsOf}
+use Rattle.laws_programs.specs.Laws.{AreSuiteRows}
 use Rattle.workers_core.specs.States.{MonitorState, BatchState, place}
 use Rattle.workers_core.specs.Values.{CoreValue}
 
@@ -54,7 +54,7 @@ pub record IsSampledAt (c : Contents) (code : ℕ) (s : Signal) (rows : List (Li
 pub record ReadTheDump (c : Contents) (code : ℕ) (suite : Suite) (a : Assertion)
     (rows : List (List ℕ)) : Type 0 where
   pub ticks : length rows ≡ length (ticks_of c code)
-  pub fit : AreRowsOf suite rows
+  pub fit : AreSuiteRows suite rows
   pub columns : (place : ℕ) (s : Signal) → Reads suite a origins.Signal place →
       slice_get suite.names.items place ≡ Some s → IsSampledAt c code s rows place
 

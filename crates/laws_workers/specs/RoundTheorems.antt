@@ -6,7 +6,7 @@ use Rattle.vcd_reader.specs.Dump.{Contents}
 use Rattle.cycle_window.specs.Ticks.{ticks_of}
 use Rattle.workers_core.specs.States.{MonitorState, CoreState, Setting, batch}
 use Rattle.workers_core.specs.Values.{JobValue, opening_core, setting_of}
-use Rattle.laws_workers.specs.Steps.{after, working_steps, round_steps, owned_lists}
+use Rattle.laws_workers.specs.Steps.{state_after, working_steps, round_steps, owned_lists}
 use Rattle.laws_workers.specs.Rounds.{IsAtRest, AreOwners, worked, gathered, further, next_clocks}
 use Rattle.laws_workers.specs.Rounds.{round_batch}
 use Rattle.laws_workers.specs.Owners.{AreDealt}
@@ -15,8 +15,8 @@ use Rattle.laws_workers.specs.Owners.{AreDealt}
 -- worker has the monitors that it owns in its done list. What each monitor publishes is the batch
 -- of its program for the clocks of the next window.
 pub record IsRound (g : Setting) (crew : ℕ) (owners : List ℕ) (s : CoreState) : Type 0 where
-  pub working : after g s (working_steps owners (next_clocks g s)) ≡ Some (worked g owners s)
-  pub whole : after g s (round_steps owners (next_clocks g s)) ≡ Some (gathered g s)
+  pub working : state_after g s (working_steps owners (next_clocks g s)) ≡ Some (worked g owners s)
+  pub whole : state_after g s (round_steps owners (next_clocks g s)) ≡ Some (gathered g s)
   pub rests : IsAtRest g crew (gathered g s)
   pub batches : (i : ℕ) (m : MonitorState) → slice_get s.monitors i ≡ Some m →
       batch i (further g (next_clocks g s) m) ≡ round_batch g s i m

@@ -7,7 +7,7 @@ use Rattle.machine_definition.specs.Outcomes.{done}
 use Rattle.machine_definition.specs.Machine.{opening, clocks}
 use Rattle.machine_runs.specs.Batches.{batch_of}
 use Rattle.workers_core.specs.States.{MonitorState, WorkerState, BatchState, CoreState, Setting}
-use Rattle.workers_core.specs.States.{place, advanced, cleared, batch}
+use Rattle.workers_core.specs.States.{place, advanced, monitor_cleared, batch}
 use Rattle.laws_workers.specs.Steps.{owned_lists}
 
 -- The monitor stands at this clock with nothing to publish. Its program is accepted by the
@@ -52,7 +52,7 @@ further g k m = advanced (g.rows m.program) k m
 
 -- the monitors after k clocks more, with nothing left to publish
 abbrev pub all_further : Setting → ℕ → List MonitorState → List MonitorState
-all_further g k monitors = map (λ m. cleared (further g k m)) monitors
+all_further g k monitors = map (λ m. monitor_cleared (further g k m)) monitors
 
 -- what monitors, numbered from low on, publish after k clocks more, in source order
 abbrev pub batches_from : Setting → ℕ → ℕ → List MonitorState → List BatchState

@@ -7,9 +7,9 @@ use Rattle.workers_core.specs.declared.step.Step.TheVariants as steps
 use Rattle.workers_core.specs.States.{CoreState, Setting, next}
 
 -- the state after steps, where each is allowed in its turn
-abbrev pub after : Setting → CoreState → List Step → Option CoreState
-after g s [] = Some s
-after g s (step ∷ rest) = option_and_then (λ t. after g t rest) (next g s step)
+abbrev pub state_after : Setting → CoreState → List Step → Option CoreState
+state_after g s [] = Some s
+state_after g s (step ∷ rest) = option_and_then (λ t. state_after g t rest) (next g s step)
 
 -- The owners of a round's monitors are the workers that run them, monitor by monitor. Each owner in
 -- turn claims the monitor that waits in front, runs it over k clocks, and publishes its batch.

@@ -10,15 +10,15 @@ use Rattle.verifier.specs.Limits.{path_sum}
 use Rattle.machine_definition.specs.Outcomes.{Ran, done, trapped, and_then}
 use Rattle.machine_definition.specs.Blocks.{Visit, visit}
 use Rattle.machine_definition.specs.Clocks.{Attempt, Visits, visited, visit_attempts}
-use Rattle.machine_definition.specs.Bounds.{Rises}
+use Rattle.machine_definition.specs.Bounds.{RisesBetween}
 use Rattle.machine_definition.proofs.Outcomes.{Meets-at}
 use Rattle.machine_definition.proofs.Rises.{Rises-within}
 use Rattle.machine_definition.proofs.Typing.{IsSection}
 use Rattle.machine_definition.proofs.Visits.{Visited, visit-meets}
 use Rattle.machine_definition.proofs.Parts.{began, IsRunning}
 use Rattle.verifier.proofs.LifeLaws.{start_life-most}
-use Rattle.machine_pool.specs.Pooled.{Pooled, pooled, slot_after}
-use Rattle.machine_pool.specs.Walk.{IsAt, left_at}
+use Rattle.machine_memory.specs.Pooled.{Pooled, pooled, slot_after}
+use Rattle.machine_memory.specs.Walk.{WalkIsAt, left_at}
 use Rattle.machine_visits.specs.declared.attempt.AttemptRecord.{AttemptRecord}
 use Rattle.machine_visits.specs.Records.{attempt_of}
 use Rattle.machine.specs.Live.{attempts_in}
@@ -55,9 +55,9 @@ pub record Visiting (p : ProgramData) (atoms : List Bool) (now : ℕ) (pool : Po
     (left : ℕ) (accepted : Bool) (old : Pooled AttemptRecord) (first : ℕ) : Type 0 where
   pub before : List (ℕ × AttemptRecord)
   pub rest : List (ℕ × AttemptRecord)
-  pub stands : IsAt pool.live at before rest
+  pub stands : WalkIsAt pool.live at before rest
   pub low : ℕ
-  pub rises : Rises began (IsRunning p now) low (now + 1) (attempts_in rest)
+  pub rises : RisesBetween began (IsRunning p now) low (now + 1) (attempts_in rest)
   pub fits : length rest * (1 + path_sum 0 p.antecedent.blocks) ≤ left
   pub whole : visit_attempts p.antecedent atoms now (attempts_in old.live) first
       ≡ and_then (visit_attempts p.antecedent atoms now (attempts_in rest) left)
@@ -65,7 +65,8 @@ pub record Visiting (p : ProgramData) (atoms : List Bool) (now : ℕ) (pool : Po
   pub cap : pool.cap ≡ old.cap
 
 pub visiting-first : (p : ProgramData) (atoms : List Bool) (now : ℕ) (pool : Pooled AttemptRecord) (at : Option ℕ)
-    (left : ℕ) → IsAt pool.live at [] pool.live → Rises began (IsRunning p now) 0 (now + 1) (attempts_in pool.live)
+    (left : ℕ) → WalkIsAt pool.live at [] pool.live
+    → RisesBetween began (IsRunning p now) 0 (now + 1) (attempts_in pool.live)
     → length pool.live * (1 + path_sum 0 p.antecedent.blocks) ≤ left
     → Visiting p atoms now pool at left false pool left
 visiting-first p atoms now pool at left stands rises fits = record {
@@ -106,9 +107,10 @@ module _ (p : ProgramData) (atoms : List Bool) (now : ℕ) (pool : Pooled Attemp
   split : i.rest ≡ (s, x) ∷ tail
   split = steps.split pool at s i.before i.rest i.stands is x got
 
-  pub rises-here : Rises began (IsRunning p now) i.low (now + 1) (attempt_of x ∷ attempts_in tail)
+  pub rises-here : RisesBetween began (IsRunning p now) i.low (now + 1) (attempt_of x ∷ attempts_in tail)
   rises-here =
-      subst (λ (l : List (ℕ × AttemptRecord)). Rises began (IsRunning p now) i.low (now + 1) (attempts_in l)) split
+      subst (λ (l : List (ℕ × AttemptRecord)). RisesBetween began (IsRunning p now) i.low (now + 1)
+      (attempts_in l)) split
       i.rises
 
   pub running : IsRunning p now (attempt_of x)

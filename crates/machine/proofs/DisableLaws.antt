@@ -8,8 +8,8 @@ use Rattle.signals.specs.declared.verdict.Verdict.TheVariants.{Disabled}
 use Rattle.signals.specs.declared.verdict.Decided.{Decided}
 use Rattle.machine_definition.specs.Outcomes.{Ran, done, trapped, and_then}
 use Rattle.machine_definition.specs.Clocks.{disable_all}
-use Rattle.machine_pool.specs.Pooled.{Pooled, pooled, first_slot, slot_after}
-use Rattle.machine_pool.specs.Walk.{IsAt}
+use Rattle.machine_memory.specs.Pooled.{Pooled, pooled, first_slot, slot_after}
+use Rattle.machine_memory.specs.Walk.{WalkIsAt}
 use Rattle.machine_visits.specs.declared.attempt.AttemptRecord.{AttemptRecord}
 use Rattle.machine_visits.specs.Records.{attempt_of}
 use Rattle.machine.specs.Live.{attempts_in, AreDisabled}
@@ -30,7 +30,7 @@ module _ {T : Type 0} where
   -- the first slot
   module _ (pool : Pooled T) (s : ℕ) (slot : Some s ≡ first_slot pool.live)
       (distinct : IsDistinct nat_eq (keys_of pool.live)) where
-    at-first : IsAt pool.live (Some s) [] pool.live
+    at-first : WalkIsAt pool.live (Some s) [] pool.live
     at-first = steps.starts pool (Some s) distinct slot
 
     pub live : IsSome (lookup (nat_eq s) pool.live)

@@ -11,3 +11,5 @@ pub mod RowLaws
 pub mod SampleLaws
 pub mod MemoryLaws
 pub mod OwnLaws
+pub mod AgainLaws
+pub mod SteadyLaws

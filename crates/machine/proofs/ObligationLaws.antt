@@ -12,16 +12,16 @@ use Rattle.verifier.specs.Limits.{path_sum}
 use Rattle.machine_definition.specs.Outcomes.{Ran, done, trapped, and_then}
 use Rattle.machine_definition.specs.Blocks.{Visit, visit}
 use Rattle.machine_definition.specs.Clocks.{Obligation, Fate, visit_obligations, staying, is_ended, is_broken}
-use Rattle.machine_definition.specs.Bounds.{Rises}
+use Rattle.machine_definition.specs.Bounds.{RisesBetween}
 use Rattle.machine_definition.proofs.Outcomes.{Meets-at}
 use Rattle.machine_definition.proofs.Typing.{IsSection}
 use Rattle.machine_definition.proofs.Visits.{Visited, visit-meets}
 use Rattle.machine_definition.proofs.Parts.{since, IsOwed}
-use Rattle.machine_pool.specs.Pooled.{Pooled, pooled, slot_after}
-use Rattle.machine_pool.specs.Walk.{IsAt, left_at}
+use Rattle.machine_memory.specs.Pooled.{Pooled, pooled, slot_after}
+use Rattle.machine_memory.specs.Walk.{WalkIsAt, left_at}
 use Rattle.machine_visits.specs.declared.fates.Fates.{Fates}
 use Rattle.machine_visits.specs.declared.obligation.ObligationRecord.{ObligationRecord}
-use Rattle.machine_visits.specs.Marks.{mark_if, marked, is_open, fates_of, AreRecent}
+use Rattle.machine_visits.specs.Marks.{fate_mark, mark_set, is_fate_open, fates_of, AreRecent}
 use Rattle.machine_visits.specs.Records.{obligation_of, left_open}
 use Rattle.machine.specs.Live.{obligations_in, OpenedLately, AreVisited}
 use Rattle.machine.proofs.PoolSteps as steps
@@ -43,12 +43,12 @@ or-assoc : (a b c : ℕ) → bit_or (bit_or a b) c ≡ bit_or a (bit_or b c)
 or-assoc a b c = same_from_bits (bit_or (bit_or a b) c) (bit_or a (bit_or b c)) (λ i.
     omega (arith, bit_at_or (bit_or a b) c i, bit_at_or a b i, bit_at_or a (bit_or b c) i, bit_at_or b c i))
 
-marked-more : (passes : Fate → Bool) (now : ℕ) (f : Fate) (fs : List Fate) → marked passes now (fs ++ f ∷ [])
-    ≡ bit_or (marked passes now fs) (mark_if passes now f)
-marked-more passes now f [] = or_zero_r (mark_if passes now f) ∙ sym (or_zero_l (mark_if passes now f))
+marked-more : (passes : Fate → Bool) (now : ℕ) (f : Fate) (fs : List Fate) → mark_set passes now (fs ++ f ∷ [])
+    ≡ bit_or (mark_set passes now fs) (fate_mark passes now f)
+marked-more passes now f [] = or_zero_r (fate_mark passes now f) ∙ sym (or_zero_l (fate_mark passes now f))
 marked-more passes now f (g ∷ fs) =
-    ap (λ n. bit_or (mark_if passes now g) n) (marked-more passes now f fs)
-    ∙ sym (or-assoc (mark_if passes now g) (marked passes now fs) (mark_if passes now f))
+    ap (λ n. bit_or (fate_mark passes now g) n) (marked-more passes now f fs)
+    ∙ sym (or-assoc (fate_mark passes now g) (mark_set passes now fs) (fate_mark passes now f))
 
 recent-more : (now : ℕ) (f : Fate) → f.tick ≤ now → now ≤ f.tick + 127 → (fs : List Fate) → AreRecent now fs
     → AreRecent now (fs ++ f ∷ [])
@@ -72,9 +72,9 @@ pub record Visiting (p : ProgramData) (atoms : List Bool) (now : ℕ) (pool : Po
     (left : ℕ) (fates : Fates) (old : Pooled ObligationRecord) (first : ℕ) : Type 0 where
   pub before : List (ℕ × ObligationRecord)
   pub rest : List (ℕ × ObligationRecord)
-  pub stands : IsAt pool.live at before rest
+  pub stands : WalkIsAt pool.live at before rest
   pub low : ℕ
-  pub rises : Rises since (IsOwed p now) low (now + 1) (obligations_in rest)
+  pub rises : RisesBetween since (IsOwed p now) low (now + 1) (obligations_in rest)
   pub lately : OpenedLately now (obligations_in rest)
   pub fits : length rest * (1 + path_sum 0 p.consequent.blocks) ≤ left
   pub fs : List Fate
@@ -86,8 +86,9 @@ pub record Visiting (p : ProgramData) (atoms : List Bool) (now : ℕ) (pool : Po
   pub cap : pool.cap ≡ old.cap
 
 pub visiting-first : (p : ProgramData) (atoms : List Bool) (now : ℕ) (pool : Pooled ObligationRecord) (at : Option ℕ)
-    (left : ℕ) (fates : Fates) → fates ≡ fates_of 0 [] → IsAt pool.live at [] pool.live
-    → Rises since (IsOwed p now) 0 (now + 1) (obligations_in pool.live) → OpenedLately now (obligations_in pool.live)
+    (left : ℕ) (fates : Fates) → fates ≡ fates_of 0 [] → WalkIsAt pool.live at [] pool.live
+    → RisesBetween since (IsOwed p now) 0 (now + 1) (obligations_in pool.live)
+    → OpenedLately now (obligations_in pool.live)
     → length pool.live * (1 + path_sum 0 p.consequent.blocks) ≤ left
     → Visiting p atoms now pool at left fates pool left
 visiting-first p atoms now pool at left fates none stands rises lately fits = record {
@@ -135,9 +136,10 @@ module _ (p : ProgramData) (atoms : List Bool) (now : ℕ) (pool : Pooled Obliga
   split : i.rest ≡ (s, x) ∷ tail
   split = steps.split pool at s i.before i.rest i.stands is x got
 
-  rises-here : Rises since (IsOwed p now) i.low (now + 1) (obligation_of x ∷ obligations_in tail)
+  rises-here : RisesBetween since (IsOwed p now) i.low (now + 1) (obligation_of x ∷ obligations_in tail)
   rises-here =
-      subst (λ (l : List (ℕ × ObligationRecord)). Rises since (IsOwed p now) i.low (now + 1) (obligations_in l)) split
+      subst (λ (l : List (ℕ × ObligationRecord)). RisesBetween since (IsOwed p now) i.low (now + 1)
+      (obligations_in l)) split
       i.rises
 
   lately-here : OpenedLately now (obligation_of x ∷ obligations_in tail)
@@ -174,18 +176,18 @@ module _ (p : ProgramData) (atoms : List Bool) (now : ℕ) (pool : Pooled Obliga
     fate = record { tick = x.tick; positions = v.entered; kept = v.accepted }
 
     moved-on : (after : Pooled ObligationRecord) (at' : Option ℕ) (before : List (ℕ × ObligationRecord))
-        → IsAt after.live at' before tail → obligations_in before ≡ obligations_in i.before ++ stays fate
+        → WalkIsAt after.live at' before tail → obligations_in before ≡ obligations_in i.before ++ stays fate
         → after.cap ≡ pool.cap → (noted : Fates)
-        → noted.open_ticks ≡ bit_or fates.open_ticks (mark_if is_open now fate) → noted.broken_ticks
-        ≡ bit_or fates.broken_ticks (mark_if is_broken now fate) → Visiting p atoms now after at' less noted old first
+        → noted.open_ticks ≡ bit_or fates.open_ticks (fate_mark is_fate_open now fate) → noted.broken_ticks
+        ≡ bit_or fates.broken_ticks (fate_mark is_broken now fate) → Visiting p atoms now after at' less noted old first
     moved-on after at' before stands stayed cap noted opening breaking =
         let one : left ≡ suc (left - 1) = omega (arith, affords) in
         let others = visit_obligations p.consequent atoms (obligations_in tail) less in
-        let opens : noted.open_ticks ≡ marked is_open now (i.fs ++ fate ∷ []) =
-        opening ∙ ap (λ (f : Fates). bit_or f.open_ticks (mark_if is_open now fate)) i.sets
-        ∙ sym (marked-more is_open now fate i.fs) in
-        let breaks : noted.broken_ticks ≡ marked is_broken now (i.fs ++ fate ∷ []) =
-        breaking ∙ ap (λ (f : Fates). bit_or f.broken_ticks (mark_if is_broken now fate)) i.sets
+        let opens : noted.open_ticks ≡ mark_set is_fate_open now (i.fs ++ fate ∷ []) =
+        opening ∙ ap (λ (f : Fates). bit_or f.open_ticks (fate_mark is_fate_open now fate)) i.sets
+        ∙ sym (marked-more is_fate_open now fate i.fs) in
+        let breaks : noted.broken_ticks ≡ mark_set is_broken now (i.fs ++ fate ∷ []) =
+        breaking ∙ ap (λ (f : Fates). bit_or f.broken_ticks (fate_mark is_broken now fate)) i.sets
         ∙ sym (marked-more is_broken now fate i.fs) in
         record {
           before = before;
@@ -217,8 +219,9 @@ module _ (p : ProgramData) (atoms : List Bool) (now : ℕ) (pool : Pooled Obliga
     -- ended, and retired
     pub retired : is_ended fate ≡ true → (next : Option ℕ) → next ≡ slot_after s pool.live
         → (after : Pooled ObligationRecord) → after ≡ pooled pool.cap (remove_entry (nat_eq s) pool.live)
-        → (noted : Fates) → noted.open_ticks ≡ bit_or fates.open_ticks (mark_if is_open now fate) → noted.broken_ticks
-        ≡ bit_or fates.broken_ticks (mark_if is_broken now fate)
+        → (noted : Fates) → noted.open_ticks ≡ bit_or fates.open_ticks (fate_mark is_fate_open now fate)
+        → noted.broken_ticks
+        ≡ bit_or fates.broken_ticks (fate_mark is_broken now fate)
         → Visiting p atoms now after next less noted old first × (left_at next after.live < left_at at pool.live)
     retired ended next is-next after e noted opening breaking =
         let moved = steps.retired pool at s i.before i.rest i.stands is x got next is-next after e in
@@ -233,8 +236,8 @@ module _ (p : ProgramData) (atoms : List Bool) (now : ℕ) (pool : Pooled Obliga
     pub reset : is_ended fate ≡ false → (next : Option ℕ) → next ≡ slot_after s pool.live
         → (after : Pooled ObligationRecord) (y : ObligationRecord) → obligation_of y ≡ left_open fate
         → after ≡ pooled pool.cap (set_value (nat_eq s) pool.live y) → (noted : Fates)
-        → noted.open_ticks ≡ bit_or fates.open_ticks (mark_if is_open now fate) → noted.broken_ticks
-        ≡ bit_or fates.broken_ticks (mark_if is_broken now fate)
+        → noted.open_ticks ≡ bit_or fates.open_ticks (fate_mark is_fate_open now fate) → noted.broken_ticks
+        ≡ bit_or fates.broken_ticks (fate_mark is_broken now fate)
         → Visiting p atoms now after next less noted old first × (left_at next after.live < left_at at pool.live)
     reset going next is-next after y same e noted opening breaking =
         let moved = steps.reset pool at s i.before i.rest i.stands is x got next is-next after y e in

@@ -4,26 +4,27 @@ use Rattle.std.proofs.Common.{sym, ap, ◌∙◌, subst, arith}
 use Rattle.std.specs.Prelude.{nat_eq, IsSome}
 use Rattle.std.specs.List.{IsDistinct}
 use Rattle.std.specs.Map.{lookup, set_value, remove_entry, keys_of}
-use Rattle.machine_pool.specs.Pooled.{Pooled, pooled, first_slot, slot_after}
-use Rattle.machine_pool.specs.Walk.{IsAt, left_at}
-use Rattle.machine_pool.proofs.WalkLaws as walk
+use Rattle.machine_memory.specs.Pooled.{Pooled, pooled, first_slot, slot_after}
+use Rattle.machine_memory.specs.Walk.{WalkIsAt, left_at}
+use Rattle.machine_memory.proofs.WalkLaws as walk
 
 module _ {T : Type 0} where
   -- at the first slot
   pub starts : (pool : Pooled T) (at : Option ℕ) → IsDistinct nat_eq (keys_of pool.live) → at ≡ first_slot pool.live
-      → IsAt pool.live at [] pool.live
-  starts pool at d e = subst (λ (a : Option ℕ). IsAt pool.live a [] pool.live) (sym e) (walk.begins pool.live d)
+      → WalkIsAt pool.live at [] pool.live
+  starts pool at d e = subst (λ (a : Option ℕ). WalkIsAt pool.live a [] pool.live) (sym e) (walk.begins pool.live d)
 
   -- at none
-  pub over : (pool : Pooled T) (at : Option ℕ) (done rest : List (ℕ × T)) → IsAt pool.live at done rest → at ≡ None
+  pub over : (pool : Pooled T) (at : Option ℕ) (done rest : List (ℕ × T)) → WalkIsAt pool.live at done rest → at ≡ None
       → (rest ≡ []) × (pool.live ≡ done)
-  over pool at done rest h e = walk.ends pool.live done rest (subst (λ (a : Option ℕ). IsAt pool.live a done rest) e h)
+  over pool at done rest h e = walk.ends pool.live done rest
+      (subst (λ (a : Option ℕ). WalkIsAt pool.live a done rest) e h)
 
   -- at a slot whose record was read
-  module _ (pool : Pooled T) (at : Option ℕ) (s : ℕ) (done rest : List (ℕ × T)) (h : IsAt pool.live at done rest)
+  module _ (pool : Pooled T) (at : Option ℕ) (s : ℕ) (done rest : List (ℕ × T)) (h : WalkIsAt pool.live at done rest)
       (is : at ≡ Some s) where
-    here : IsAt pool.live (Some s) done rest
-    here = subst (λ (a : Option ℕ). IsAt pool.live a done rest) is h
+    here : WalkIsAt pool.live (Some s) done rest
+    here = subst (λ (a : Option ℕ). WalkIsAt pool.live a done rest) is h
 
     on : walk.Head s rest
     on = walk.head pool.live s done rest here
@@ -31,8 +32,8 @@ module _ {T : Type 0} where
     pub tail : List (ℕ × T)
     tail = on.tail
 
-    stands : IsAt pool.live (Some s) done ((s, on.item) ∷ on.tail)
-    stands = subst (IsAt pool.live (Some s) done) on.is here
+    stands : WalkIsAt pool.live (Some s) done ((s, on.item) ∷ on.tail)
+    stands = subst (WalkIsAt pool.live (Some s) done) on.is here
 
     pub live : IsSome (lookup (nat_eq s) pool.live)
     live = walk.found pool.live s on.item done on.tail (Some s) stands
@@ -52,37 +53,37 @@ module _ {T : Type 0} where
 
       module _ (next : Option ℕ) (after : next ≡ slot_after s pool.live) (now : Pooled T) where
         moved : (before : List (ℕ × T)) (l : List (ℕ × T)) → now ≡ pooled pool.cap l
-            → IsAt l (slot_after s pool.live) before on.tail → IsAt now.live next before tail
+            → WalkIsAt l (slot_after s pool.live) before on.tail → WalkIsAt now.live next before tail
             × (left_at next now.live < left_at at pool.live)
         unfolding tail
         moved before l e stood =
             let lists = ap (λ (p : Pooled T). p.live) e in
-            let there : IsAt now.live next before on.tail =
-            subst (λ (a : Option ℕ). IsAt now.live a before on.tail) (sym after)
-            (subst (λ k. IsAt k (slot_after s pool.live) before on.tail) (sym lists) stood) in
+            let there : WalkIsAt now.live next before on.tail =
+            subst (λ (a : Option ℕ). WalkIsAt now.live a before on.tail) (sym after)
+            (subst (λ k. WalkIsAt k (slot_after s pool.live) before on.tail) (sym lists) stood) in
             (there, let less = walk.left_is now.live next before on.tail there in omega (arith, left_before))
 
-        pub retired : now ≡ pooled pool.cap (remove_entry (nat_eq s) pool.live) → IsAt now.live next done tail
+        pub retired : now ≡ pooled pool.cap (remove_entry (nat_eq s) pool.live) → WalkIsAt now.live next done tail
             × (left_at next now.live < left_at at pool.live)
         retired e =
             moved done (remove_entry (nat_eq s) pool.live) e
             (walk.retired pool.live s on.item done on.tail (Some s) stands)
 
         pub reset : (y : T) → now ≡ pooled pool.cap (set_value (nat_eq s) pool.live y)
-            → IsAt now.live next (done ++ (s, y) ∷ []) tail × (left_at next now.live < left_at at pool.live)
+            → WalkIsAt now.live next (done ++ (s, y) ∷ []) tail × (left_at next now.live < left_at at pool.live)
         reset y e =
             moved (done ++ (s, y) ∷ []) (set_value (nat_eq s) pool.live y) e
             (walk.reset pool.live s on.item done on.tail (Some s) stands y)
 
       -- the record was left as it is
       module _ (next : Option ℕ) (after : next ≡ slot_after s pool.live) where
-        pub kept : IsAt pool.live next (done ++ (s, x) ∷ []) tail × (left_at next pool.live < left_at at pool.live)
+        pub kept : WalkIsAt pool.live next (done ++ (s, x) ∷ []) tail × (left_at next pool.live < left_at at pool.live)
         unfolding tail
         kept =
             let stood = walk.kept pool.live s on.item done on.tail (Some s) stands in
-            let there : IsAt pool.live next (done ++ (s, on.item) ∷ []) on.tail =
-            subst (λ (a : Option ℕ). IsAt pool.live a (done ++ (s, on.item) ∷ []) on.tail) (sym after) stood in (
-              subst (λ (y : T). IsAt pool.live next (done ++ (s, y) ∷ []) on.tail) item_is there,
+            let there : WalkIsAt pool.live next (done ++ (s, on.item) ∷ []) on.tail =
+            subst (λ (a : Option ℕ). WalkIsAt pool.live a (done ++ (s, on.item) ∷ []) on.tail) (sym after) stood in (
+              subst (λ (y : T). WalkIsAt pool.live next (done ++ (s, y) ∷ []) on.tail) item_is there,
               let less =
                   walk.left_is pool.live next (done ++ (s, on.item) ∷ []) on.tail there in omega (arith, left_before),
             )

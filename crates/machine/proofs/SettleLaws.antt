@@ -9,8 +9,8 @@ use Rattle.signals.specs.declared.verdict.Verdict.TheVariants.{Open}
 use Rattle.signals.specs.declared.verdict.Decided.{Decided}
 use Rattle.machine_definition.specs.Outcomes.{Ran, done, trapped, and_then}
 use Rattle.machine_definition.specs.Clocks.{Attempt, Fate, Settlement, settle, settle_all, stays, ends}
-use Rattle.machine_pool.specs.Pooled.{Pooled, pooled, slot_after}
-use Rattle.machine_pool.specs.Walk.{IsAt, left_at}
+use Rattle.machine_memory.specs.Pooled.{Pooled, pooled, slot_after}
+use Rattle.machine_memory.specs.Walk.{WalkIsAt, left_at}
 use Rattle.machine_visits.specs.declared.attempt.AttemptRecord.{AttemptRecord}
 use Rattle.machine_visits.specs.declared.fates.Fates.{Fates}
 use Rattle.machine_visits.specs.Marks.{fates_of, AreRecent, SettlesAs}
@@ -52,7 +52,7 @@ pub record Settling (now : ℕ) (fates : Fates) (pool : Pooled AttemptRecord) (a
     (out : List Decided) (old : Pooled AttemptRecord) (first : ℕ) (told : List Decided) : Type 0 where
   pub before : List (ℕ × AttemptRecord)
   pub rest : List (ℕ × AttemptRecord)
-  pub stands : IsAt pool.live at before rest
+  pub stands : WalkIsAt pool.live at before rest
   pub begun : HaveBegun now (attempts_in rest)
   pub fits : length rest ≤ left
   pub decided : List Decided
@@ -64,7 +64,7 @@ pub record Settling (now : ℕ) (fates : Fates) (pool : Pooled AttemptRecord) (a
   pub cap : pool.cap ≡ old.cap
 
 pub settling-first : (now : ℕ) (fates : Fates) (pool : Pooled AttemptRecord) (at : Option ℕ) (left : ℕ)
-    (out : List Decided) → IsAt pool.live at [] pool.live → HaveBegun now (attempts_in pool.live)
+    (out : List Decided) → WalkIsAt pool.live at [] pool.live → HaveBegun now (attempts_in pool.live)
     → length pool.live ≤ left → length out + length pool.live ≤ 1024
     → Settling now fates pool at left out pool left out
 settling-first now fates pool at left out stands begun fits room = record {
@@ -198,11 +198,12 @@ module _ (now : ℕ) (fates : Fates) (pool : Pooled AttemptRecord) (at : Option 
 pub record Telling (pool : Pooled AttemptRecord) (at : Option ℕ) (out told : List Decided) : Type 0 where
   pub before : List (ℕ × AttemptRecord)
   pub rest : List (ℕ × AttemptRecord)
-  pub stands : IsAt pool.live at before rest
+  pub stands : WalkIsAt pool.live at before rest
   pub tells : out ≡ told ++ open_ones (attempts_in before)
   pub room : length out + length rest ≤ 1024
 
-pub telling-first : (pool : Pooled AttemptRecord) (at : Option ℕ) (out : List Decided) → IsAt pool.live at [] pool.live
+pub telling-first : (pool : Pooled AttemptRecord) (at : Option ℕ) (out : List Decided)
+    → WalkIsAt pool.live at [] pool.live
     → length out + length pool.live ≤ 1024 → Telling pool at out out
 telling-first pool at out stands room =
     record { before = []; rest = pool.live; stands = stands; tells = sym (append-nil out); room = room }

@@ -4,3 +4,4 @@ pub mod Code
 pub mod SampleCode
 pub mod Running
 pub mod Memory
+pub mod Again

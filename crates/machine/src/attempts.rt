@@ -3,7 +3,7 @@
 ghost use Rattle.std.specs.Prelude.{◌≡◌, ◌+◌, ◌*◌, ◌≤◌, ◌++◌, [], length};
 ghost use Rattle.bytecode.specs.Programs.{data_of};
 ghost use Rattle.verifier.specs.Programs.{IsAccepted};
-ghost use Rattle.machine_pool.specs.Pooled.{pooled};
+ghost use Rattle.machine_memory.specs.Pooled.{pooled};
 ghost use Rattle.machine_definition.specs.Outcomes.{done};
 ghost use Rattle.machine_definition.specs.Clocks.{visit_attempts};
 ghost use Rattle.machine_visits.specs.Bases.{AreBases};
@@ -13,7 +13,7 @@ ghost use Rattle.machine_definition.specs.Runs.{open_ones};
 
 use arrayvec::ArrayVec;
 use bytecode::Program;
-use machine_pool::Pool;
+use machine_memory::Pool;
 use machine_visits::{AttemptRecord, Fates, visit_positions};
 use signals::{Decided, Verdict};
 

@@ -7,19 +7,23 @@
 //! steps over places, of which the first hold the row; the ring has it only where the program keeps
 //! a history. Code with a jump runs over a stack of operands. Where nothing is live before a clock,
 //! as at most clocks of most rules, no pool is walked: the clock's own attempt and obligation are
-//! visited and settled alone, and a pool is touched only by what stays live.
+//! visited and settled alone, and a pool is touched only by what stays live. Where nothing is live
+//! after it either, all rows that the program keeps are equal, and the next clock has the same row
+//! and the same counters, that clock comes to the same verdict at the same cost: it runs no code,
+//! and only the clock's number moves.
 //!
 //! ```text
 //! let mut machine = Machine::new(alloc, verify(alloc, program)?)?;
 //! let mut decided = ArrayVec::new();
 //! machine.clock(&row, &mut decided);
-//! let ticks = machine.spent();
+//! let cost = machine.spent();
 //! machine.open_starts(&mut decided);
 //! ```
 //!
-//! A contract sees the program, the state of the checked machine, and the ticks of the last clock:
-//! `specs/Running.antt`. The definitions of a clock stand in `machine_definition`: `clock` there
-//! says what a clock comes to, with every test that it could fail.
+//! A contract sees the program, the state of the checked machine, and the cost of the last clock:
+//! `specs/Running.antt`. What is noted of the last clocks: `specs/Again.antt`. The definitions of a
+//! clock stand in `machine_definition`: `clock` there says what a clock comes to, with every test
+//! that it could fail.
 //!
 //! Not promised: that memory suffices for a machine, or that a foreign program means anything.
 #![tactic(auto)]
@@ -31,6 +35,8 @@ mod machine;
 mod memory;
 mod obligations;
 mod own;
+mod progress;
+mod repeats;
 mod row;
 mod sample_code;
 mod stacked;

@@ -1,6 +1,6 @@
 //! What is live between clocks.
 
-ghost use Rattle.std.specs.Prelude.{◌≡◌, ◌+◌, ◌^◌, ◌<◌, ◌≤◌, ◌++◌, ◌∷◌, [], Some, length};
+ghost use Rattle.std.specs.Prelude.{◌≡◌, ◌+◌, ◌^◌, ◌<◌, ◌≤◌, ◌++◌, ◌∷◌, [], Some, length, IsTrue};
 ghost use Rattle.bytecode.specs.Programs.{data_of};
 ghost use Rattle.verifier.specs.Programs.{IsAccepted};
 ghost use Rattle.machine_definition.specs.Clocks.{disabling};
@@ -18,7 +18,7 @@ use crate::own::{
 };
 use arrayvec::ArrayVec;
 use bytecode::Program;
-use machine_pool::Pool;
+use machine_memory::Pool;
 use machine_visits::{AttemptRecord, ObligationRecord};
 use signals::Decided;
 
@@ -72,6 +72,14 @@ fn open_obligation(accepted: bool, program: &Program, now: u64, pool: &mut Pool<
 }
 
 impl Live {
+    /// Whether nothing is live.
+    pub(crate) fn is_idle(&self) -> bool
+        ensures { IsTrue result → (self.entry.now.attempts.live ≡ [])
+            × (self.entry.now.obligations.live ≡ []) }
+    {
+        self.attempts.len() == 0 && self.obligations.len() == 0
+    }
+
     /// A clock, by the pools.
     fn full_clock(
         &mut self,
@@ -160,7 +168,7 @@ impl Live {
     }
 
     /// A clock after its sample code, which gave these atoms: it adds what it decides to `out`,
-    /// and takes its ticks off `left`.
+    /// and takes its cost off `left`.
     pub(crate) fn clock(
         &mut self,
         program: &Program,
@@ -188,7 +196,7 @@ impl Live {
             (standing_of self.new.now self.new.attempts self.new.obligations)
             left.new out.new.items }
     {
-        if self.attempts.len() == 0 && self.obligations.len() == 0 {
+        if self.is_idle() {
             self.own_clock(program, bases, atoms, left, out);
             return;
         }

@@ -1,7 +1,7 @@
 //! The machine.
 
 use crate::attempts::tell_open;
-use crate::memory::Memory;
+use crate::progress::Progress;
 use arrayvec::ArrayVec;
 use signals::Decided;
 use std::alloc::Global;
@@ -12,24 +12,23 @@ use verifier::Verified;
 #[derive(Drop)]
 pub struct Machine {
     verified: Verified,
-    memory: Memory,
-    spent: u64,
+    progress: Progress,
 }
 
 impl Model for Machine {
-    ghost use Rattle.machine.specs.Memory.{running_of, IsMachine};
+    ghost use Rattle.machine.specs.Again.{running_in, IsMachine};
     ghost use Rattle.machine.specs.Running.{Running};
 
     ghost Value = { Running };
 
-    ghost view = { λ m. running_of m.verified m.memory m.spent };
+    ghost view = { λ m. running_in m.verified m.progress };
 
-    ghost invariant = { λ m. IsMachine m.verified m.memory m.spent };
+    ghost invariant = { λ m. IsMachine m.verified m.progress };
 }
 
 impl Machine {
     ghost use Rattle.std.specs.Prelude.{◌≡◌, ◌+◌, ◌^◌, ◌<◌, ◌≤◌, ◌++◌, length, IfOk, IfErr};
-    ghost use Rattle.machine.specs.Running.{opened_on, IsClock, IsRowOf};
+    ghost use Rattle.machine.specs.Running.{opened_on, IsOneClock, IsRowOf};
     ghost use Rattle.machine_definition.specs.Runs.{open_ones};
 
     /// A machine before its first clock, or the program again where memory is refused. No other
@@ -38,12 +37,8 @@ impl Machine {
         ensures machine { IfOk result (λ machine. machine ≡ opened_on verified) }
         ensures refused { IfErr result (λ same. same ≡ verified) }
     {
-        match Memory::new(alloc, verified.program()) {
-            Ok(memory) => Ok(Machine {
-                verified,
-                memory,
-                spent: 0,
-            }),
+        match Progress::new(alloc, verified.program()) {
+            Ok(progress) => Ok(Machine { verified, progress }),
             Err(_) => Err(verified),
         }
     }
@@ -54,25 +49,25 @@ impl Machine {
         requires row { IsRowOf self.old.program row.now }
         requires room { length out.old.items + self.old.program.header.limits.attempts ≤ 1024 }
         requires more { self.old.state.standing.now + 1 < 2 ^ 64 }
-        ensures clock { IsClock self.old row.now out.old.items self.new out.new.items }
+        ensures clock { IsOneClock self.old row.now out.old.items self.new out.new.items }
         ensures budget { self.new.spent ≤ self.new.program.header.limits.budget }
     {
-        self.spent = self.memory.clock(self.verified.program(), row, out);
+        self.progress.clock(self.verified.program(), row, out);
     }
 
     /// How many clocks were run.
     pub fn now(&self) -> u64
         ensures { result ≡ self.now.state.standing.now }
     {
-        self.memory.live.now
+        self.progress.memory.live.now
     }
 
-    /// The ticks of the last clock, 0 before the first.
+    /// The cost of the last clock, 0 before the first.
     pub fn spent(&self) -> u64
-        ensures ticks { result ≡ self.now.spent }
+        ensures cost { result ≡ self.now.spent }
         ensures budget { result ≤ self.now.program.header.limits.budget }
     {
-        self.spent
+        self.progress.spent
     }
 
     /// Adds each live attempt to `out` as open, in order of its start.
@@ -80,6 +75,6 @@ impl Machine {
         requires { length out.old.items + self.now.program.header.limits.attempts ≤ 1024 }
         ensures { out.new.items ≡ out.old.items ++ open_ones self.now.state.standing.attempts }
     {
-        tell_open(&self.memory.live.attempts, out);
+        tell_open(&self.progress.memory.live.attempts, out);
     }
 }

@@ -1,21 +1,21 @@
 //! The memory of a machine.
 
-ghost use Rattle.std.specs.Prelude.{◌≡◌, ◌+◌, ◌^◌, ◌<◌, ◌≤◌, length, IfOk};
+ghost use Rattle.std.specs.Prelude.{◌≡◌, ◌+◌, ◌^◌, ◌<◌, ◌≤◌, ◌∷◌, ◌++◌, length, IfOk, IsTrue};
 ghost use Rattle.std.specs.Prelude.{replicate, false, vec_capacity};
 ghost use Rattle.bytecode.specs.Programs.{data_of};
 ghost use Rattle.verifier.specs.Programs.{IsAccepted};
 ghost use Rattle.machine_definition.specs.Machine.{opening};
 ghost use Rattle.machine.specs.Code.{AreBasesOf};
 ghost use Rattle.machine.specs.Memory.{IsLiveAtFirst, IsMemory, state_of, running_of};
-ghost use Rattle.machine.specs.Running.{IsClock, IsRowOf};
+ghost use Rattle.machine.specs.Running.{IsOneClock, IsRowOf};
+ghost use Rattle.machine.specs.Again.{newest_in};
 
 use crate::bases::Bases;
 use crate::live::Live;
 use crate::sample_code::SampleCode;
 use arrayvec::ArrayVec;
 use bytecode::Program;
-use machine_pool::Pool;
-use machine_ring::Ring;
+use machine_memory::{Pool, Ring};
 use machine_visits::bases_of;
 use signals::Decided;
 use std::alloc::{AllocError, Global};
@@ -111,8 +111,19 @@ impl Memory {
         })
     }
 
-    /// A clock over the values of the signals: it adds what it decides to `out`, and answers the
-    /// ticks that it took.
+    /// Whether the newest row has these values of the signals, and the counters as they stand.
+    pub(crate) fn is_newest(&self, program: &Program, signals: &[u128]) -> bool
+        requires accepted { IsAccepted (data_of program.now) }
+        requires memory { IsMemory (data_of program.now) self.now }
+        ensures { IsTrue result → newest_in (data_of program.now) self.now.code
+            ≡ 1 ∷ (signals.now ++ self.now.counters.items) }
+    {
+        self.code
+            .is_newest(program, signals, self.counters.as_slice())
+    }
+
+    /// A clock over the values of the signals: it adds what it decides to `out`, and answers its
+    /// cost.
     pub(crate) fn clock(
         &mut self,
         program: &Program,
@@ -125,12 +136,15 @@ impl Memory {
         requires room { length out.old.items + (data_of program.now).header.limits.attempts ≤ 1024 }
         requires more { self.old.live.now + 1 < 2 ^ 64 }
         ensures memory { IsMemory (data_of program.now) self.new }
-        ensures clock { IsClock (running_of (data_of program.now) self.old 0)
+        ensures clock { IsOneClock (running_of (data_of program.now) self.old 0)
             signals.now out.old.items
             (running_of (data_of program.now) self.new result) out.new.items }
+        ensures within { result ≤ (data_of program.now).header.limits.budget }
+        ensures newest { newest_in (data_of program.now) self.new.code
+            ≡ 1 ∷ (signals.now ++ self.old.counters.items) }
     {
         let budget = u64::from(program.limits.budget);
-        let ticks = self.code.run(
+        let cost = self.code.run(
             program,
             self.frame.slots.as_slice(),
             &mut self.history,
@@ -138,7 +152,7 @@ impl Memory {
             self.atoms.as_mut_slice(),
             self.counters.as_mut_slice(),
         );
-        let mut left = budget - ticks;
+        let mut left = budget - cost;
         let atoms = self.atoms.as_slice();
         self.live.clock(program, &self.bases, atoms, &mut left, out);
         budget - left

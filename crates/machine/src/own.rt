@@ -13,7 +13,7 @@ ghost use Rattle.machine_definition.specs.Clocks.{Attempt};
 
 use arrayvec::ArrayVec;
 use bytecode::Program;
-use machine_pool::Pool;
+use machine_memory::Pool;
 use machine_visits::{AttemptRecord, Fates, ObligationRecord, Visit, visit_positions};
 use signals::{Decided, Verdict};
 

@@ -4,13 +4,13 @@ ghost use Rattle.std.specs.Prelude.{◌≡◌, ◌≤◌, ◌∷◌, ◌++◌, l
 ghost use Rattle.bytecode.specs.Programs.{data_of};
 ghost use Rattle.verifier.specs.Programs.{IsAccepted};
 ghost use Rattle.machine_definition.specs.Values.{AreValues};
-ghost use Rattle.machine_ring.specs.History.{pushed};
+ghost use Rattle.machine_memory.specs.History.{pushed};
 ghost use Rattle.machine_samples.specs.Memory.{AreRows};
 ghost use Rattle.machine_samples.specs.Runs.{HasRun, longest_run};
 
 use bytecode::Program;
 use machine_decoded::fill_row;
-use machine_ring::Ring;
+use machine_memory::Ring;
 use machine_samples::{Stack, run};
 
 /// The stack, and where the row of a clock is made.
@@ -41,8 +41,9 @@ impl Stacked {
         ensures pushed { history.new ≡ pushed history.old (1 ∷ (signals.now ++ counters.old)) }
         ensures ran { HasRun (data_of program.now) history.new.rows counters.old
             result atoms.new counters.new }
-        ensures ticks { result ≤ longest_run (data_of program.now) }
+        ensures cost { result ≤ longest_run (data_of program.now) }
         ensures kept { AreValues (data_of program.now).counters counters.new }
+        ensures newest { self.new.row.items ≡ 1 ∷ (signals.now ++ counters.old) }
     {
         fill_row(&mut self.row, signals, counters);
         history.push(&self.row);

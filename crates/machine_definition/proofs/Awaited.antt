@@ -11,8 +11,30 @@ use Rattle.std.proofs.lemmas.Nat.Bits.{bit_at_or, bit_at-pow_same, bit_at-pow_ot
 use Rattle.machine_definition.specs.Blocks.{Visit}
 use Rattle.machine_definition.specs.Clocks.{Attempt, Fate, awaits, visited, is_broken, is_ended, staying}
 use Rattle.machine_definition.specs.Clocks.{some_broken, some_open}
-use Rattle.machine_definition.specs.Awaited.{accepted_of, awaited_ticks, broken_ticks, is_some}
-use Rattle.machine_definition.specs.Awaited.{KeepsAwaitedTicks}
+use Rattle.machine_definition.specs.Awaited.{accepted_of, awaited_ticks, fate_ticks, is_some}
+
+-- the ticks of those that are broken
+abbrev pub broken_ticks : List Fate → List ℕ
+broken_ticks fates = fate_ticks (filter is_broken fates)
+
+-- The list of open awaited ticks as a clock changes it, and what is decided by it.
+pub record KeepsAwaitedTicks : Type 0 where
+  -- where an attempt accepts, the tick now joins its list; else that stays as it is
+  pub at_visit : (now : ℕ) (a : Attempt) (v : Visit) (ticks : List ℕ) → a.start ≤ now →
+      awaits a now ≡ false → AllByRecursion (λ t. t < now) ticks →
+      accepted_of (visited now a v) (ticks ++ now ∷ [])
+      ≡ accepted_of a ticks ++ (if v.accepted then now ∷ [] else [])
+  -- an attempt that accepted has a set that isn't empty, and it has one only so
+  pub ever : (now : ℕ) (a : Attempt) (v : Visit) → (visited now a v).awaited ≡ 0 →
+      (a.awaited ≡ 0) × (v.accepted ≡ false)
+  pub never : (now : ℕ) (a : Attempt) (v : Visit) → a.awaited ≡ 0 → v.accepted ≡ false →
+      (visited now a v).awaited ≡ 0
+  -- it fails where one of its list is broken
+  pub fails : (a : Attempt) (fates : List Fate) →
+      some_broken a fates ≡ is_some (accepted_of a (broken_ticks fates))
+  -- it waits where one of its list stays open
+  pub waits : (a : Attempt) (fates : List Fate) →
+      some_open a fates ≡ is_some (awaited_ticks a (staying fates))
 
 module _ (now : ℕ) (a : Attempt) (entered : ℕ) (started : a.start ≤ now) where
   abbrev grown : ℕ

@@ -11,3 +11,8 @@ pub mod Accepted
 pub mod Machine
 pub mod Worked
 pub mod Awaited
+pub mod MemberLaws
+pub mod RanLaws
+pub mod SettleLaws
+pub mod VisitLaws
+pub mod ClockLaws

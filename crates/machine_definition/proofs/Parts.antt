@@ -14,9 +14,9 @@ use Rattle.machine_definition.specs.Clocks.{Attempt, Obligation, Visits, visit_a
 use Rattle.machine_definition.specs.Clocks.{visit_obligations, is_ended, staying, awaits, some_broken}
 use Rattle.machine_definition.specs.Clocks.{some_open, Settlement, settle, settle_all, disable_all}
 use Rattle.machine_definition.specs.Clocks.{opened}
-use Rattle.machine_definition.specs.Bounds.{EachIn, IsAlive, Rises, IsAwaiting, IsAttempt}
+use Rattle.machine_definition.specs.Bounds.{EachIn, IsAlive, RisesBetween, IsAwaiting, IsAttempt}
 use Rattle.machine_definition.specs.Bounds.{IsObligation}
-use Rattle.machine_definition.proofs.Outcomes.{Meets-and_then, Meets-tick}
+use Rattle.machine_definition.proofs.Outcomes.{Meets-and_then, Meets-costs_one}
 use Rattle.machine_definition.proofs.Blocks.{EachIn-or}
 use Rattle.machine_definition.proofs.Visits.{Visited, visit-meets}
 use Rattle.machine_definition.proofs.Rises.{Rises-within, Rises-low}
@@ -46,19 +46,19 @@ module _ (p : ProgramData) (now : ℕ) where
   -- the visits of attempts
   abbrev pub Seen : ℕ → List Attempt → ℕ → Visits → ℕ → Type 0
   Seen low live left vs rest =
-      Rises began (IsRunning p (now + 1)) low (now + 1) vs.attempts
+      RisesBetween began (IsRunning p (now + 1)) low (now + 1) vs.attempts
       × (left ≤ rest + length live * (1 + path_sum 0 p.antecedent.blocks))
       × (length vs.attempts ≡ length live)
 
   pub visit_attempts-meets : (atoms : List Bool) → IsSection (length atoms) p.antecedent
-      → (low : ℕ) (live : List Attempt) (left : ℕ) → Rises began (IsRunning p now) low (now + 1) live
+      → (low : ℕ) (live : List Attempt) (left : ℕ) → RisesBetween began (IsRunning p now) low (now + 1) live
       → length live * (1 + path_sum 0 p.antecedent.blocks) ≤ left
       → Meets (Seen low live left) (visit_attempts p.antecedent atoms now live left)
   visit_attempts-meets atoms section low [] left rises fits = (rises, omega arith, refl)
   visit_attempts-meets atoms section low (a ∷ others) left rises fits =
       let s : ℕ = path_sum 0 p.antecedent.blocks in
       let product : length (a ∷ others) * (1 + s) ≡ 1 + s + length others * (1 + s) = omega arith in
-      Meets-tick (Seen low (a ∷ others) left) left _ (omega (arith, product)) (λ after e.
+      Meets-costs_one (Seen low (a ∷ others) left) left _ (omega (arith, product)) (λ after e.
       Meets-and_then (Visited p.antecedent a.start now after) (Seen low (a ∷ others) left)
       (visit p.antecedent atoms a.positions after) _
       (visit-meets p.antecedent atoms section a.start now a.positions after rises.1.positions (omega (arith, product)))
@@ -93,18 +93,18 @@ module _ (p : ProgramData) (now : ℕ) where
   -- the visits of obligations
   abbrev pub Tells : ℕ → List Obligation → ℕ → List Fate → ℕ → Type 0
   Tells low os left fs rest =
-      Rises since_fate (IsFated p now) low (now + 1) fs
+      RisesBetween since_fate (IsFated p now) low (now + 1) fs
       × (left ≤ rest + length os * (1 + path_sum 0 p.consequent.blocks))
 
   pub visit_obligations-meets : (atoms : List Bool) → IsSection (length atoms) p.consequent
-      → (low : ℕ) (os : List Obligation) (left : ℕ) → Rises since (IsOwed p now) low (now + 1) os
+      → (low : ℕ) (os : List Obligation) (left : ℕ) → RisesBetween since (IsOwed p now) low (now + 1) os
       → length os * (1 + path_sum 0 p.consequent.blocks) ≤ left
       → Meets (Tells low os left) (visit_obligations p.consequent atoms os left)
   visit_obligations-meets atoms section low [] left rises fits = (rises, omega arith)
   visit_obligations-meets atoms section low (o ∷ others) left rises fits =
       let s : ℕ = path_sum 0 p.consequent.blocks in
       let product : length (o ∷ others) * (1 + s) ≡ 1 + s + length others * (1 + s) = omega arith in
-      Meets-tick (Tells low (o ∷ others) left) left _ (omega (arith, product)) (λ after e.
+      Meets-costs_one (Tells low (o ∷ others) left) left _ (omega (arith, product)) (λ after e.
       Meets-and_then (Visited p.consequent o.tick now after) (Tells low (o ∷ others) left)
       (visit p.consequent atoms o.positions after) _
       (visit-meets p.consequent atoms section o.tick now o.positions after rises.1.positions (omega (arith, product)))
@@ -117,8 +117,8 @@ module _ (p : ProgramData) (now : ℕ) where
         omega (arith, product, done.1, told.1),
       ))))
 
-  pub staying-rises : (low high : ℕ) (fs : List Fate) → Rises since_fate (IsFated p now) low high fs
-      → Rises since (IsObligation p (now + 1)) low high (staying fs)
+  pub staying-rises : (low high : ℕ) (fs : List Fate) → RisesBetween since_fate (IsFated p now) low high fs
+      → RisesBetween since (IsObligation p (now + 1)) low high (staying fs)
   staying-rises low high [] rises = rises
   staying-rises low high (f ∷ fs) rises =
       let rest = staying-rises (f.tick + 1) high fs rises.2 in
@@ -154,7 +154,7 @@ some_open-stays a (f ∷ fs) h =
 module _ (p : ProgramData) (now : ℕ) (fates : List Fate) where
   -- the attempts that stay are as between clocks
   abbrev pub Live : ℕ → Settlement → Type 0
-  Live low r = Rises began (IsAttempt p (now + 1) (staying fates)) low (now + 1) r.live
+  Live low r = RisesBetween began (IsAttempt p (now + 1) (staying fates)) low (now + 1) r.live
 
   settle-live : (low : ℕ) (a : Attempt) (r : Settlement) → low ≤ a.start → IsRunning p (now + 1) a
       → Live (a.start + 1) r → Live low (settle now fates a r)
@@ -188,11 +188,11 @@ module _ (p : ProgramData) (now : ℕ) (fates : List Fate) where
   Settles low live left r rest = Live low r × (left ≤ rest + length live)
 
   pub settle_all-meets : (low : ℕ) (live : List Attempt) (left : ℕ)
-      → Rises began (IsRunning p (now + 1)) low (now + 1) live → length live ≤ left
+      → RisesBetween began (IsRunning p (now + 1)) low (now + 1) live → length live ≤ left
       → Meets (Settles low live left) (settle_all now fates live left)
   settle_all-meets low [] left rises fits = (rises, omega arith)
   settle_all-meets low (a ∷ others) left rises fits =
-      Meets-tick (Settles low (a ∷ others) left) left _ (omega arith) (λ after e.
+      Meets-costs_one (Settles low (a ∷ others) left) left _ (omega arith) (λ after e.
       Meets-and_then (Settles (a.start + 1) others after) (Settles low (a ∷ others) left)
       (settle_all now fates others after) _
       (settle_all-meets (a.start + 1) others after rises.2 (omega arith))
@@ -202,7 +202,7 @@ pub disable_all-meets : (now : ℕ) (live : List Attempt) (left : ℕ) → lengt
     → Meets (λ ds rest. left ≤ rest + length live) (disable_all now live left)
 disable_all-meets now [] left fits = omega arith
 disable_all-meets now (a ∷ others) left fits =
-    Meets-tick (λ ds rest. left ≤ rest + length (a ∷ others)) left _ (omega arith) (λ after e.
+    Meets-costs_one (λ ds rest. left ≤ rest + length (a ∷ others)) left _ (omega arith) (λ after e.
     Meets-and_then (λ ds rest. after ≤ rest + length others) (λ ds rest. left ≤ rest + length (a ∷ others))
     (disable_all now others after) _
     (disable_all-meets now others after (omega arith))

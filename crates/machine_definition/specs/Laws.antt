@@ -7,7 +7,7 @@ use Rattle.machine_definition.specs.Machine.{opening, clocks}
 use Rattle.machine_definition.specs.Bounds.{IsReached}
 
 -- Over any rows a program that the verifier accepts meets no trap: no bad operand, no jump outside
--- its code, no sample past its history, no full pool, and no tick over its budget. And what stands
+-- its code, no sample past its history, no full pool, and no cost over its budget. And what stands
 -- between two clocks is bounded.
 abbrev pub NeverTraps : Type 0
 NeverTraps =

@@ -9,3 +9,4 @@ pub mod Laws
 pub mod Worked
 pub mod Awaited
 pub mod Values
+pub mod OpenTicks

@@ -1,4 +1,4 @@
--- A worked run: what each clock of a monitor decides, and the ticks that it takes.
+-- A worked run: what each clock of a monitor decides, and what it costs.
 use Rattle.std.specs.Prelude.{◌≡◌, ℕ, ◌-◌, List, [], ◌∷◌, None}
 use Rattle.signals.specs.declared.verdict.Decided.{Decided}
 use Rattle.signals.specs.declared.verdict.Verdict.{Verdict}
@@ -10,17 +10,17 @@ use Rattle.bytecode.specs.Values.{ProgramData, SlotData}
 use Rattle.machine_definition.specs.Outcomes.{done, trapped}
 use Rattle.machine_definition.specs.Machine.{State, opening, clock}
 
--- what each clock decides, and the ticks that it takes
+-- what each clock decides, and what it costs
 pub record Told : Type 0 where
   pub decided : List Decided
-  pub ticks : ℕ
+  pub cost : ℕ
 
-abbrev pub told : ProgramData → State → List (List ℕ) → List Told
-told p s [] = []
-told p s (signals ∷ later) = elim (clock p s signals) [
+abbrev pub told_clocks : ProgramData → State → List (List ℕ) → List Told
+told_clocks p s [] = []
+told_clocks p s (signals ∷ later) = elim (clock p s signals) [
   | done o left ↦
-      record { decided = o.decided; ticks = p.header.limits.budget - left }
-      ∷ told p o.state later
+      record { decided = o.decided; cost = p.header.limits.budget - left }
+      ∷ told_clocks p o.state later
   | trapped t ↦ []
 ]
 
@@ -53,13 +53,14 @@ two_positions =
     }
 
 -- Over x = 1, 1, 0 and y = 0, 1, 0 the first attempt holds at tick 1, and the two others are
--- vacuous at tick 2, in 10, 19 and 13 ticks.
+-- vacuous at tick 2, at a cost of 10, 19 and 13.
 abbrev pub TwoPositionsRun : Type 0
 TwoPositionsRun =
-    told two_positions (opening two_positions) ((1 ∷ 0 ∷ []) ∷ (1 ∷ 1 ∷ []) ∷ (0 ∷ 0 ∷ []) ∷ [])
-    ≡ record { decided = []; ticks = 10 }
-    ∷ record { decided = at 0 (Holds 1) ∷ []; ticks = 19 }
-    ∷ record { decided = at 1 (Vacuous 2) ∷ at 2 (Vacuous 2) ∷ []; ticks = 13 }
+    told_clocks two_positions (opening two_positions)
+    ((1 ∷ 0 ∷ []) ∷ (1 ∷ 1 ∷ []) ∷ (0 ∷ 0 ∷ []) ∷ [])
+    ≡ record { decided = []; cost = 10 }
+    ∷ record { decided = at 0 (Holds 1) ∷ []; cost = 19 }
+    ∷ record { decided = at 1 (Vacuous 2) ∷ at 2 (Vacuous 2) ∷ []; cost = 13 }
     ∷ []
 
 -- An antecedent of three positions, of which 0 and 1 begin: 0 accepts where x holds, 1 enters 2,
@@ -88,11 +89,11 @@ first_positions =
 
 -- Over x = 1, 0, 0 the first attempt accepts at tick 0, the block of position 1 runs none the less,
 -- and what it enters is dropped: it holds at tick 0. The second waits in position 2, accepts and
--- fails at tick 2. These take 14, 9 and 16 ticks.
+-- fails at tick 2. These cost 14, 9 and 16.
 abbrev pub FirstPositionsRun : Type 0
 FirstPositionsRun =
-    told first_positions (opening first_positions) ((1 ∷ []) ∷ (0 ∷ []) ∷ (0 ∷ []) ∷ [])
-    ≡ record { decided = at 0 (Holds 0) ∷ []; ticks = 14 }
-    ∷ record { decided = []; ticks = 9 }
-    ∷ record { decided = at 1 (Fails 2) ∷ []; ticks = 16 }
+    told_clocks first_positions (opening first_positions) ((1 ∷ []) ∷ (0 ∷ []) ∷ (0 ∷ []) ∷ [])
+    ≡ record { decided = at 0 (Holds 0) ∷ []; cost = 14 }
+    ∷ record { decided = []; cost = 9 }
+    ∷ record { decided = at 1 (Fails 2) ∷ []; cost = 16 }
     ∷ []

@@ -1,7 +1,7 @@
 //! Laws of the checked machine, each a call that does nothing.
 
 ghost use Rattle.machine_definition.specs.Laws.{NeverTraps, FewAreLive};
-ghost use Rattle.machine_definition.specs.Awaited.{KeepsAwaitedTicks};
+ghost use Rattle.machine_definition.specs.OpenTicks.{ClocksAgree};
 ghost use Rattle.machine_definition.specs.Worked.{TwoPositionsRun, FirstPositionsRun};
 
 /// A verified program meets no trap over any rows, and what stands between its clocks is bounded.
@@ -20,8 +20,8 @@ pub fn worked_first_run()
     ensures { FirstPositionsRun }
 {}
 
-/// The set of all ticks at which an attempt accepted says the same as the list of those whose
-/// obligation is still open.
-pub fn awaited_ticks_law()
-    ensures { KeepsAwaitedTicks }
+/// A clock of the checked machine, whose attempts keep the set of all ticks at which they accepted,
+/// is a clock over attempts that list their open awaited ticks and tell whether they ever accepted.
+pub fn open_ticks_law()
+    ensures { ClocksAgree }
 {}

@@ -37,7 +37,7 @@ use Rattle.machine_definition.specs.Outcomes.{
   bad_operand,
   pool_full,
   and_then,
-  tick,
+  costs_one,
 }
 use Rattle.machine_definition.specs.Blocks.{visit}
 use Rattle.machine_definition.specs.Samples.{nothing_made, run_sample}
@@ -64,10 +64,10 @@ any : {A : Type 0} (r : Ran A) → IfDone (λ (a : A). Unit {0}) r
 any (done a n) = tt
 any (trapped t) = tt
 
-ticked : {B : Type 0} (Q : B → Type 0) (n : ℕ) (go : ℕ → Ran B) → ((m : ℕ) → IfDone Q (go m))
-    → IfDone Q (tick n go)
-ticked Q zero go h = tt
-ticked Q (suc n) go h = h n
+costed : {B : Type 0} (Q : B → Type 0) (n : ℕ) (go : ℕ → Ran B) → ((m : ℕ) → IfDone Q (go m))
+    → IfDone Q (costs_one n go)
+costed Q zero go h = tt
+costed Q (suc n) go h = h n
 
 either : {A : Type 0} (P : A → Type 0) (b : Bool) (x y : A) → P x → P y → P (cond b x y)
 either P true x y h k = h
@@ -78,7 +78,7 @@ visits-count : (s : SectionData) (atoms : List Bool) (now : ℕ) (live : List At
     → IfDone (λ vs. length vs.attempts ≡ length live) (visit_attempts s atoms now live left)
 visits-count s atoms now [] left = refl
 visits-count s atoms now (a ∷ others) left =
-    ticked (λ vs. length vs.attempts ≡ length (a ∷ others)) left _ (λ left.
+    costed (λ vs. length vs.attempts ≡ length (a ∷ others)) left _ (λ left.
     then (λ v. Unit {0}) (λ vs. length vs.attempts ≡ length (a ∷ others))
     (visit s atoms a.positions left) _ (any (visit s atoms a.positions left)) (λ v left none.
     then (λ vs. length vs.attempts ≡ length others) (λ vs. length vs.attempts ≡ length (a ∷ others))
@@ -101,7 +101,7 @@ settles-count : (now : ℕ) (fates : List Fate) (live : List Attempt) (left : �
     → IfDone (λ r. size r ≡ length live) (settle_all now fates live left)
 settles-count now fates [] left = refl
 settles-count now fates (a ∷ others) left =
-    ticked (λ r. size r ≡ length (a ∷ others)) left _ (λ left.
+    costed (λ r. size r ≡ length (a ∷ others)) left _ (λ left.
     then (λ r. size r ≡ length others) (λ r. size r ≡ length (a ∷ others))
     (settle_all now fates others left) _ (settles-count now fates others left)
     (λ r left h. settle-size now fates a r ∙ ap suc h))
@@ -110,7 +110,7 @@ disables-count : (now : ℕ) (live : List Attempt) (left : ℕ)
     → IfDone (λ (ds : List Decided). length ds ≡ length live) (disable_all now live left)
 disables-count now [] left = refl
 disables-count now (a ∷ others) left =
-    ticked (λ (ds : List Decided). length ds ≡ length (a ∷ others)) left _ (λ left.
+    costed (λ (ds : List Decided). length ds ≡ length (a ∷ others)) left _ (λ left.
     then (λ (ds : List Decided). length ds ≡ length others)
     (λ (ds : List Decided). length ds ≡ length (a ∷ others)) (disable_all now others left) _
     (disables-count now others left) (λ ds left h. ap suc h))

@@ -23,7 +23,7 @@ use Rattle.signals.specs.declared.verdict.Decided.{Decided}
 use Rattle.bytecode.specs.Values.{ProgramData}
 use Rattle.machine_definition.specs.Outcomes.{Ran, done, trapped, and_then}
 use Rattle.machine_definition.specs.Machine.{State, Outcome, opening, clock, clocks}
-use Rattle.machine_definition.specs.Runs.{behind, run_from}
+use Rattle.machine_definition.specs.Runs.{outcome_behind, run_from}
 use Rattle.machine_runs.proofs.BatchLaws.{joined, later}
 use Rattle.machine_runs.proofs.CutLaws.{cuts, ends-as}
 use Rattle.machine_runs.specs.Batches.{rows_between, run_between, HasCome}

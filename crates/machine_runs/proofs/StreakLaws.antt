@@ -39,8 +39,8 @@ use Rattle.signals.specs.declared.verdict.Decided.{Decided}
 use Rattle.signals.specs.declared.verdict.Verdict.TheVariants as outcome
 use Rattle.verdicts.specs.Tallies.{is_holds, is_vacuous, is_fails, is_disabled, is_open}
 use Rattle.machine_runs.specs.declared.streak.Streak.{Streak}
-use Rattle.machine_runs.specs.Ages.{later, nth}
-use Rattle.machine_runs.specs.Streaks.{attempts_in, attempts_in_all}
+use Rattle.machine_runs.specs.Ages.{verdict_moved, nth}
+use Rattle.machine_runs.specs.Streaks.{streak_attempts, attempts_in_all}
 
 -- a list whose last item gives more than before
 pub set-last : {A B : Type 0} (f : A → List B) (xs : List A) (n : ℕ) (y d : A) (more : List B) →
@@ -56,39 +56,39 @@ set-last f (x ∷ xs) (suc n) y d more h is =
 
 -- one attempt more
 pub grown : (d one : Decided) (n m : ℕ) → m ≡ n + 1 → one.start ≡ d.start + n →
-    one.verdict ≡ later n d.verdict →
+    one.verdict ≡ verdict_moved n d.verdict →
     map (nth d) (range_with_len 0 m) ≡ map (nth d) (range_with_len 0 n) ++ one ∷ []
 grown d one n m h start verdict =
     ap (λ (k : ℕ). map (nth d) (range_with_len 0 k)) h
     ∙ map-range_with_len_more (nth d) 0 n n (omega arith)
     ∙ ap (λ (x : Decided). map (nth d) (range_with_len 0 n) ++ x ∷ [])
-    (ap (λ (k : ℕ). record { start = k; verdict = later n d.verdict }) (sym start)
+    (ap (λ (k : ℕ). record { start = k; verdict = verdict_moved n d.verdict }) (sym start)
     ∙ ap (λ (v : Verdict). record { start = one.start; verdict = v }) (sym verdict))
 
 -- the last streak with one attempt more
 pub last-grown : (xs : List Streak) (last : ℕ) (x : Streak) (one : Decided) (r : Option Streak) →
     last + 1 ≡ length xs → x ≡ get_or xs last x →
-    IfSome r (λ s. attempts_in s ≡ attempts_in x ++ one ∷ []) →
+    IfSome r (λ s. streak_attempts s ≡ streak_attempts x ++ one ∷ []) →
     IfSome r (λ s. attempts_in_all (slice_set xs (length xs - 1) s)
     ≡ attempts_in_all xs ++ one ∷ [])
 last-grown xs last x one None h is e = tt
 last-grown xs last x one (Some s) h is e =
     let n : length xs - 1 ≡ last = omega (arith, h) in
     ap (λ (k : ℕ). attempts_in_all (slice_set xs k s)) n
-    ∙ set-last attempts_in xs last s x (one ∷ []) h
-    (e ∙ ap (λ (z : Streak). attempts_in z ++ one ∷ []) is)
+    ∙ set-last streak_attempts xs last s x (one ∷ []) h
+    (e ∙ ap (λ (z : Streak). streak_attempts z ++ one ∷ []) is)
 
 -- one streak more
 pub streak-more : (xs : List Streak) (i : ℕ) (s : Streak) → i < length xs → s ≡ get_or xs i s →
-    attempts_in_all (take (i + 1) xs) ≡ attempts_in_all (take i xs) ++ attempts_in s
+    attempts_in_all (take (i + 1) xs) ≡ attempts_in_all (take i xs) ++ streak_attempts s
 streak-more xs i s below is =
     ap attempts_in_all (take_more xs i s below ∙ ap (λ (x : Streak). take i xs ++ x ∷ []) (sym is))
-    ∙ flat_map-append attempts_in (take i xs) (s ∷ [])
-    ∙ ap (λ (ds : List Decided). attempts_in_all (take i xs) ++ ds) (append-nil (attempts_in s))
+    ∙ flat_map-append streak_attempts (take i xs) (s ∷ [])
+    ∙ ap (λ (ds : List Decided). attempts_in_all (take i xs) ++ ds) (append-nil (streak_attempts s))
 
 -- whether a verdict is of a kind does not hang on its clock
 abbrev pub IsKind : (Verdict → Bool) → Type 0
-IsKind is = (n : ℕ) (v : Verdict) → is (later n v) ≡ is v
+IsKind is = (n : ℕ) (v : Verdict) → is (verdict_moved n v) ≡ is v
 
 pub kind-holds : IsKind is_holds
 kind-holds n (outcome.Holds t) = refl
@@ -143,7 +143,7 @@ alike p g false h a (suc n) =
 
 -- how many attempts of a streak are of a kind
 pub streak-count : (is : Verdict → Bool) → IsKind is → (s : Streak) →
-    count_by (λ (d : Decided). is d.verdict) (attempts_in s)
+    count_by (λ (d : Decided). is d.verdict) (streak_attempts s)
     ≡ cond (is s.first.verdict) s.count 0
 streak-count is kind s =
     alike (λ (d : Decided). is d.verdict) (nth s.first) (is s.first.verdict)

@@ -5,21 +5,21 @@ use Rattle.signals.specs.declared.verdict.Verdict.TheVariants as outcome
 use Rattle.signals.specs.declared.verdict.Decided.{Decided}
 
 -- the clock at which a verdict is known; 0 of an open one
-abbrev pub clock_of : Verdict → ℕ
-clock_of (outcome.Holds t) = t
-clock_of (outcome.Vacuous t) = t
-clock_of (outcome.Fails t) = t
-clock_of (outcome.Disabled t) = t
-clock_of outcome.Open = 0
+abbrev pub deciding_clock : Verdict → ℕ
+deciding_clock (outcome.Holds t) = t
+deciding_clock (outcome.Vacuous t) = t
+deciding_clock (outcome.Fails t) = t
+deciding_clock (outcome.Disabled t) = t
+deciding_clock outcome.Open = 0
 
 -- the verdict so many clocks later
-abbrev pub later : ℕ → Verdict → Verdict
-later n (outcome.Holds t) = outcome.Holds (t + n)
-later n (outcome.Vacuous t) = outcome.Vacuous (t + n)
-later n (outcome.Fails t) = outcome.Fails (t + n)
-later n (outcome.Disabled t) = outcome.Disabled (t + n)
-later n outcome.Open = outcome.Open
+abbrev pub verdict_moved : ℕ → Verdict → Verdict
+verdict_moved n (outcome.Holds t) = outcome.Holds (t + n)
+verdict_moved n (outcome.Vacuous t) = outcome.Vacuous (t + n)
+verdict_moved n (outcome.Fails t) = outcome.Fails (t + n)
+verdict_moved n (outcome.Disabled t) = outcome.Disabled (t + n)
+verdict_moved n outcome.Open = outcome.Open
 
 -- the attempt that began so many clocks later, and came to the same at the same age
 abbrev pub nth : Decided → ℕ → Decided
-nth d n = record { start = d.start + n; verdict = later n d.verdict }
+nth d n = record { start = d.start + n; verdict = verdict_moved n d.verdict }

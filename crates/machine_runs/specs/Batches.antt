@@ -4,7 +4,7 @@ use Rattle.signals.specs.declared.verdict.Decided.{Decided}
 use Rattle.bytecode.specs.Values.{ProgramData}
 use Rattle.machine_definition.specs.Outcomes.{Ran, done, trapped, and_then}
 use Rattle.machine_definition.specs.Machine.{State, Outcome, opening, clocks}
-use Rattle.machine_definition.specs.Runs.{behind, run_from}
+use Rattle.machine_definition.specs.Runs.{outcome_behind, run_from}
 
 -- the rows of the clocks a up to b
 abbrev pub rows_between : List (List ℕ) → ℕ → ℕ → List (List ℕ)

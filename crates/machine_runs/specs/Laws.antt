@@ -3,7 +3,7 @@ use Rattle.std.specs.Prelude.{◌≡◌, ℕ, List, ◌++◌}
 use Rattle.bytecode.specs.Values.{ProgramData}
 use Rattle.machine_definition.specs.Outcomes.{done, and_then}
 use Rattle.machine_definition.specs.Machine.{State, clocks}
-use Rattle.machine_definition.specs.Runs.{behind, run_from}
+use Rattle.machine_definition.specs.Runs.{outcome_behind, run_from}
 
 -- Rows that are cut anywhere decide the same: what the first decide, and behind that what the rest
 -- decide from the state that those leave. So the size of windows changes nothing.
@@ -12,7 +12,8 @@ CutsAnywhere =
     (p : ProgramData) (s : State) (xs ys : List (List ℕ)) →
     run_from p s (xs ++ ys)
     ≡ and_then (run_from p s xs) (λ first left.
-    and_then (run_from p first.state ys) (λ rest left. done (behind first.decided rest) left))
+    and_then (run_from p first.state ys)
+    (λ rest left. done (outcome_behind first.decided rest) left))
 
 -- The state behind the rows, and their traps, are those of the checked machine's clocks.
 abbrev pub EndsAsClocks : Type 0

@@ -28,7 +28,7 @@ rows_of c clock variables = map (row_of c variables) (ticks_of c (code_number c.
 
 -- The report of a program over the contents of a dump: its one line, over the rows of its signals
 -- at the ticks of the clock that it names.
-pub record Reports (c : Contents) (p : ProgramData) (report : ReportData) : Type 0 where
+pub record ReportsRun (c : Contents) (p : ProgramData) (report : ReportData) : Type 0 where
   pub clock : ℕ
   pub variables : List ℕ
   pub bound_clock : IsBoundClock c.variables p.header.clock clock

@@ -7,12 +7,12 @@ use Rattle.machine_runs.specs.declared.streak.Streak.{Streak}
 use Rattle.machine_runs.specs.Ages.{nth}
 
 -- the attempts of a streak
-abbrev pub attempts_in : Streak → List Decided
-attempts_in s = map (nth s.first) (range_with_len 0 s.count)
+abbrev pub streak_attempts : Streak → List Decided
+streak_attempts s = map (nth s.first) (range_with_len 0 s.count)
 
 -- those of streaks, one after another
 abbrev pub attempts_in_all : List Streak → List Decided
-attempts_in_all = flat_map attempts_in
+attempts_in_all = flat_map streak_attempts
 
 -- Attempts that are kept: all of them, in their order, and for how many more there is room.
 pub record Attempts : Type 0 where

@@ -1,7 +1,7 @@
 //! Attempts that were decided alike, one after another.
 
 ghost use Rattle.std.specs.Prelude.{◌≡◌, ◌+◌, ◌^◌, ◌<◌, ◌≤◌, IfSome};
-ghost use Rattle.machine_runs.specs.Ages.{clock_of, later};
+ghost use Rattle.machine_runs.specs.Ages.{deciding_clock, verdict_moved};
 
 use signals::{Decided, Verdict};
 
@@ -13,13 +13,13 @@ pub struct Streak {
     /// How many there are.
     pub count: u64,
     ghost starts: { first.start + count ≤ 2 ^ 64 },
-    ghost clocks: { clock_of first.verdict + count ≤ 2 ^ 64 },
+    ghost clocks: { deciding_clock first.verdict + count ≤ 2 ^ 64 },
 }
 
 /// The verdict so many clocks later.
 fn verdict_later(verdict: Verdict, clocks: u64) -> Verdict
-    requires { clock_of verdict + clocks < 2 ^ 64 }
-    ensures { result ≡ later clocks verdict }
+    requires { deciding_clock verdict + clocks < 2 ^ 64 }
+    ensures { result ≡ verdict_moved clocks verdict }
 {
     match verdict {
         Verdict::Holds(clock) => Verdict::Holds(clock + clocks),
@@ -33,11 +33,11 @@ fn verdict_later(verdict: Verdict, clocks: u64) -> Verdict
 impl Streak {
     ghost use Rattle.std.specs.Prelude.{◌≡◌, ◌<◌, ◌∷◌, ◌++◌, [], IfSome};
     ghost use Rattle.machine_runs.specs.Ages.{nth};
-    ghost use Rattle.machine_runs.specs.Streaks.{attempts_in};
+    ghost use Rattle.machine_runs.specs.Streaks.{streak_attempts};
 
     /// Of one attempt.
     pub fn of(one: Decided) -> Streak
-        ensures attempts { attempts_in result ≡ one ∷ [] }
+        ensures attempts { streak_attempts result ≡ one ∷ [] }
         ensures count { result.count ≡ 1 }
     {
         Streak {
@@ -61,7 +61,7 @@ impl Streak {
     /// The streak with one more attempt, where that goes on with it.
     #[inline]
     pub(crate) fn with(&self, one: Decided) -> Option<Streak>
-        ensures { IfSome result (λ s. attempts_in s ≡ attempts_in self.now ++ one ∷ []) }
+        ensures { IfSome result (λ s. streak_attempts s ≡ streak_attempts self.now ++ one ∷ []) }
     {
         let first = self.first;
         let count = self.count.checked_add(1)?;
@@ -76,7 +76,7 @@ impl Streak {
 
 /// How many clocks later the other verdict is, where it is of the same kind.
 fn clocks_between(from: Verdict, to: Verdict) -> Option<u64>
-    ensures { IfSome result (λ clocks. to ≡ later clocks from) }
+    ensures { IfSome result (λ clocks. to ≡ verdict_moved clocks from) }
 {
     match (from, to) {
         (Verdict::Holds(a), Verdict::Holds(b)) => b.checked_sub(a),

@@ -81,6 +81,13 @@ impl Streaks {
         }
     }
 
+    /// Gives back the room that no streak takes.
+    pub fn shrink_to_fit(&mut self)
+        ensures { self.new.items ≡ self.old.items }
+    {
+        self.streaks.shrink_to_fit();
+    }
+
     /// The streaks, in their order.
     pub fn as_slice(&self) -> &[Streak]
         ensures { attempts_in_all result.now ≡ self.now.items }

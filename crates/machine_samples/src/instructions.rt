@@ -5,13 +5,13 @@ ghost use Rattle.std.specs.Prelude.{slice_index};
 ghost use Rattle.machine_definition.specs.Samples.{top};
 ghost use Rattle.machine_definition.specs.Machine.{sample_of};
 ghost use Rattle.machine_samples.specs.Operands.{operands, HasOne, HasTwo, HasThree};
-ghost use Rattle.machine_samples.specs.Steps.{IsValue, IsHeld, IsReady, Leaves, LeavesAny};
+ghost use Rattle.machine_samples.specs.Steps.{IsValue, IsSlotHeld, IsReady, Leaves, LeavesAny};
 ghost use Rattle.machine_samples.specs.Steps.{next_after, atoms_after, counters_after};
 
 use crate::operators::{compared_value, joined_value, reduced_value, shifted_value};
 use crate::stack::Stack;
 use bytecode::{CompareOperator, JoinOperator, ReduceOperator, SampleInstr, ShiftOperator};
-use machine_ring::Ring;
+use machine_memory::Ring;
 use signals::Bits;
 
 /// Puts a constant on top.
@@ -27,7 +27,7 @@ fn push(stack: &mut Stack, width: u8, value: u128)
 /// What a slot held so many ticks back.
 #[inline]
 fn sample(widths: &[u8], ring: &Ring, slot: usize, back: usize) -> Bits
-    requires { IsHeld widths.now ring.now slot back }
+    requires { IsSlotHeld widths.now ring.now slot back }
     ensures width { result.width ≡ slice_index widths.now slot }
     ensures value { result.value ≡ sample_of ring.now.rows back slot }
 {
@@ -40,7 +40,7 @@ fn sample(widths: &[u8], ring: &Ring, slot: usize, back: usize) -> Bits
 /// Puts what a slot holds on top.
 #[inline]
 fn load(stack: &mut Stack, widths: &[u8], ring: &Ring, slot: u16)
-    requires held { IsHeld widths.now ring.now slot 0 }
+    requires held { IsSlotHeld widths.now ring.now slot 0 }
     requires room { length stack.old < 1024 }
     ensures { Leaves widths.now (sample_of ring.now.rows) (SampleInstr.Load slot)
         stack.old stack.new }
@@ -51,7 +51,7 @@ fn load(stack: &mut Stack, widths: &[u8], ring: &Ring, slot: u16)
 /// Puts what a slot held before on top.
 #[inline]
 fn past(stack: &mut Stack, widths: &[u8], ring: &Ring, slot: u16, back: u16)
-    requires held { IsHeld widths.now ring.now slot back }
+    requires held { IsSlotHeld widths.now ring.now slot back }
     requires room { length stack.old < 1024 }
     ensures { Leaves widths.now (sample_of ring.now.rows) (SampleInstr.Past slot back)
         stack.old stack.new }

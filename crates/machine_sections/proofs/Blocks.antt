@@ -10,7 +10,7 @@ use Rattle.bytecode.specs.declared.block_instr.BlockInstr.{BlockInstr}
 use Rattle.bytecode.specs.declared.block_instr.BlockInstr.TheVariants.{Unless, Enter, Accept, Stop}
 use Rattle.bytecode.specs.declared.block_instr.BlockInstr.TheVariants.{AcceptFirst}
 use Rattle.machine_definition.specs.Blocks.{Visit}
-use Rattle.machine_definition.specs.Outcomes.{Ran, done, trapped, and_then, tick}
+use Rattle.machine_definition.specs.Outcomes.{Ran, done, trapped, and_then, costs_one}
 use Rattle.bytecode.specs.Values.{SectionData}
 use Rattle.machine_definition.specs.Blocks.{fetch, branch, obey, run, visit_blocks, run_set, visit, ended}
 use Rattle.machine_definition.proofs.Typing.{IsBlock, AreBlocks, IsSection}
@@ -26,10 +26,10 @@ pub Gives-and_then : {A B : Type 0} (P : A → Type 0) (Q : B → Type 0) (x : R
 Gives-and_then P Q (done a left) go h next = next a left h
 Gives-and_then P Q (trapped t) go h next = tt
 
-pub Gives-tick : {B : Type 0} (Q : B → Type 0) (left : ℕ) (go : ℕ → Ran B) → ((left : ℕ) → Gives Q (go left))
-    → Gives Q (tick left go)
-Gives-tick Q zero go next = tt
-Gives-tick Q (suc left) go next = next left
+pub Gives-costs_one : {B : Type 0} (Q : B → Type 0) (left : ℕ) (go : ℕ → Ran B) → ((left : ℕ) → Gives Q (go left))
+    → Gives Q (costs_one left go)
+Gives-costs_one Q zero go next = tt
+Gives-costs_one Q (suc left) go next = next left
 
 -- a jump over so many instructions
 effect-skip : (atoms : List Bool) (k pc : ℕ) (is : List BlockInstr) (v : Visit) → effect atoms k pc is v

@@ -16,11 +16,13 @@ use Rattle.assertions.specs.declared.decision.Decision.TheVariants.{Held, Vacuou
 use Rattle.assertions.specs.Quantifiers.{some_in, each_in}
 use Rattle.assertions.proofs.Quantifiers.{some_in-found, some_in-true, each_in-at, each_in-true, each_in-end}
 use Rattle.assertions.specs.Segments.{Seq, sat, Matches}
-use Rattle.assertions.specs.Attempts.{Antecedent, every, Leads, IsEnd, IsKept, IsOver, IsDecided}
-use Rattle.machine_sections.specs.Automata.{Automaton, places, accepts, accepted_at, Follows}
-use Rattle.machine_sections.specs.Monitors.{Monitor, visit_each, some_accepts, with_new, fate_of, fates_of, settle_each}
-use Rattle.machine_sections.specs.Monitors.{disable_each, settled_with, clock_with, new_attempt, clock_of}
-use Rattle.machine_sections.specs.Standing.{select, is_open, falls_at, attempt_at, is_awaited, is_unsettled, is_owed}
+use Rattle.assertions.specs.Attempts.{Antecedent, every, Leads, EndsAntecedent, IsKept, IsAntecedentOver, IsDecided}
+use Rattle.machine_sections.specs.Automata.{Automaton, positions_at, accepts, accepted_at, AutomatonFollows}
+use Rattle.machine_sections.specs.Monitors.{Monitor, all_visited, some_accepts, with_opened, fate_in, fates_in}
+use Rattle.machine_sections.specs.Monitors.{all_settled}
+use Rattle.machine_sections.specs.Monitors.{all_disabled, settled_with, clock_opened, fresh_attempt, monitor_clock}
+use Rattle.machine_sections.specs.Standing.{select_ticks, is_open, falls_at, attempt_at, awaits_at, is_unsettled}
+use Rattle.machine_sections.specs.Standing.{is_owed}
 use Rattle.machine_sections.specs.Standing.{obligation_at, standing_at, falling}
 use Rattle.machine_sections.proofs.Local.{Matches-seen, Matches-sat}
 use Rattle.machine_sections.proofs.Facts.{accepted_at-bit, bit-accepted_at, accepted_at-zero, some-accepted_at}
@@ -47,21 +49,21 @@ and-regroup false q u x = refl
 
 module _ (a : Automaton) where
   abbrev entered_at : ℕ → ℕ → ℕ
-  entered_at c k = places a c k
+  entered_at c k = positions_at a c k
 
-  pub step-entered : (n c : ℕ) → c ≤ n → (a.step n (places a c (n - c))).entered ≡ places a c (n + 1 - c)
+  pub step-entered : (n c : ℕ) → c ≤ n → (a.step n (positions_at a c (n - c))).entered ≡ positions_at a c (n + 1 - c)
   step-entered n c le =
       let here : n ≡ c + (n - c) = omega arith in
       let next : suc (n - c) ≡ n + 1 - c = omega arith in
-      ap (λ t. (a.step t (places a c (n - c))).entered) here ∙ ap (places a c) next
+      ap (λ t. (a.step t (positions_at a c (n - c))).entered) here ∙ ap (positions_at a c) next
 
-  pub step-accepted : (n c : ℕ) → c ≤ n → (a.step n (places a c (n - c))).accepted ≡ accepts a c (n - c)
+  pub step-accepted : (n c : ℕ) → c ≤ n → (a.step n (positions_at a c (n - c))).accepted ≡ accepts a c (n - c)
   step-accepted n c le =
       let here : n ≡ c + (n - c) = omega arith in
-      ap (λ t. (a.step t (places a c (n - c))).accepted) here
+      ap (λ t. (a.step t (positions_at a c (n - c))).accepted) here
 
   step-heard : (n c : ℕ) → c ≤ n
-      → (if (a.step n (places a c (n - c))).accepted then bit_or (accepted_at a c (n - c)) (2 ^ (n - c)) else
+      → (if (a.step n (positions_at a c (n - c))).accepted then bit_or (accepted_at a c (n - c)) (2 ^ (n - c)) else
       accepted_at a c (n - c)) ≡ accepted_at a c (n + 1 - c)
   step-heard n c le =
       let next : suc (n - c) ≡ n + 1 - c = omega arith in
@@ -75,37 +77,39 @@ module _ (m : Monitor) where
   visited-attempt n c le =
       let g : ℕ → ℕ → Attempt = λ x y. record { start = c; positions = x; awaited = y } in
       ap (λ x.
-      g x (if (m.antecedent.step n (places m.antecedent c (n - c))).accepted then bit_or
+      g x (if (m.antecedent.step n (positions_at m.antecedent c (n - c))).accepted then bit_or
       (accepted_at m.antecedent c (n - c)) (2 ^ (n - c)) else accepted_at m.antecedent c (n - c)))
       (step-entered m.antecedent n c le)
-      ∙ ap (λ y. g (places m.antecedent c (n + 1 - c)) y) (step-heard m.antecedent n c le)
+      ∙ ap (λ y. g (positions_at m.antecedent c (n + 1 - c)) y) (step-heard m.antecedent n c le)
 
   -- an obligation after its visit
   abbrev pub fate_at : ℕ → ℕ → Fate
   fate_at n e = record {
     tick = e;
-    positions = places m.consequent e (n + 1 - e);
+    positions = positions_at m.consequent e (n + 1 - e);
     kept = accepts m.consequent e (n - e);
   }
 
-  fate_of-obligation : (n e : ℕ) → e ≤ n → fate_of m.consequent n (obligation_at m n e) ≡ fate_at n e
+  fate_of-obligation : (n e : ℕ) → e ≤ n → fate_in m.consequent n (obligation_at m n e) ≡ fate_at n e
   fate_of-obligation n e le =
       let g : ℕ → Bool → Fate = λ x y. record { tick = e; positions = x; kept = y } in
-      ap (λ x. g x (m.consequent.step n (places m.consequent e (n - e))).accepted) (step-entered m.consequent n e le)
-      ∙ ap (λ y. g (places m.consequent e (n + 1 - e)) y) (step-accepted m.consequent n e le)
+      ap (λ x. g x (m.consequent.step n (positions_at m.consequent e (n - e))).accepted)
+      (step-entered m.consequent n e le)
+      ∙ ap (λ y. g (positions_at m.consequent e (n + 1 - e)) y) (step-accepted m.consequent n e le)
 
-  new-attempt : (n : ℕ) → attempt_at m n n ≡ new_attempt m n
+  new-attempt : (n : ℕ) → attempt_at m n n ≡ fresh_attempt m n
   new-attempt n =
       let none : n - n ≡ 0 = omega arith in
-      ap (λ k. record { start = n; positions = places m.antecedent n k; awaited = accepted_at m.antecedent n k }) none
+      ap (λ k. record { start = n; positions = positions_at m.antecedent n k; awaited = accepted_at m.antecedent n k })
+      none
 
   new-obligation : (n : ℕ) → obligation_at m n n ≡ record { tick = n; positions = m.consequent.start }
   new-obligation n =
       let none : n - n ≡ 0 = omega arith in
-      ap (λ k. record { tick = n; positions = places m.consequent n k }) none
+      ap (λ k. record { tick = n; positions = positions_at m.consequent n k }) none
 
 module _ (B : Type 0) (value : B → ℕ → Bool) (r : Antecedent B) (s : Seq B) (m : Monitor)
-    (fr : Follows value r m.antecedent) (fs : Follows value (every s) m.consequent)
+    (fr : AutomatonFollows value r m.antecedent) (fs : AutomatonFollows value (every s) m.consequent)
     (fills : (e : ℕ) → Matches value s e e → ⊥) (verdict : ℕ → ℕ → Verdict)
     (are : AreVerdicts value m.off r s verdict) (n : ℕ) where
   abbrev running : ℕ → Type 0
@@ -118,25 +122,26 @@ module _ (B : Type 0) (value : B → ℕ → Bool) (r : Antecedent B) (s : Seq B
   owed = is_owed m verdict n
 
   -- the attempts with the new one
-  with-attempt : select open_now (attempt_at m n) 0 n ++ new_attempt m n ∷ []
-      ≡ select open_now (attempt_at m n) 0 (suc n)
+  with-attempt : select_ticks open_now (attempt_at m n) 0 n ++ fresh_attempt m n ∷ []
+      ≡ select_ticks open_now (attempt_at m n) 0 (suc n)
   with-attempt =
       let first : 0 + n ≡ n = omega arith in
       let is : open_now n ≡ true =
       runs-is_open B value m.off r s verdict are n n (begins B value m.off r s verdict are n) in
       sym (
       select-push open_now (attempt_at m n) 0 n
-      ∙ ap (λ c. select open_now (attempt_at m n) 0 n ++ last_of (open_now c) (attempt_at m n c)) first
-      ∙ ap (λ b. select open_now (attempt_at m n) 0 n ++ last_of b (attempt_at m n n)) is
-      ∙ ap (λ x. select open_now (attempt_at m n) 0 n ++ x ∷ []) (new-attempt m n)
+      ∙ ap (λ c. select_ticks open_now (attempt_at m n) 0 n ++ last_of (open_now c) (attempt_at m n c)) first
+      ∙ ap (λ b. select_ticks open_now (attempt_at m n) 0 n ++ last_of b (attempt_at m n n)) is
+      ∙ ap (λ x. select_ticks open_now (attempt_at m n) 0 n ++ x ∷ []) (new-attempt m n)
       )
 
   -- an obligation of this tick is owed where an attempt accepts
-  owed-new : some_accepts m.antecedent n (select open_now (attempt_at m n) 0 (suc n)) ≡ owed n
+  owed-new : some_accepts m.antecedent n (select_ticks open_now (attempt_at m n) 0 (suc n)) ≡ owed n
   owed-new =
       let none : n - n ≡ 0 = omega arith in
       let more : suc n ≡ n + 1 = omega arith in
-      let accepted : some_accepts m.antecedent n (select open_now (attempt_at m n) 0 (suc n)) ≡ is_awaited m verdict n =
+      let accepted : some_accepts m.antecedent n (select_ticks open_now (attempt_at m n) 0 (suc n))
+      ≡ awaits_at m verdict n =
       some_accepts-select m.antecedent n open_now (attempt_at m n) 0 (suc n)
       ∙ some_of-same (λ c. open_now c && (m.antecedent.step n (attempt_at m n c).positions).accepted)
       (λ c. open_now c && accepts m.antecedent c (n - c)) 0 (suc n)
@@ -145,38 +150,38 @@ module _ (B : Type 0) (value : B → ℕ → Bool) (r : Antecedent B) (s : Seq B
       ∙ ap (λ k. some_in 0 k (λ c. open_now c && accepts m.antecedent c (n - c))) more in
       let quiet : each_in n n (λ k. not (m.off k)) ≡ true = each_in-end n n (λ k. not (m.off k)) (omega arith) in
       let fresh : is_unsettled m.consequent n (n - n) ≡ true = ap (is_unsettled m.consequent n) none in
-      elim (cases_Bool (is_awaited m verdict n)) [
+      elim (cases_Bool (awaits_at m verdict n)) [
         | inl on ↦ rw (accepted, on, quiet, fresh) refl
         | inr off ↦ rw (accepted, off) refl
       ]
 
-  with_new-owed : (b : Bool) → b ≡ owed n → with_new b m.consequent n (select owed (obligation_at m n) 0 n)
-      ≡ select owed (obligation_at m n) 0 (suc n)
+  with_new-owed : (b : Bool) → b ≡ owed n → with_opened b m.consequent n (select_ticks owed (obligation_at m n) 0 n)
+      ≡ select_ticks owed (obligation_at m n) 0 (suc n)
   with_new-owed b e =
       let first : 0 + n ≡ n = omega arith in
       let pushed = select-push owed (obligation_at m n) 0 n
-      ∙ ap (λ c. select owed (obligation_at m n) 0 n ++ last_of (owed c) (obligation_at m n c)) first
-      ∙ ap (λ d. select owed (obligation_at m n) 0 n ++ last_of d (obligation_at m n n)) (sym e)
-      ∙ ap (λ x. select owed (obligation_at m n) 0 n ++ last_of b x) (new-obligation m n) in
+      ∙ ap (λ c. select_ticks owed (obligation_at m n) 0 n ++ last_of (owed c) (obligation_at m n c)) first
+      ∙ ap (λ d. select_ticks owed (obligation_at m n) 0 n ++ last_of d (obligation_at m n n)) (sym e)
+      ∙ ap (λ x. select_ticks owed (obligation_at m n) 0 n ++ last_of b x) (new-obligation m n) in
       go b ∙ sym pushed
     where
       append-none : (xs : List Obligation) → xs ≡ xs ++ []
       append-none [] = refl
       append-none (x ∷ xs) = ap (λ ys. x ∷ ys) (append-none xs)
 
-      go : (b : Bool) → with_new b m.consequent n (select owed (obligation_at m n) 0 n)
-          ≡ select owed (obligation_at m n) 0 n ++ last_of b (record { tick = n; positions = m.consequent.start })
+      go : (b : Bool) → with_opened b m.consequent n (select_ticks owed (obligation_at m n) 0 n)
+          ≡ select_ticks owed (obligation_at m n) 0 n ++ last_of b (record { tick = n; positions = m.consequent.start })
       go true = refl
-      go false = append-none (select owed (obligation_at m n) 0 n)
+      go false = append-none (select_ticks owed (obligation_at m n) 0 n)
 
   -- the fates of the obligations, the new one among them
   abbrev fates : List Fate
-  fates = select owed (fate_at m n) 0 (suc n)
+  fates = select_ticks owed (fate_at m n) 0 (suc n)
 
-  fates-owed : fates_of m.consequent n (select owed (obligation_at m n) 0 (suc n)) ≡ fates
+  fates-owed : fates_in m.consequent n (select_ticks owed (obligation_at m n) 0 (suc n)) ≡ fates
   fates-owed =
       fates_of-select m.consequent n owed (obligation_at m n) 0 (suc n)
-      ∙ select-same owed owed (λ e. fate_of m.consequent n (obligation_at m n e)) (fate_at m n) 0 (suc n)
+      ∙ select-same owed owed (λ e. fate_in m.consequent n (obligation_at m n e)) (fate_at m n) 0 (suc n)
       (λ e from below. refl) (λ e from below is. fate_of-obligation m n e (omega arith))
 
   -- where the clock isn't disabled
@@ -201,35 +206,35 @@ module _ (B : Type 0) (value : B → ℕ → Bool) (r : Antecedent B) (s : Seq B
     owed-stays e le =
         let next : suc (n - e) ≡ n + 1 - e = omega arith in
         let count : n + 1 - e ≡ suc (n - e) = omega arith in
-        ap (λ k. owed e && not (accepts m.consequent e (n - e) || places m.consequent e k == 0)) count
-        ∙ and-regroup (is_awaited m verdict e) (each_in e n (λ k. not (m.off k))) (is_unsettled m.consequent e (n - e))
-        (not (accepts m.consequent e (n - e) || places m.consequent e (suc (n - e)) == 0))
-        ∙ ap (λ b. (is_awaited m verdict e && b) && is_unsettled m.consequent e (suc (n - e))) (sym (quiet-more e le))
-        ∙ ap (λ k. (is_awaited m verdict e && each_in e (n + 1) (λ k. not (m.off k))) && is_unsettled m.consequent e k)
+        ap (λ k. owed e && not (accepts m.consequent e (n - e) || positions_at m.consequent e k == 0)) count
+        ∙ and-regroup (awaits_at m verdict e) (each_in e n (λ k. not (m.off k))) (is_unsettled m.consequent e (n - e))
+        (not (accepts m.consequent e (n - e) || positions_at m.consequent e (suc (n - e)) == 0))
+        ∙ ap (λ b. (awaits_at m verdict e && b) && is_unsettled m.consequent e (suc (n - e))) (sym (quiet-more e le))
+        ∙ ap (λ k. (awaits_at m verdict e && each_in e (n + 1) (λ k. not (m.off k))) && is_unsettled m.consequent e k)
         next
 
-    staying-owed : staying fates ≡ select (is_owed m verdict (n + 1)) (obligation_at m (n + 1)) 0 (n + 1)
+    staying-owed : staying fates ≡ select_ticks (is_owed m verdict (n + 1)) (obligation_at m (n + 1)) 0 (n + 1)
     staying-owed =
         let more : suc n ≡ n + 1 = omega arith in
         staying-select owed (fate_at m n) 0 (suc n)
         ∙ select-same (λ e. owed e && not (is_ended (fate_at m n e))) (is_owed m verdict (n + 1))
         (λ e. stayed (fate_at m n e)) (obligation_at m (n + 1)) 0 (suc n)
         (λ e from below. owed-stays e (omega arith)) (λ e from below is. refl)
-        ∙ ap (λ k. select (is_owed m verdict (n + 1)) (obligation_at m (n + 1)) 0 k) more
+        ∙ ap (λ k. select_ticks (is_owed m verdict (n + 1)) (obligation_at m (n + 1)) 0 k) more
 
     -- an attempt that runs
     module _ (c : ℕ) (le : c ≤ n) (runs : running c) where
       abbrev x : Attempt
       x = attempt_at m (n + 1) c
 
-      awaits-IsEnd : (e : ℕ) → awaits x e ≡ true → IsEnd value r (n + 1) c e
+      awaits-IsEnd : (e : ℕ) → awaits x e ≡ true → EndsAntecedent value r (n + 1) c e
       awaits-IsEnd e h =
           let p = and_parts (nat_le c e) (bit_at (accepted_at m.antecedent c (n + 1 - c)) (e - c) == 1) h in
           let b = accepted_at-bit m.antecedent c (n + 1 - c) (e - c) (eqb-true _ 1 p.1) in
           let from : c ≤ e = leb-true c e p.0 in
           accepts-IsEnd B value r m.antecedent fr (n + 1) c e from (omega (arith, b.0)) b.1
 
-      IsEnd-awaits : (e : ℕ) → IsEnd value r (n + 1) c e → awaits x e ≡ true
+      IsEnd-awaits : (e : ℕ) → EndsAntecedent value r (n + 1) c e → awaits x e ≡ true
       IsEnd-awaits e end =
           and_from (nat_le c e) (bit_at (accepted_at m.antecedent c (n + 1 - c)) (e - c) == 1) (le-leb c e end.0)
           (eq-eqb _ 1
@@ -237,10 +242,10 @@ module _ (B : Type 0) (value : B → ℕ → Bool) (r : Antecedent B) (s : Seq B
           (IsEnd-accepts B value r m.antecedent fr (n + 1) c e end)))
 
       -- an obligation that it awaits is live, or kept before
-      owed-or-kept : (e : ℕ) → IsEnd value r (n + 1) c e → (owed e ≡ true) ⊎ IsKept value s n e
+      owed-or-kept : (e : ℕ) → EndsAntecedent value r (n + 1) c e → (owed e ≡ true) ⊎ IsKept value s n e
       owed-or-kept e end =
           let from : e ≤ n = omega (arith, end.1) in
-          let awaited : is_awaited m verdict e ≡ true =
+          let awaited : awaits_at m verdict e ≡ true =
           some_in-true 0 (e + 1) (λ c. is_open (verdict e c) && accepts m.antecedent c (e - c)) c (omega arith)
           (omega (arith, end.0))
           (and_from _ _
@@ -269,7 +274,7 @@ module _ (B : Type 0) (value : B → ℕ → Bool) (r : Antecedent B) (s : Seq B
             ]
           ]
         where
-          Leads-now : (e : ℕ) → e < n → IsEnd value r (n + 1) c e → Leads (sat value n) r c (e + 1)
+          Leads-now : (e : ℕ) → e < n → EndsAntecedent value r (n + 1) c e → Leads (sat value n) r c (e + 1)
           Leads-now e early end =
               Leads-sat B value r n c (e + 1) (omega arith)
               (Leads-seen B value r (n + 1) c (e + 1) (omega (arith, end.1)) end.2)
@@ -278,7 +283,7 @@ module _ (B : Type 0) (value : B → ℕ → Bool) (r : Antecedent B) (s : Seq B
           → ⊥
       owed-unkept e from is isnt kept =
           let live =
-          and_parts (is_awaited m verdict e && each_in e n (λ k. not (m.off k)))
+          and_parts (awaits_at m verdict e && each_in e n (λ k. not (m.off k)))
           (is_unsettled m.consequent e (n - e)) is in
           let at = IsKept-accepts B value s m.consequent fs fills (n + 1) e kept in
           elim (cases_eq at.0 (n - e)) [
@@ -296,7 +301,7 @@ module _ (B : Type 0) (value : B → ℕ → Bool) (r : Antecedent B) (s : Seq B
           let e : ℕ = f.0 in
           let p = and_parts (owed e) (is_broken (fate_at m n e) && awaits x e) f.3 in
           let q = and_parts (is_broken (fate_at m n e)) (awaits x e) p.1 in
-          let b = and_parts (not (accepts m.consequent e (n - e))) (places m.consequent e (n + 1 - e) == 0) q.0 in
+          let b = and_parts (not (accepts m.consequent e (n - e))) (positions_at m.consequent e (n + 1 - e) == 0) q.0 in
           let from : e ≤ n = omega (arith, f.2) in (
             e,
             awaits-IsEnd e q.1,
@@ -326,7 +331,8 @@ module _ (B : Type 0) (value : B → ℕ → Bool) (r : Antecedent B) (s : Seq B
           ∙ some_in-true 0 (suc n) (λ e. owed e && (is_broken (fate_at m n e) && awaits x e)) e (omega arith)
           (omega arith) (and_from _ _ is (and_from _ _ broken (IsEnd-awaits e fails.1)))
 
-      open-unkept : some_open x fates ≡ true → (e : ℕ) × IsEnd value r (n + 1) c e × (IsKept value s (n + 1) e → ⊥)
+      open-unkept : some_open x fates ≡ true → (e : ℕ) × EndsAntecedent value r (n + 1) c e
+          × (IsKept value s (n + 1) e → ⊥)
       open-unkept h =
           let f =
           some_in-found 0 (suc n) (λ e. owed e && (not (is_ended (fate_at m n e)) && awaits x e))
@@ -335,10 +341,11 @@ module _ (B : Type 0) (value : B → ℕ → Bool) (r : Antecedent B) (s : Seq B
           let e : ℕ = f.0 in
           let p = and_parts (owed e) (not (is_ended (fate_at m n e)) && awaits x e) f.3 in
           let q = and_parts (not (is_ended (fate_at m n e))) (awaits x e) p.1 in
-          let b = or_parts (accepts m.consequent e (n - e)) (places m.consequent e (n + 1 - e) == 0) (not-true _ q.0) in
+          let b = or_parts (accepts m.consequent e (n - e)) (positions_at m.consequent e (n + 1 - e) == 0)
+          (not-true _ q.0) in
           (e, awaits-IsEnd e q.1, owed-unkept e (omega (arith, f.2)) p.0 b.0)
 
-      each-kept : some_broken x fates ≡ false → some_open x fates ≡ false → (e : ℕ) → IsEnd value r (n + 1) c e
+      each-kept : some_broken x fates ≡ false → some_open x fates ≡ false → (e : ℕ) → EndsAntecedent value r (n + 1) c e
           → IsKept value s (n + 1) e
       each-kept unbroken closed e end =
           let from : e ≤ n = omega (arith, end.1) in
@@ -346,7 +353,7 @@ module _ (B : Type 0) (value : B → ℕ → Bool) (r : Antecedent B) (s : Seq B
             | inr kept ↦ IsKept-later B value s m.consequent fs n (n + 1) e (omega arith) kept
             | inl is ↦ elim (cases_Bool (accepts m.consequent e (n - e))) [
               | inl taken ↦ accepts-IsKept B value s m.consequent fs fills (n + 1) e (n - e) (omega arith) taken
-              | inr untaken ↦ elim (cases_Bool (places m.consequent e (n + 1 - e) == 0)) [
+              | inr untaken ↦ elim (cases_Bool (positions_at m.consequent e (n + 1 - e) == 0)) [
                 | inl none ↦
                     absurd (both_ways _ unbroken (
                     some_broken-select x owed (fate_at m n) 0 (suc n)
@@ -392,7 +399,7 @@ module _ (B : Type 0) (value : B → ℕ → Bool) (r : Antecedent B) (s : Seq B
           ≡ settled (verdict (n + 1) c) x rest
       ends-so unbroken closed rest =
           let p = or_parts (some_open x fates) (not (x.positions == 0)) closed in
-          let over : IsOver value r (n + 1) c =
+          let over : IsAntecedentOver value r (n + 1) c =
           places-IsOver B value r m.antecedent fr (n + 1) c (omega arith)
           (eqb-true x.positions 0 (not-false _ p.1)) in
           elim (cases_Bool (x.awaited == 0)) [
@@ -408,7 +415,7 @@ module _ (B : Type 0) (value : B → ℕ → Bool) (r : Antecedent B) (s : Seq B
             | inr some ↦
                 let at = some-accepted_at m.antecedent c (n + 1 - c) (eqb-false x.awaited 0 some) in
                 let same : at.0 ≡ c + at.0 - c = omega arith in
-                let end : IsEnd value r (n + 1) c (c + at.0) =
+                let end : EndsAntecedent value r (n + 1) c (c + at.0) =
                 accepts-IsEnd B value r m.antecedent fr (n + 1) c (c + at.0) (omega arith) (omega (arith, at.1))
                 (ap (accepts m.antecedent c) (sym same) ∙ at.2) in
                 let is : verdict (n + 1) c ≡ outcome.Holds n =
@@ -435,50 +442,52 @@ module _ (B : Type 0) (value : B → ℕ → Bool) (r : Antecedent B) (s : Seq B
           ]
 
     -- the clock goes on
-    on-goes : clock_with m n (select open_now (attempt_at m n) 0 (suc n)) (select owed (obligation_at m n) 0 n) false
+    on-goes : clock_opened m n (select_ticks open_now (attempt_at m n) 0 (suc n))
+        (select_ticks owed (obligation_at m n) 0 n) false
         ≡ record { state = standing_at m verdict (n + 1); decided = falling verdict n }
     on-goes =
         let more : suc n ≡ n + 1 = omega arith in
-        let visits : visit_each m.antecedent n (select open_now (attempt_at m n) 0 (suc n))
-        ≡ select open_now (attempt_at m (n + 1)) 0 (suc n) =
+        let visits : all_visited m.antecedent n (select_ticks open_now (attempt_at m n) 0 (suc n))
+        ≡ select_ticks open_now (attempt_at m (n + 1)) 0 (suc n) =
         visit_each-select m.antecedent n open_now (attempt_at m n) 0 (suc n)
         ∙ select-same open_now open_now
         (λ c. visited n (attempt_at m n c) (m.antecedent.step n (attempt_at m n c).positions))
         (attempt_at m (n + 1)) 0 (suc n) (λ c from below. refl)
         (λ c from below is. visited-attempt m n c (omega arith)) in
-        let told : fates_of m.consequent n
-        (with_new (some_accepts m.antecedent n (select open_now (attempt_at m n) 0 (suc n))) m.consequent n
-        (select owed (obligation_at m n) 0 n)) ≡ fates =
-        ap (fates_of m.consequent n)
-        (with_new-owed (some_accepts m.antecedent n (select open_now (attempt_at m n) 0 (suc n))) owed-new)
+        let told : fates_in m.consequent n
+        (with_opened (some_accepts m.antecedent n (select_ticks open_now (attempt_at m n) 0 (suc n))) m.consequent n
+        (select_ticks owed (obligation_at m n) 0 n)) ≡ fates =
+        ap (fates_in m.consequent n)
+        (with_new-owed (some_accepts m.antecedent n (select_ticks open_now (attempt_at m n) 0 (suc n))) owed-new)
         ∙ fates-owed in
-        let settles : settle_each n fates (select open_now (attempt_at m (n + 1)) 0 (suc n))
+        let settles : all_settled n fates (select_ticks open_now (attempt_at m (n + 1)) 0 (suc n))
         ≡ settlement open_now (attempt_at m (n + 1)) (verdict (n + 1)) 0 (suc n) =
         settle_each-select n fates open_now (attempt_at m (n + 1)) (verdict (n + 1)) 0 (suc n)
         (λ c from below is. settle-verdict c (omega arith) (is_open-runs B value m.off r s verdict are n c is)) in
-        let live : select (λ c. open_now c && is_open (verdict (n + 1) c)) (attempt_at m (n + 1)) 0 (suc n)
-        ≡ select (λ c. is_open (verdict (n + 1) c)) (attempt_at m (n + 1)) 0 (n + 1) =
+        let live : select_ticks (λ c. open_now c && is_open (verdict (n + 1) c)) (attempt_at m (n + 1)) 0 (suc n)
+        ≡ select_ticks (λ c. is_open (verdict (n + 1) c)) (attempt_at m (n + 1)) 0 (n + 1) =
         select-same (λ c. open_now c && is_open (verdict (n + 1) c)) (λ c. is_open (verdict (n + 1) c))
         (attempt_at m (n + 1)) (attempt_at m (n + 1)) 0 (suc n)
         (λ c from below. sym (open-was_open B value m.off r s verdict are n c (omega arith)))
         (λ c from below is. refl)
-        ∙ ap (λ k. select (λ c. is_open (verdict (n + 1) c)) (attempt_at m (n + 1)) 0 k) more in
-        let fall : select (λ c. open_now c && not (is_open (verdict (n + 1) c)))
+        ∙ ap (λ k. select_ticks (λ c. is_open (verdict (n + 1) c)) (attempt_at m (n + 1)) 0 k) more in
+        let fall : select_ticks (λ c. open_now c && not (is_open (verdict (n + 1) c)))
         (λ c. record { start = c; verdict = verdict (n + 1) c }) 0 (suc n) ≡ falling verdict n =
         select-same (λ c. open_now c && not (is_open (verdict (n + 1) c))) (λ c. falls_at n (verdict (n + 1) c))
         (λ c. record { start = c; verdict = verdict (n + 1) c })
         (λ c. record { start = c; verdict = verdict (n + 1) c }) 0 (suc n)
         (λ c from below. sym (falls-was_open B value m.off r s verdict are n c (omega arith)))
         (λ c from below is. refl)
-        ∙ ap (λ k. select (λ c. falls_at n (verdict (n + 1) c)) (λ c. record { start = c; verdict = verdict (n + 1) c })
+        ∙ ap (λ k. select_ticks (λ c. falls_at n (verdict (n + 1) c))
+        (λ c. record { start = c; verdict = verdict (n + 1) c })
         0 k) more in
         let whole : List Attempt → List Obligation → List Decided → Settled =
         λ xs os ds. record { state = record { now = n + 1; attempts = xs; obligations = os }; decided = ds } in
         ap (λ xs. settled_with n xs
-        (fates_of m.consequent n
-        (with_new (some_accepts m.antecedent n (select open_now (attempt_at m n) 0 (suc n))) m.consequent n
-        (select owed (obligation_at m n) 0 n)))) visits
-        ∙ ap (λ fs. settled_with n (select open_now (attempt_at m (n + 1)) 0 (suc n)) fs) told
+        (fates_in m.consequent n
+        (with_opened (some_accepts m.antecedent n (select_ticks open_now (attempt_at m n) 0 (suc n))) m.consequent n
+        (select_ticks owed (obligation_at m n) 0 n)))) visits
+        ∙ ap (λ fs. settled_with n (select_ticks open_now (attempt_at m (n + 1)) 0 (suc n)) fs) told
         ∙ ap (λ (r : Settlement). whole r.live (staying fates) r.decided) settles
         ∙ ap (λ xs. whole xs (staying fates)
         (settlement open_now (attempt_at m (n + 1)) (verdict (n + 1)) 0 (suc n)).decided) live
@@ -487,8 +496,8 @@ module _ (B : Type 0) (value : B → ℕ → Bool) (r : Antecedent B) (s : Seq B
         ∙ ap (λ ds. whole (standing_at m verdict (n + 1)).attempts (standing_at m verdict (n + 1)).obligations ds) fall
 
   -- where it is disabled
-  off-goes : m.off n ≡ true → clock_with m n (select open_now (attempt_at m n) 0 (suc n))
-      (select owed (obligation_at m n) 0 n) true
+  off-goes : m.off n ≡ true → clock_opened m n (select_ticks open_now (attempt_at m n) 0 (suc n))
+      (select_ticks owed (obligation_at m n) 0 n) true
       ≡ record { state = standing_at m verdict (n + 1); decided = falling verdict n }
   off-goes off =
       let more : suc n ≡ n + 1 = omega arith in
@@ -505,7 +514,7 @@ module _ (B : Type 0) (value : B → ℕ → Bool) (r : Antecedent B) (s : Seq B
       (let quiet : each_in e (n + 1) (λ k. not (m.off k)) ≡ false =
       false_from_ne_true _
       (λ h. both_ways _ (not-true _ (each_in-at e (n + 1) (λ k. not (m.off k)) n h le (omega arith))) off) in
-      elim (cases_Bool (is_awaited m verdict e)) [
+      elim (cases_Bool (awaits_at m verdict e)) [
         | inl on ↦ rw (on, quiet) refl
         | inr none ↦ rw none refl
       ]) in
@@ -517,16 +526,18 @@ module _ (B : Type 0) (value : B → ℕ → Bool) (r : Antecedent B) (s : Seq B
       ∙ and-true (open_now c))) in
       let ended_at : ℕ → Decided = λ c. record { start = c; verdict = outcome.Disabled n } in
       let fallen_at : ℕ → Decided = λ c. record { start = c; verdict = verdict (n + 1) c } in
-      let each : disable_each n (select open_now (attempt_at m n) 0 (suc n)) ≡ select open_now ended_at 0 (suc n) =
+      let each : all_disabled n (select_ticks open_now (attempt_at m n) 0 (suc n))
+      ≡ select_ticks open_now ended_at 0 (suc n) =
       disable_each-select n open_now (attempt_at m n) 0 (suc n) in
-      let same : select open_now ended_at 0 (suc n) ≡ select (λ c. falls_at n (verdict (n + 1) c)) fallen_at 0 (suc n) =
+      let same : select_ticks open_now ended_at 0 (suc n)
+      ≡ select_ticks (λ c. falls_at n (verdict (n + 1) c)) fallen_at 0 (suc n) =
       select-same open_now (λ c. falls_at n (verdict (n + 1) c)) ended_at fallen_at 0 (suc n)
       (λ c from below. falls c (omega arith))
       (λ c from below is. ap (λ v. record { start = c; verdict = v })
       (sym (off-Disabled B value m.off r s verdict are n c (omega arith) is off))) in
-      let last : select (λ c. falls_at n (verdict (n + 1) c)) fallen_at 0 (suc n) ≡ falling verdict n =
-      ap (select (λ c. falls_at n (verdict (n + 1) c)) fallen_at 0) more in
-      let fall : disable_each n (select open_now (attempt_at m n) 0 (suc n)) ≡ falling verdict n =
+      let last : select_ticks (λ c. falls_at n (verdict (n + 1) c)) fallen_at 0 (suc n) ≡ falling verdict n =
+      ap (select_ticks (λ c. falls_at n (verdict (n + 1) c)) fallen_at 0) more in
+      let fall : all_disabled n (select_ticks open_now (attempt_at m n) 0 (suc n)) ≡ falling verdict n =
       each ∙ (same ∙ last) in
       let whole : List Attempt → List Obligation → List Decided → Settled =
       λ xs os ds. record { state = record { now = n + 1; attempts = xs; obligations = os }; decided = ds } in
@@ -541,16 +552,18 @@ module _ (B : Type 0) (value : B → ℕ → Bool) (r : Antecedent B) (s : Seq B
       and-true false = refl
 
   -- a clock that begins where the state stands for the meaning
-  pub clock-goes : clock_of m (standing_at m verdict n)
+  pub clock-goes : monitor_clock m (standing_at m verdict n)
       ≡ record { state = standing_at m verdict (n + 1); decided = falling verdict n }
-  unfolding clock_of
+  unfolding monitor_clock
   clock-goes =
-      ap (λ xs. clock_with m n xs (select owed (obligation_at m n) 0 n) (m.off n)) with-attempt
+      ap (λ xs. clock_opened m n xs (select_ticks owed (obligation_at m n) 0 n) (m.off n)) with-attempt
       ∙ (elim (cases_Bool (m.off n)) [
         | inl off ↦
-            ap (clock_with m n (select open_now (attempt_at m n) 0 (suc n)) (select owed (obligation_at m n) 0 n)) off
+            ap (clock_opened m n (select_ticks open_now (attempt_at m n) 0 (suc n))
+            (select_ticks owed (obligation_at m n) 0 n)) off
             ∙ off-goes off
         | inr on ↦
-            ap (clock_with m n (select open_now (attempt_at m n) 0 (suc n)) (select owed (obligation_at m n) 0 n)) on
+            ap (clock_opened m n (select_ticks open_now (attempt_at m n) 0 (suc n))
+            (select_ticks owed (obligation_at m n) 0 n)) on
             ∙ on-goes on
       ])

@@ -19,8 +19,8 @@ use Rattle.machine_definition.proofs.Typing.{IsSection}
 use Rattle.machine_definition.proofs.Outcomes.{Meets-weaker}
 use Rattle.machine_definition.proofs.Accepted.{formed-of, limits-of}
 use Rattle.machine_definition.proofs.Clocks.{clock-meets}
-use Rattle.machine_sections.specs.Monitors.{Monitor, monitor_of, clock_of}
-use Rattle.machine_sections.specs.Standing.{select, is_open, falls_at, attempt_at, standing_at, falling}
+use Rattle.machine_sections.specs.Monitors.{Monitor, program_monitor, monitor_clock}
+use Rattle.machine_sections.specs.Standing.{select_ticks, is_open, falls_at, attempt_at, standing_at, falling}
 use Rattle.machine_sections.specs.Laws.{Watches, Fills, fallen, open_starts, starts_of}
 use Rattle.machine_sections.proofs.Selections.{select-longer, map-select}
 use Rattle.machine_sections.proofs.Verdicts.{AreVerdicts}
@@ -49,7 +49,7 @@ module _ (p : ProgramData) (atoms : ℕ → List Bool) (value : Boolean → ℕ 
     (s : Seq Boolean)
     (accepted : IsAccepted p) (watches : Watches p atoms value r s) (fills : Fills value s) where
   abbrev m : Monitor
-  m = monitor_of p atoms
+  m = program_monitor p atoms
 
   abbrev v : ℕ → ℕ → Verdict
   v = verdict value m.off r s
@@ -75,10 +75,10 @@ module _ (p : ProgramData) (atoms : ℕ → List Bool) (value : Boolean → ℕ 
       subst (λ k. IsSection k p.antecedent) (sym long) formed.antecedent in
       let fine_c : IsSection (length (atoms n)) p.consequent =
       subst (λ k. IsSection k p.consequent) (sym long) formed.consequent in
-      Meets-weaker (λ o left. IsReached p o.state × (o ≡ clock_of m (standing_at m v n))) (Goes n)
+      Meets-weaker (λ o left. IsReached p o.state × (o ≡ monitor_clock m (standing_at m v n))) (Goes n)
       (clock_after p (standing_at m v n) (atoms n) left)
       (λ o left h. (h.0, h.1 ∙ clock-goes Boolean value r s m watches.antecedent watches.consequent fills v are n))
-      (Meets-gives (λ o left. IsReached p o.state) (λ o. o ≡ clock_of m (standing_at m v n))
+      (Meets-gives (λ o left. IsReached p o.state) (λ o. o ≡ monitor_clock m (standing_at m v n))
       (clock_after p (standing_at m v n) (atoms n) left)
       (clock-meets p (longest_path 0 (map sample_flow p.sample)) formed limits (standing_at m v n) (atoms n) left
       reached long (omega (arith, limits.budget, enough)))
@@ -93,7 +93,7 @@ module _ (p : ProgramData) (atoms : ℕ → List Bool) (value : Boolean → ℕ 
       (count - (k + 1))
       (λ c from. false_from_ne_true _
       (late Boolean value m.off r s count c k (omega arith) (v count c) (are.stated count c))))
-      ∙ ap (select (λ c. falls_at k (v count c)) (λ c. record { start = c; verdict = v count c }) 0) whole
+      ∙ ap (select_ticks (λ c. falls_at k (v count c)) (λ c. record { start = c; verdict = v count c }) 0) whole
 
   pub starts-open : (count : ℕ) → starts_of (standing_at m v count).attempts ≡ open_starts (v count) count
   starts-open count = map-select (λ (a : Attempt). a.start) (λ c. is_open (v count c)) (attempt_at m count) 0 count

@@ -7,9 +7,10 @@ use Rattle.std.proofs.lemmas.Bool.{both_ways, not-true, and_parts, and_cases, or
 use Rattle.std.proofs.lemmas.Bool.{cases_lt, cases_eq, eqb-true}
 use Rattle.std.proofs.lemmas.Nat.Bits.{bit_at_or, bit_at-pow_same, bit_at-pow_other, bit_at-zero, bit_at-lt}
 use Rattle.assertions.specs.Segments.{Seq, sat, Matches}
-use Rattle.assertions.specs.Attempts.{Antecedent, every, MatchesBy, Leads, IsEnd, IsKept, IsBroken, IsOver}
+use Rattle.assertions.specs.Attempts.{Antecedent, every, MatchesBy, Leads, EndsAntecedent, IsKept, IsBroken}
+use Rattle.assertions.specs.Attempts.{IsAntecedentOver}
 use Rattle.assertions.proofs.Segments.{Matches-forward}
-use Rattle.machine_sections.specs.Automata.{Automaton, places, accepts, accepted_at, Follows}
+use Rattle.machine_sections.specs.Automata.{Automaton, positions_at, accepts, accepted_at, AutomatonFollows}
 use Rattle.machine_sections.specs.Standing.{is_unsettled}
 use Rattle.machine_sections.proofs.Local.{Matches-seen, Matches-sat, Matches-earlier}
 
@@ -105,14 +106,15 @@ pub Leads-sat : (B : Type 0) (value : B → ℕ → Bool) (r : Antecedent B) (n 
     → Leads value r i j → Leads (sat value n) r i j
 Leads-sat B value r n i j by h = sat-by B value r.first r.sequence n i j by h
 
-module _ (B : Type 0) (value : B → ℕ → Bool) (r : Antecedent B) (a : Automaton) (follows : Follows value r a) where
-  pub IsEnd-accepts : (n c e : ℕ) → IsEnd value r n c e → IsTrue (accepts a c (e - c))
+module _ (B : Type 0) (value : B → ℕ → Bool) (r : Antecedent B) (a : Automaton)
+    (follows : AutomatonFollows value r a) where
+  pub IsEnd-accepts : (n c e : ℕ) → EndsAntecedent value r n c e → IsTrue (accepts a c (e - c))
   IsEnd-accepts n c e end =
       let same : e + 1 ≡ c + (e - c) + 1 = omega (arith, end.0) in
       (follows.ends c (e - c)).1
       (subst (Leads value r c) same (Leads-seen B value r n c (e + 1) (omega (arith, end.1)) end.2))
 
-  pub accepts-IsEnd : (n c e : ℕ) → c ≤ e → e < n → IsTrue (accepts a c (e - c)) → IsEnd value r n c e
+  pub accepts-IsEnd : (n c e : ℕ) → c ≤ e → e < n → IsTrue (accepts a c (e - c)) → EndsAntecedent value r n c e
   accepts-IsEnd n c e from below h =
       let same : c + (e - c) + 1 ≡ e + 1 = omega arith in (
         from,
@@ -120,17 +122,18 @@ module _ (B : Type 0) (value : B → ℕ → Bool) (r : Antecedent B) (a : Autom
         Leads-sat B value r n c (e + 1) (omega arith) (subst (Leads value r c) same ((follows.ends c (e - c)).0 h)),
       )
 
-  pub IsOver-places : (n c : ℕ) → c ≤ n → IsOver value r n c → places a c (n - c) ≡ 0
+  pub IsOver-places : (n c : ℕ) → c ≤ n → IsAntecedentOver value r n c → positions_at a c (n - c) ≡ 0
   IsOver-places n c le over =
       let same : n ≡ c + (n - c) = omega arith in
-      (follows.over c (n - c)).1 (subst (λ k. IsOver value r k c) same over)
+      (follows.over c (n - c)).1 (subst (λ k. IsAntecedentOver value r k c) same over)
 
-  pub places-IsOver : (n c : ℕ) → c ≤ n → places a c (n - c) ≡ 0 → IsOver value r n c
+  pub places-IsOver : (n c : ℕ) → c ≤ n → positions_at a c (n - c) ≡ 0 → IsAntecedentOver value r n c
   places-IsOver n c le h =
       let same : c + (n - c) ≡ n = omega arith in
-      subst (λ k. IsOver value r k c) same ((follows.over c (n - c)).0 h)
+      subst (λ k. IsAntecedentOver value r k c) same ((follows.over c (n - c)).0 h)
 
-module _ (B : Type 0) (value : B → ℕ → Bool) (r : Seq B) (a : Automaton) (follows : Follows value (every r) a) where
+module _ (B : Type 0) (value : B → ℕ → Bool) (r : Seq B) (a : Automaton)
+    (follows : AutomatonFollows value (every r) a) where
   -- an obligation that is kept stays kept; one that is broken stays broken; none is both
   pub IsKept-later : (m n e : ℕ) → m ≤ n → IsKept value r m e → IsKept value r n e
   IsKept-later m n e le kept = (
@@ -145,10 +148,11 @@ module _ (B : Type 0) (value : B → ℕ → Bool) (r : Seq B) (a : Automaton) (
   pub IsBroken-not_kept : (n e : ℕ) → IsBroken value r n e → IsKept value r n e → ⊥
   IsBroken-not_kept n e broken kept = broken kept.0 kept.2
 
-  pub IsBroken-places : (n e : ℕ) → e ≤ n → IsBroken value r n e → places a e (n - e) ≡ 0
+  pub IsBroken-places : (n e : ℕ) → e ≤ n → IsBroken value r n e → positions_at a e (n - e) ≡ 0
   IsBroken-places n e le broken = IsOver-places B value (every r) a follows n e le (λ j later h. broken j h)
 
-  pub places-IsBroken : (n e : ℕ) → e ≤ n → places a e (n - e) ≡ 0 → (IsKept value r n e → ⊥) → IsBroken value r n e
+  pub places-IsBroken : (n e : ℕ) → e ≤ n → positions_at a e (n - e) ≡ 0 → (IsKept value r n e → ⊥)
+      → IsBroken value r n e
   places-IsBroken n e le none unkept j h =
       elim (cases_lt n j) [
         | inl later ↦ places-IsOver B value (every r) a follows n e le none j later h
@@ -178,9 +182,10 @@ module _ (B : Type 0) (value : B → ℕ → Bool) (r : Seq B) (a : Automaton) (
     unsettled-before : (e k j : ℕ) → IsTrue (is_unsettled a e k) → j < k → IsTrue (accepts a e j) → ⊥
     unsettled-before e zero j h below on = omega arith
     unsettled-before e (suc k) j h below on =
-        let p = and_parts (is_unsettled a e k) (not (accepts a e k || places a e (suc k) == 0)) h in
+        let p = and_parts (is_unsettled a e k) (not (accepts a e k || positions_at a e (suc k) == 0)) h in
         elim (cases_eq j k) [
-          | inl same ↦ both_ways (accepts a e k) (or_parts (accepts a e k) (places a e (suc k) == 0) (not-true _ p.1)).0
+          | inl same ↦ both_ways (accepts a e k)
+              (or_parts (accepts a e k) (positions_at a e (suc k) == 0) (not-true _ p.1)).0
               (ap (accepts a e) (sym same) ∙ on)
           | inr other ↦ unsettled-before e k j p.0 (omega arith) on
         ]
@@ -205,16 +210,16 @@ module _ (B : Type 0) (value : B → ℕ → Bool) (r : Seq B) (a : Automaton) (
               elim (cases_Bool (accepts a e k)) [
                 | inl shown ↦ inl (accepts-IsKept (e + suc k) e k (omega arith) shown)
                 | inr quiet ↦
-                    let ended : (accepts a e k || places a e (suc k) == 0) ≡ true =
-                    elim (and_cases (is_unsettled a e k) (not (accepts a e k || places a e (suc k) == 0)) h)
+                    let ended : (accepts a e k || positions_at a e (suc k) == 0) ≡ true =
+                    elim (and_cases (is_unsettled a e k) (not (accepts a e k || positions_at a e (suc k) == 0)) h)
                     [ inl x ↦ absurd (both_ways _ x on) | inr x ↦ not-false _ x ] in
-                    elim (or_cases (accepts a e k) (places a e (suc k) == 0) ended) [
+                    elim (or_cases (accepts a e k) (positions_at a e (suc k) == 0) ended) [
                       | inl shown ↦ absurd (both_ways _ quiet shown)
                       | inr empty ↦
                           let count : suc k ≡ e + suc k - e = omega arith in
                           let here = is_unsettled-more e k on quiet in
                           inr (places-IsBroken (e + suc k) e (omega arith)
-                          (ap (places a e) (sym count) ∙ eqb-true (places a e (suc k)) 0 empty)
+                          (ap (positions_at a e) (sym count) ∙ eqb-true (positions_at a e (suc k)) 0 empty)
                           (λ kept. let x = IsKept-accepts (e + suc k) e kept in here x.0 (omega (arith, x.1)) x.2))
                     ]
               ]

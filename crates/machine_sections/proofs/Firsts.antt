@@ -12,11 +12,11 @@ use Rattle.bytecode.specs.declared.block_instr.BlockInstr.TheVariants.{AcceptFir
 use Rattle.bytecode.specs.Values.{SectionData}
 use Rattle.machine_definition.specs.Blocks.{Visit, ended}
 use Rattle.assertions.specs.Segments.{Seq, sat, Matches, MatchesFirst}
-use Rattle.assertions.specs.Attempts.{every, first_match, IsOver}
+use Rattle.assertions.specs.Attempts.{every, first_match, IsAntecedentOver}
 use Rattle.assertions.proofs.Segments.{Matches-forward}
-use Rattle.machine_sections.specs.Automata.{Automaton, places, accepts, Follows}
+use Rattle.machine_sections.specs.Automata.{Automaton, positions_at, accepts, AutomatonFollows}
 use Rattle.machine_sections.specs.Effects.{effect, effects, visit_of, automaton_of}
-use Rattle.machine_sections.specs.Firsts.{first_step, accepting_first, IsPlain, ArePlain, AcceptsFirst}
+use Rattle.machine_sections.specs.Firsts.{first_step, accepting_first, HasNoAcceptFirst, ArePlain, AcceptsFirst}
 use Rattle.machine_sections.proofs.Local.{Matches-seen, Matches-sat}
 
 -- ---- what the blocks make
@@ -25,7 +25,7 @@ use Rattle.machine_sections.proofs.Local.{Matches-seen, Matches-sat}
 turned : Visit → Visit
 turned v = record { entered = v.entered; accepted = v.accepted; first = v.accepted }
 
-effect-turned : (atoms : List Bool) (k pc : ℕ) (is : List BlockInstr) → IsPlain is → (v : Visit)
+effect-turned : (atoms : List Bool) (k pc : ℕ) (is : List BlockInstr) → HasNoAcceptFirst is → (v : Visit)
     → effect atoms k pc (map first_step is) (turned v) ≡ turned (effect atoms k pc is v)
 unfolding turned
 effect-turned atoms k pc [] plain v = refl
@@ -43,7 +43,7 @@ effect-turned atoms zero pc (Enter q ∷ is) plain v =
 effect-turned atoms zero pc (Unless atom target ∷ is) plain v =
     effect-turned atoms (if slice_index_or atoms atom true then 0 else target - (pc + 1)) (pc + 1) is plain v
 
-effect-first : (atoms : List Bool) (k pc : ℕ) (is : List BlockInstr) → IsPlain is → (v : Visit)
+effect-first : (atoms : List Bool) (k pc : ℕ) (is : List BlockInstr) → HasNoAcceptFirst is → (v : Visit)
     → (effect atoms k pc is v).first ≡ v.first
 effect-first atoms k pc [] plain v = refl
 effect-first atoms (suc k) pc (Unless atom target ∷ is) plain v = effect-first atoms k (pc + 1) is plain v
@@ -149,36 +149,36 @@ some-before a c (suc k) j below h =
 module _ (a f : Automaton) (start : f.start ≡ a.start)
     (steps : (i set : ℕ) → f.step i set ≡ halted (a.step i set)) (quiet : (i : ℕ) → (a.step i 0).accepted ≡ false)
     (empty : (i : ℕ) → (a.step i 0).entered ≡ 0) where
-  entered-by : (c k : ℕ) (b : Bool) → places f c k ≡ (if b then 0 else places a c k)
-      → places f c (suc k) ≡ (if (b || accepts a c k) then 0 else places a c (suc k))
+  entered-by : (c k : ℕ) (b : Bool) → positions_at f c k ≡ (if b then 0 else positions_at a c k)
+      → positions_at f c (suc k) ≡ (if (b || accepts a c k) then 0 else positions_at a c (suc k))
   unfolding halted
   entered-by c k true e =
-      let here : places f c (suc k) ≡ (halted (a.step (c + k) 0)).entered =
+      let here : positions_at f c (suc k) ≡ (halted (a.step (c + k) 0)).entered =
       ap (λ n. (f.step (c + k) n).entered) e ∙ ap (λ (v : Visit). v.entered) (steps (c + k) 0) in
       here
       ∙ ap (λ b. if b then 0 else (a.step (c + k) 0).entered) (quiet (c + k))
       ∙ empty (c + k)
   entered-by c k false e =
-      ap (λ n. (f.step (c + k) n).entered) e ∙ ap (λ (v : Visit). v.entered) (steps (c + k) (places a c k))
+      ap (λ n. (f.step (c + k) n).entered) e ∙ ap (λ (v : Visit). v.entered) (steps (c + k) (positions_at a c k))
 
-  places-first : (c k : ℕ) → places f c k ≡ (if before a c k then 0 else places a c k)
+  places-first : (c k : ℕ) → positions_at f c k ≡ (if before a c k then 0 else positions_at a c k)
   unfolding before
   places-first c zero = start
   places-first c (suc k) = entered-by c k (before a c k) (places-first c k)
 
-  accepts-by : (c k : ℕ) (b : Bool) → places f c k ≡ (if b then 0 else places a c k)
+  accepts-by : (c k : ℕ) (b : Bool) → positions_at f c k ≡ (if b then 0 else positions_at a c k)
       → accepts f c k ≡ (if b then false else accepts a c k)
   unfolding halted
   accepts-by c k true e =
       ap (λ n. (f.step (c + k) n).accepted) e ∙ ap (λ (v : Visit). v.accepted) (steps (c + k) 0) ∙ quiet (c + k)
   accepts-by c k false e =
-      ap (λ n. (f.step (c + k) n).accepted) e ∙ ap (λ (v : Visit). v.accepted) (steps (c + k) (places a c k))
+      ap (λ n. (f.step (c + k) n).accepted) e ∙ ap (λ (v : Visit). v.accepted) (steps (c + k) (positions_at a c k))
 
   accepts-first : (c k : ℕ) → accepts f c k ≡ (if before a c k then false else accepts a c k)
   accepts-first c k = accepts-by c k (before a c k) (places-first c k)
 
   module _ (B : Type 0) (value : B → ℕ → Bool) (r : Seq B) (fills : (e : ℕ) → Matches value r e e → ⊥)
-      (follows : Follows value (every r) a) where
+      (follows : AutomatonFollows value (every r) a) where
     -- a match that ends by a tick was accepted before it
     match-before : (c k j : ℕ) → j < c + k + 1 → Matches value r c j → before a c k ≡ true
     match-before c k j below m =
@@ -217,14 +217,14 @@ module _ (a f : Automaton) (start : f.start ≡ a.start)
               accepts-first c k ∙ ap (λ b. if b then false else accepts a c k) never ∙ (follows.ends c k).1 m.0
         ]
 
-    over-first : (c k : ℕ) → places f c k ≡ 0 → (j : ℕ) → c + k < j → MatchesFirst (sat value (c + k)) r c j → ⊥
+    over-first : (c k : ℕ) → positions_at f c k ≡ 0 → (j : ℕ) → c + k < j → MatchesFirst (sat value (c + k)) r c j → ⊥
     over-first c k none j later m =
         elim (cases_Bool (before a c k)) [
           | inl was ↦
               let x = before-match c k was in
               m.1 x.0 (omega (arith, x.1, later)) (Matches-sat B value r (c + k) c x.0 x.2)
           | inr never ↦
-              let gone = sym (places-first c k ∙ ap (λ b. if b then 0 else places a c k) never) ∙ none in
+              let gone = sym (places-first c k ∙ ap (λ b. if b then 0 else positions_at a c k) never) ∙ none in
               (follows.over c k).0 gone j later m.0
         ]
 
@@ -245,16 +245,16 @@ module _ (a f : Automaton) (start : f.start ≡ a.start)
               ],
         )
 
-    first-over : (c k : ℕ) → ((j : ℕ) → c + k < j → MatchesFirst (sat value (c + k)) r c j → ⊥) → places f c k ≡ 0
+    first-over : (c k : ℕ) → ((j : ℕ) → c + k < j → MatchesFirst (sat value (c + k)) r c j → ⊥) → positions_at f c k ≡ 0
     first-over c k over =
         elim (cases_Bool (before a c k)) [
-          | inl was ↦ places-first c k ∙ ap (λ b. if b then 0 else places a c k) was
+          | inl was ↦ places-first c k ∙ ap (λ b. if b then 0 else positions_at a c k) was
           | inr never ↦
-              places-first c k ∙ ap (λ b. if b then 0 else places a c k) never
+              places-first c k ∙ ap (λ b. if b then 0 else positions_at a c k) never
               ∙ (follows.over c k).1 (λ j later m. none-later c k never over (suc j) j (omega arith) later m)
         ]
 
-    follows-first : Follows value (first_match r) f
+    follows-first : AutomatonFollows value (first_match r) f
     follows-first = record {
       ends = λ c k. (first-ends c k, ends-first c k);
       over = λ c k. (over-first c k, first-over c k);

@@ -9,7 +9,7 @@ use Rattle.std.proofs.lemmas.List.{get_or-take, get_or-replicate, get_or_past}
 use Rattle.bytecode.specs.Values.{ProgramData}
 use Rattle.bytecode.specs.Instructions.{frame_of}
 use Rattle.machine_definition.specs.Machine.{sample_of}
-use Rattle.machine_sections.specs.History.{row_at, rows_before, rows_at, held}
+use Rattle.machine_sections.specs.History.{clock_row, rows_before, sample_rows, slot_held_at}
 use Rattle.machine_sections.specs.Laws.{ReadsHeld}
 
 -- a slot of a row of zeros
@@ -22,14 +22,14 @@ zero-slot n slot =
 
 module _ (p : ProgramData) (signals counters : ℕ → List ℕ) where
   kept-since : (n back : ℕ) → back ≤ p.header.limits.history → back < n
-      → slice_index_or (rows_before p signals counters n) back [] ≡ row_at signals counters (n - (back + 1))
+      → slice_index_or (rows_before p signals counters n) back [] ≡ clock_row signals counters (n - (back + 1))
   kept-since zero back reach since = absurd (omega arith)
-  kept-since (suc n) zero reach since = let e : n ≡ suc n - (0 + 1) = omega arith in ap (row_at signals counters) e
+  kept-since (suc n) zero reach since = let e : n ≡ suc n - (0 + 1) = omega arith in ap (clock_row signals counters) e
   kept-since (suc n) (suc back) reach since =
       let e : n - (back + 1) ≡ suc n - (suc back + 1) = omega arith in
       get_or-take p.header.limits.history (rows_before p signals counters n) back [] (omega arith)
       ∙ kept-since n back (omega arith) (omega arith)
-      ∙ ap (row_at signals counters) e
+      ∙ ap (clock_row signals counters) e
 
   kept-before : (n back slot : ℕ) → back ≤ p.header.limits.history → n ≤ back
       → slice_index (slice_index_or (rows_before p signals counters n) back []) slot ≡ 0
@@ -44,8 +44,8 @@ module _ (p : ProgramData) (signals counters : ℕ → List ℕ) where
       (get_or-take p.header.limits.history (rows_before p signals counters n) back [] (omega arith))
       ∙ kept-before n back slot (omega arith) (omega arith)
 
-  reads-at : (k back slot : ℕ) → back ≤ p.header.limits.history → sample_of (rows_at p signals counters k) back slot
-      ≡ held (row_at signals counters) k back slot
+  reads-at : (k back slot : ℕ) → back ≤ p.header.limits.history → sample_of (sample_rows p signals counters k) back slot
+      ≡ slot_held_at (clock_row signals counters) k back slot
   reads-at k back slot reach =
       elim (cases_lt k back) [
         | inl before ↦ rw (lt-leb back k before) (kept-before (suc k) back slot reach (omega arith))
@@ -53,7 +53,7 @@ module _ (p : ProgramData) (signals counters : ℕ → List ℕ) where
             let e : suc k - (back + 1) ≡ k - back = omega arith in
             rw (le-leb back k since)
             (ap (λ row. slice_index row slot) (kept-since (suc k) back reach (omega arith)
-            ∙ ap (row_at signals counters) e))
+            ∙ ap (clock_row signals counters) e))
       ]
 
 pub reads : ReadsHeld

@@ -8,12 +8,12 @@ use Rattle.machine_definition.specs.Clocks.{Attempt, Obligation, visited, Fate, 
 use Rattle.machine_definition.specs.Clocks.{some_broken, some_open, Settlement, stays, ends, settle}
 use Rattle.assertions.specs.Quantifiers.{some_of}
 use Rattle.machine_sections.specs.Automata.{Automaton}
-use Rattle.machine_sections.specs.Monitors.{visit_each, some_accepts, fate_of, fates_of, settle_each, disable_each}
-use Rattle.machine_sections.specs.Standing.{select, is_open}
+use Rattle.machine_sections.specs.Monitors.{all_visited, some_accepts, fate_in, fates_in, all_settled, all_disabled}
+use Rattle.machine_sections.specs.Standing.{select_ticks, is_open}
 
 module _ (a : Automaton) (n : ℕ) where
-  pub visit_each-select : (p : ℕ → Bool) (f : ℕ → Attempt) (i k : ℕ) → visit_each a n (select p f i k)
-      ≡ select p (λ c. visited n (f c) (a.step n (f c).positions)) i k
+  pub visit_each-select : (p : ℕ → Bool) (f : ℕ → Attempt) (i k : ℕ) → all_visited a n (select_ticks p f i k)
+      ≡ select_ticks p (λ c. visited n (f c) (a.step n (f c).positions)) i k
   visit_each-select p f i zero = refl
   visit_each-select p f i (suc k) =
       let rest = visit_each-select p f (i + 1) k in
@@ -22,7 +22,7 @@ module _ (a : Automaton) (n : ℕ) where
         | inr off ↦ rw off rest
       ]
 
-  pub some_accepts-select : (p : ℕ → Bool) (f : ℕ → Attempt) (i k : ℕ) → some_accepts a n (select p f i k)
+  pub some_accepts-select : (p : ℕ → Bool) (f : ℕ → Attempt) (i k : ℕ) → some_accepts a n (select_ticks p f i k)
       ≡ some_of i k (λ c. p c && (a.step n (f c).positions).accepted)
   some_accepts-select p f i zero = refl
   some_accepts-select p f i (suc k) =
@@ -32,21 +32,21 @@ module _ (a : Automaton) (n : ℕ) where
         | inr off ↦ rw off rest
       ]
 
-  pub fates_of-select : (p : ℕ → Bool) (f : ℕ → Obligation) (i k : ℕ) → fates_of a n (select p f i k)
-      ≡ select p (λ e. fate_of a n (f e)) i k
+  pub fates_of-select : (p : ℕ → Bool) (f : ℕ → Obligation) (i k : ℕ) → fates_in a n (select_ticks p f i k)
+      ≡ select_ticks p (λ e. fate_in a n (f e)) i k
   fates_of-select p f i zero = refl
   fates_of-select p f i (suc k) =
       let rest = fates_of-select p f (i + 1) k in
       elim (cases_Bool (p i)) [
-        | inl on ↦ rw on (ap (λ xs. fate_of a n (f i) ∷ xs) rest)
+        | inl on ↦ rw on (ap (λ xs. fate_in a n (f i) ∷ xs) rest)
         | inr off ↦ rw off rest
       ]
 
 abbrev pub stayed : Fate → Obligation
 stayed f = record { tick = f.tick; positions = f.positions }
 
-pub staying-select : (p : ℕ → Bool) (f : ℕ → Fate) (i k : ℕ) → staying (select p f i k)
-    ≡ select (λ e. p e && not (is_ended (f e))) (λ e. stayed (f e)) i k
+pub staying-select : (p : ℕ → Bool) (f : ℕ → Fate) (i k : ℕ) → staying (select_ticks p f i k)
+    ≡ select_ticks (λ e. p e && not (is_ended (f e))) (λ e. stayed (f e)) i k
 staying-select p f i zero = refl
 staying-select p f i (suc k) =
     let rest = staying-select p f (i + 1) k in
@@ -58,7 +58,7 @@ staying-select p f i (suc k) =
       ]
     ]
 
-pub some_broken-select : (x : Attempt) (p : ℕ → Bool) (f : ℕ → Fate) (i k : ℕ) → some_broken x (select p f i k)
+pub some_broken-select : (x : Attempt) (p : ℕ → Bool) (f : ℕ → Fate) (i k : ℕ) → some_broken x (select_ticks p f i k)
     ≡ some_of i k (λ e. p e && (is_broken (f e) && awaits x (f e).tick))
 some_broken-select x p f i zero = refl
 some_broken-select x p f i (suc k) =
@@ -68,7 +68,7 @@ some_broken-select x p f i (suc k) =
       | inr off ↦ rw off rest
     ]
 
-pub some_open-select : (x : Attempt) (p : ℕ → Bool) (f : ℕ → Fate) (i k : ℕ) → some_open x (select p f i k)
+pub some_open-select : (x : Attempt) (p : ℕ → Bool) (f : ℕ → Fate) (i k : ℕ) → some_open x (select_ticks p f i k)
     ≡ some_of i k (λ e. p e && (not (is_ended (f e)) && awaits x (f e).tick))
 some_open-select x p f i zero = refl
 some_open-select x p f i (suc k) =
@@ -78,8 +78,8 @@ some_open-select x p f i (suc k) =
       | inr off ↦ rw off rest
     ]
 
-pub disable_each-select : (n : ℕ) (p : ℕ → Bool) (f : ℕ → Attempt) (i k : ℕ) → disable_each n (select p f i k)
-    ≡ select p (λ c. record { start = (f c).start; verdict = Disabled n }) i k
+pub disable_each-select : (n : ℕ) (p : ℕ → Bool) (f : ℕ → Attempt) (i k : ℕ) → all_disabled n (select_ticks p f i k)
+    ≡ select_ticks p (λ c. record { start = (f c).start; verdict = Disabled n }) i k
 disable_each-select n p f i zero = refl
 disable_each-select n p f i (suc k) =
     let rest = disable_each-select n p f (i + 1) k in
@@ -98,8 +98,8 @@ settled (Disabled t) x r = ends x (Disabled t) r
 
 abbrev pub settlement : (ℕ → Bool) → (ℕ → Attempt) → (ℕ → Verdict) → ℕ → ℕ → Settlement
 settlement p f v i k = record {
-  live = select (λ c. p c && is_open (v c)) f i k;
-  decided = select (λ c. p c && not (is_open (v c))) (λ c. record { start = (f c).start; verdict = v c }) i k;
+  live = select_ticks (λ c. p c && is_open (v c)) f i k;
+  decided = select_ticks (λ c. p c && not (is_open (v c))) (λ c. record { start = (f c).start; verdict = v c }) i k;
 }
 
 settled-on : (p : ℕ → Bool) (f : ℕ → Attempt) (v : ℕ → Verdict) (i k : ℕ) (w : Verdict) → v i ≡ w → p i ≡ true
@@ -112,17 +112,17 @@ settled-on p f v i k (Disabled t) e on = rw (on, e) refl
 
 pub settle_each-select : (n : ℕ) (fates : List Fate) (p : ℕ → Bool) (f : ℕ → Attempt) (v : ℕ → Verdict) (i k : ℕ)
     → ((c : ℕ) → i ≤ c → c < i + k → p c ≡ true → (rest : Settlement) → settle n fates (f c) rest
-    ≡ settled (v c) (f c) rest) → settle_each n fates (select p f i k) ≡ settlement p f v i k
+    ≡ settled (v c) (f c) rest) → all_settled n fates (select_ticks p f i k) ≡ settlement p f v i k
 settle_each-select n fates p f v i zero each = refl
 settle_each-select n fates p f v i (suc k) each =
     let rest = settle_each-select n fates p f v (i + 1) k (λ c from below. each c (omega arith) (omega arith)) in
     elim (cases_Bool (p i)) [
       | inl on ↦
           let here = each i (omega arith) (omega arith) on (settlement p f v (i + 1) k) in
-          subst (λ xs. settle_each n fates xs ≡ settlement p f v i (suc k)) (list-on i k on)
+          subst (λ xs. all_settled n fates xs ≡ settlement p f v i (suc k)) (list-on i k on)
           (ap (λ r. settle n fates (f i) r) rest ∙ here ∙ settled-on p f v i k (v i) refl on)
       | inr off ↦ rw off rest
     ]
   where
-    list-on : (i k : ℕ) → p i ≡ true → f i ∷ select p f (i + 1) k ≡ select p f i (suc k)
+    list-on : (i k : ℕ) → p i ≡ true → f i ∷ select_ticks p f (i + 1) k ≡ select_ticks p f i (suc k)
     list-on i k on = rw on refl

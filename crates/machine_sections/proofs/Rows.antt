@@ -16,15 +16,15 @@ use Rattle.machine_definition.specs.Outcomes.{Ran, done, trapped, Meets}
 use Rattle.machine_definition.specs.Samples.{Made, nothing_made}
 use Rattle.machine_definition.specs.Clocks.{Settled, clock_after}
 use Rattle.machine_definition.specs.Machine.{State, Outcome, opening, sample_of, stored, with_standing, clock}
-use Rattle.machine_definition.specs.Runs.{behind, run_from}
+use Rattle.machine_definition.specs.Runs.{outcome_behind, run_from}
 use Rattle.machine_definition.specs.Bounds.{IsReached}
 use Rattle.machine_definition.proofs.Outcomes.{Meets-and_then}
 use Rattle.machine_definition.proofs.Accepted.{limits-of, runs-of}
 use Rattle.machine_definition.proofs.Samples.{run_sample-meets}
 use Rattle.machine_definition.proofs.Machine.{cost, longer}
-use Rattle.machine_sections.specs.Monitors.{Monitor, monitor_of}
+use Rattle.machine_sections.specs.Monitors.{Monitor, program_monitor}
 use Rattle.machine_sections.specs.Standing.{standing_at, falling}
-use Rattle.machine_sections.specs.History.{rows_before, rows_at, sample_run, IsMadeOf, SamplesAs}
+use Rattle.machine_sections.specs.History.{rows_before, sample_rows, sample_run, IsSampleMade, SamplesAs}
 use Rattle.machine_sections.specs.Laws.{Watches, Fills, fallen, all_fallen, IsJudgedOver, RunsByMeaning}
 use Rattle.machine_sections.proofs.Deciding.{Goes, clock-decides, falling-fallen, starts-open}
 
@@ -32,7 +32,7 @@ Meets-both : {A : Type 0} (P Q : A → ℕ → Type 0) (x : Ran A) → Meets P x
 Meets-both P Q (done a n) h g = (h, g)
 Meets-both P Q (trapped t) h g = h
 
--- what comes to this value, with so many ticks left
+-- what comes to this value, with so much of the budget left
 Meets-done : {A : Type 0} (a : A) (n : ℕ) (x : Ran A) → Meets (λ b m. (b ≡ a) × (m ≡ n)) x → x ≡ done a n
 Meets-done a n (done b m) h = ap (λ c. done c m) h.0 ∙ ap (done a) h.1
 Meets-done a n (trapped t) h = absurd h
@@ -46,7 +46,7 @@ sample-costs : (p : ProgramData) (signals counters : ℕ → List ℕ) (a : IsAc
     → Meets (Costs p) (sample_run p signals counters k)
 unfolding cost
 sample-costs p signals counters a k =
-    run_sample-meets (frame_of p) p.header.limits (sample_of (rows_at p signals counters k)) p.sample a.table
+    run_sample-meets (frame_of p) p.header.limits (sample_of (sample_rows p signals counters k)) p.sample a.table
     (runs-of p a) (cost p a) (longer p a) p.header.limits.budget 0 [] (nothing_made (frame_of p))
     (length-replicate p.header.atoms false) a.sample.some a.sample.begins (omega (arith, (limits-of p a).budget))
 
@@ -54,7 +54,7 @@ module _ (p : ProgramData) (signals counters : ℕ → List ℕ) (atoms : ℕ �
     (r : Antecedent Boolean) (s : Seq Boolean) (accepted : IsAccepted p) (watches : Watches p atoms value r s)
     (fills : Fills value s) where
   abbrev m : Monitor
-  m = monitor_of p atoms
+  m = program_monitor p atoms
 
   abbrev v : ℕ → ℕ → Verdict
   v = verdict value m.off r s
@@ -67,7 +67,7 @@ module _ (p : ProgramData) (signals counters : ℕ → List ℕ) (atoms : ℕ �
   outcome_at n = record { state = state_at (n + 1); decided = falling v n }
 
   abbrev Makes : ℕ → Made → ℕ → Type 0
-  Makes n made left = IsMadeOf (counters n) (atoms n) (counters (n + 1)) made
+  Makes n made left = IsSampleMade (counters n) (atoms n) (counters (n + 1)) made
 
   abbrev Steps : ℕ → Outcome → ℕ → Type 0
   Steps n o left = IsReached p o.state.standing × (o ≡ outcome_at n)
@@ -75,11 +75,11 @@ module _ (p : ProgramData) (signals counters : ℕ → List ℕ) (atoms : ℕ �
   -- with what the sample code made, and what stands behind the clock
   outcome-same : (n : ℕ) (made : Made) (o : Settled) → stored made.stores (counters n) ≡ counters (n + 1)
       → o ≡ record { state = standing_at m v (n + 1); decided = falling v n }
-      → with_standing (rows_at p signals counters n) (stored made.stores (counters n)) o ≡ outcome_at n
+      → with_standing (sample_rows p signals counters n) (stored made.stores (counters n)) o ≡ outcome_at n
   outcome-same n made o next is =
       let e : suc n ≡ n + 1 = omega arith in
-      ap (with_standing (rows_at p signals counters n) (stored made.stores (counters n))) is
-      ∙ ap (λ cs. with_standing (rows_at p signals counters n) cs
+      ap (with_standing (sample_rows p signals counters n) (stored made.stores (counters n))) is
+      ∙ ap (λ cs. with_standing (sample_rows p signals counters n) cs
       (record { state = standing_at m v (n + 1); decided = falling v n })) next
       ∙ ap (λ k. with_standing (rows_before p signals counters k) (counters (n + 1))
       (record { state = standing_at m v (n + 1); decided = falling v n })) e
@@ -124,8 +124,8 @@ module _ (p : ProgramData) (signals counters : ℕ → List ℕ) (atoms : ℕ �
       (run-comes (first + 1) count (λ k below. makes k (omega arith))
       (subst (λ (st : State). IsReached p st.standing) state h.0)))
       (λ x rest is. (
-        ap (behind o.decided) is.0
-            ∙ ap (λ ds. behind ds (came_to (first + 1) count)) (ap (λ (o : Outcome). o.decided) h.1)
+        ap (outcome_behind o.decided) is.0
+            ∙ ap (λ ds. outcome_behind ds (came_to (first + 1) count)) (ap (λ (o : Outcome). o.decided) h.1)
             ∙ ap (λ k. record {
               state = state_at k;
               decided = falling v first ++ flat_map (falling v) (range_with_len (first + 1) count);

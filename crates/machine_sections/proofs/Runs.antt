@@ -11,9 +11,9 @@ use Rattle.assertions.specs.Segments.{Seq, Matches}
 use Rattle.assertions.specs.Attempts.{Antecedent, every, IsFirstDecided, IsUndecided, IsFirstOff, IsNeverOff}
 use Rattle.assertions.specs.Attempts.{IsVerdict, verdict}
 use Rattle.assertions.proofs.Verdicts.{IsVerdict-verdict, IsVerdict-only}
-use Rattle.machine_sections.specs.Automata.{Follows}
-use Rattle.machine_sections.specs.Monitors.{Monitor, clock_of, after, decided_at}
-use Rattle.machine_sections.specs.Standing.{select, is_open, falls_at, standing_at, falling}
+use Rattle.machine_sections.specs.Automata.{AutomatonFollows}
+use Rattle.machine_sections.specs.Monitors.{Monitor, monitor_clock, standing_after, decided_by_clock}
+use Rattle.machine_sections.specs.Standing.{select_ticks, is_open, falls_at, standing_at, falling}
 use Rattle.machine_sections.proofs.Selections.{select-same}
 use Rattle.machine_sections.proofs.Verdicts.{AreVerdicts, IsRunning, is_open-runs}
 use Rattle.machine_sections.proofs.Clocks.{clock-goes}
@@ -107,7 +107,7 @@ module _ (B : Type 0) (value : B → ℕ → Bool) (off : ℕ → Bool) (r : Ant
 
   -- the verdicts that fall at a clock are those over the whole trace
   pub falling-later : (n end : ℕ) → n < end
-      → falling v n ≡ select (λ c. falls_at n (v end c)) (λ c. record { start = c; verdict = v end c }) 0 (n + 1)
+      → falling v n ≡ select_ticks (λ c. falls_at n (v end c)) (λ c. record { start = c; verdict = v end c }) 0 (n + 1)
   falling-later n end below =
       select-same (λ c. falls_at n (v (n + 1) c)) (λ c. falls_at n (v end c))
       (λ c. record { start = c; verdict = v (n + 1) c }) (λ c. record { start = c; verdict = v end c }) 0 (n + 1)
@@ -136,19 +136,20 @@ module _ (B : Type 0) (value : B → ℕ → Bool) (off : ℕ → Bool) (r : Ant
       falls-closed n (outcome.Disabled t) h = refl
 
 module _ (B : Type 0) (value : B → ℕ → Bool) (r : Antecedent B) (s : Seq B) (m : Monitor)
-    (fr : Follows value r m.antecedent)
-    (fs : Follows value (every s) m.consequent) (fills : (e : ℕ) → Matches value s e e → ⊥) (v : ℕ → ℕ → Verdict)
+    (fr : AutomatonFollows value r m.antecedent)
+    (fs : AutomatonFollows value (every s) m.consequent) (fills : (e : ℕ) → Matches value s e e → ⊥)
+    (v : ℕ → ℕ → Verdict)
     (are : AreVerdicts value m.off r s v) where
   -- the state after any clocks stands for the meaning
-  pub after-standing : (n : ℕ) → after m n ≡ standing_at m v n
+  pub after-standing : (n : ℕ) → standing_after m n ≡ standing_at m v n
   after-standing zero = refl
   after-standing (suc n) =
       let e : n + 1 ≡ suc n = omega arith in
-      ap (λ x. (clock_of m x).state) (after-standing n)
+      ap (λ x. (monitor_clock m x).state) (after-standing n)
       ∙ ap (λ (o : Settled). o.state) (clock-goes B value r s m fr fs fills v are n)
       ∙ ap (standing_at m v) e
 
-  pub decided_at-falling : (n : ℕ) → decided_at m n ≡ falling v n
+  pub decided_at-falling : (n : ℕ) → decided_by_clock m n ≡ falling v n
   decided_at-falling n =
-      ap (λ x. (clock_of m x).decided) (after-standing n)
+      ap (λ x. (monitor_clock m x).decided) (after-standing n)
       ∙ ap (λ (o : Settled). o.decided) (clock-goes B value r s m fr fs fills v are n)

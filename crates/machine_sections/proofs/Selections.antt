@@ -4,7 +4,7 @@ use Rattle.std.proofs.Common.{◌∷◌, ◌++◌, refl, sym, ap, arith}
 use Rattle.std.proofs.lemmas.Bool.{cases_Bool}
 use Rattle.std.specs.Prelude.{map}
 use Rattle.assertions.specs.Quantifiers.{some_of, some_in}
-use Rattle.machine_sections.specs.Standing.{select}
+use Rattle.machine_sections.specs.Standing.{select_ticks}
 use Rattle.std.specs.List.{range_with_len}
 
 -- what one tick adds
@@ -12,8 +12,8 @@ abbrev pub last_of : {A : Type 0} → Bool → A → List A
 last_of true x = x ∷ []
 last_of false x = []
 
-pub select-push : {A : Type 0} (p : ℕ → Bool) (f : ℕ → A) (i k : ℕ) → select p f i (suc k)
-    ≡ select p f i k ++ last_of (p (i + k)) (f (i + k))
+pub select-push : {A : Type 0} (p : ℕ → Bool) (f : ℕ → A) (i k : ℕ) → select_ticks p f i (suc k)
+    ≡ select_ticks p f i k ++ last_of (p (i + k)) (f (i + k))
 select-push p f i zero =
     let e : i + 0 ≡ i = omega arith in
     elim (cases_Bool (p i)) [
@@ -23,14 +23,14 @@ select-push p f i zero =
 select-push p f i (suc k) =
     let e : i + 1 + k ≡ i + suc k = omega arith in
     let later = select-push p f (i + 1) k in
-    let same = ap (λ n. select p f (i + 1) k ++ last_of (p n) (f n)) e in
+    let same = ap (λ n. select_ticks p f (i + 1) k ++ last_of (p n) (f n)) e in
     elim (cases_Bool (p i)) [
       | inl on ↦ rw on (ap (λ xs. f i ∷ xs) (later ∙ same))
       | inr off ↦ rw off (later ∙ same)
     ]
 
 pub select-same : {A : Type 0} (p q : ℕ → Bool) (f g : ℕ → A) (i k : ℕ) → ((j : ℕ) → i ≤ j → j < i + k → p j ≡ q j)
-    → ((j : ℕ) → i ≤ j → j < i + k → p j ≡ true → f j ≡ g j) → select p f i k ≡ select q g i k
+    → ((j : ℕ) → i ≤ j → j < i + k → p j ≡ true → f j ≡ g j) → select_ticks p f i k ≡ select_ticks q g i k
 select-same p q f g i zero passes things = refl
 select-same p q f g i (suc k) passes things =
     let rest =
@@ -38,13 +38,14 @@ select-same p q f g i (suc k) passes things =
     (λ j from below. things j (omega arith) (omega arith)) in
     let here = passes i (omega arith) (omega arith) in
     elim (cases_Bool (p i)) [
-      | inl on ↦ rw (sym here ∙ on, on) (ap (λ x. x ∷ select p f (i + 1) k) (things i (omega arith) (omega arith) on)
+      | inl on ↦ rw (sym here ∙ on, on)
+          (ap (λ x. x ∷ select_ticks p f (i + 1) k) (things i (omega arith) (omega arith) on)
           ∙ ap (λ xs. g i ∷ xs) rest)
       | inr off ↦ rw (sym here ∙ off, off) rest
     ]
 
 pub select-none : {A : Type 0} (p : ℕ → Bool) (f : ℕ → A) (i k : ℕ) → ((j : ℕ) → i ≤ j → j < i + k → p j ≡ false)
-    → select p f i k ≡ []
+    → select_ticks p f i k ≡ []
 select-none p f i zero none = refl
 select-none p f i (suc k) none =
     rw (none i (omega arith) (omega arith))
@@ -63,25 +64,25 @@ some_in-of k p = let e : k - 0 ≡ k = omega arith in ap (λ j. some_of 0 j p) e
 
 -- ticks that don't pass add nothing
 pub select-longer : {A : Type 0} (p : ℕ → Bool) (f : ℕ → A) (i k more : ℕ) → ((j : ℕ) → i + k ≤ j → p j ≡ false)
-    → select p f i (k + more) ≡ select p f i k
+    → select_ticks p f i (k + more) ≡ select_ticks p f i k
 select-longer p f i zero more none =
     let e : zero + more ≡ more = omega arith in
-    ap (select p f i) e ∙ empty i more (λ j from. none j (omega arith))
+    ap (select_ticks p f i) e ∙ empty i more (λ j from. none j (omega arith))
   where
-    empty : (i more : ℕ) → ((j : ℕ) → i ≤ j → p j ≡ false) → select p f i more ≡ []
+    empty : (i more : ℕ) → ((j : ℕ) → i ≤ j → p j ≡ false) → select_ticks p f i more ≡ []
     empty i zero none = refl
     empty i (suc more) none = rw (none i (omega arith)) (empty (i + 1) more (λ j from. none j (omega arith)))
 select-longer p f i (suc k) more none =
     let e : suc k + more ≡ suc (k + more) = omega arith in
     let rest = select-longer p f (i + 1) k more (λ j from. none j (omega arith)) in
-    ap (select p f i) e
+    ap (select_ticks p f i) e
     ∙ (elim (cases_Bool (p i)) [
       | inl on ↦ rw on (ap (λ xs. f i ∷ xs) rest)
       | inr off ↦ rw off rest
     ])
 
-pub map-select : {A B : Type 0} (g : A → B) (p : ℕ → Bool) (f : ℕ → A) (i k : ℕ) → map g (select p f i k)
-    ≡ select p (λ c. g (f c)) i k
+pub map-select : {A B : Type 0} (g : A → B) (p : ℕ → Bool) (f : ℕ → A) (i k : ℕ) → map g (select_ticks p f i k)
+    ≡ select_ticks p (λ c. g (f c)) i k
 map-select g p f i zero = refl
 map-select g p f i (suc k) =
     let rest = map-select g p f (i + 1) k in

@@ -12,7 +12,7 @@ use Rattle.machine_definition.specs.Outcomes.{Meets}
 use Rattle.machine_definition.specs.Clocks.{Settled, none_standing, clock_after}
 use Rattle.machine_definition.specs.Bounds.{IsReached}
 use Rattle.machine_definition.proofs.Outcomes.{Meets-and_then, Meets-weaker}
-use Rattle.machine_sections.specs.Monitors.{Monitor, monitor_of}
+use Rattle.machine_sections.specs.Monitors.{Monitor, program_monitor}
 use Rattle.machine_sections.specs.Standing.{standing_at, falling}
 use Rattle.machine_sections.specs.Clocked.{Clocked, behind_batch, clocks_after}
 use Rattle.machine_sections.specs.Laws.{Watches, Fills, fallen, starts_of, IsJudged, IsSampled, sampled_at}
@@ -24,7 +24,7 @@ module _ (p : ProgramData) (atoms : ℕ → List Bool) (left : ℕ → ℕ) (val
     (s : Seq Boolean)
     (accepted : IsAccepted p) (watches : Watches p atoms value r s) (fills : Fills value s) where
   abbrev m : Monitor
-  m = monitor_of p atoms
+  m = program_monitor p atoms
 
   abbrev v : ℕ → ℕ → Verdict
   v = verdict value m.off r s

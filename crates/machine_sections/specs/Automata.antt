@@ -2,7 +2,7 @@
 use Rattle.std.specs.Prelude.{◌≡◌, ◌↔◌, ℕ, zero, suc, ◌+◌, ◌^◌, Bool, IsTrue, bit_or}
 use Rattle.std.specs.Prelude.{if◌then◌else◌}
 use Rattle.machine_definition.specs.Blocks.{Visit}
-use Rattle.assertions.specs.Attempts.{Antecedent, Leads, IsOver}
+use Rattle.assertions.specs.Attempts.{Antecedent, Leads, IsAntecedentOver}
 
 -- A section on the rows of a run: its first positions, and what a set of positions does at a tick.
 -- A set of positions is a number whose bit p says whether p is in it.
@@ -11,13 +11,13 @@ pub record Automaton : Type 0 where
   pub step : ℕ → ℕ → Visit
 
 -- the positions after so many ticks from c
-abbrev pub places : Automaton → ℕ → ℕ → ℕ
-places a c zero = a.start
-places a c (suc k) = (a.step (c + k) (places a c k)).entered
+abbrev pub positions_at : Automaton → ℕ → ℕ → ℕ
+positions_at a c zero = a.start
+positions_at a c (suc k) = (a.step (c + k) (positions_at a c k)).entered
 
 -- it accepts at the tick so many ticks after c
 abbrev pub accepts : Automaton → ℕ → ℕ → Bool
-accepts a c k = (a.step (c + k) (places a c k)).accepted
+accepts a c k = (a.step (c + k) (positions_at a c k)).accepted
 
 -- the ticks at which it accepted, of so many from c: bit j stands for tick c + j
 abbrev pub accepted_at : Automaton → ℕ → ℕ → ℕ
@@ -28,7 +28,8 @@ accepted_at a c (suc k) =
 -- The automaton follows each match of a sequence, or its first ones: begun at any tick, it accepts
 -- at a tick exactly where such a match ends with it, and has no position left exactly where no
 -- longer one is possible.
-pub record Follows {B : Type 0} (value : B → ℕ → Bool) (r : Antecedent B) (a : Automaton) : Type 0
+pub record AutomatonFollows {B : Type 0} (value : B → ℕ → Bool) (r : Antecedent B)
+    (a : Automaton) : Type 0
   where
     pub ends : (c k : ℕ) → IsTrue (accepts a c k) ↔ Leads value r c (c + k + 1)
-    pub over : (c k : ℕ) → (places a c k ≡ 0) ↔ IsOver value r (c + k) c
+    pub over : (c k : ℕ) → (positions_at a c k ≡ 0) ↔ IsAntecedentOver value r (c + k) c

@@ -5,7 +5,7 @@ use Rattle.bytecode.specs.Values.{ProgramData}
 use Rattle.machine_definition.specs.Outcomes.{Ran, done, and_then}
 use Rattle.machine_definition.specs.Clocks.{Standing, clock_after}
 
--- What the sample code of a clock gave: the atoms, and the ticks that it left of the budget.
+-- What the sample code of a clock gave: the atoms, and the cost that it left of the budget.
 pub record Sampled : Type 0 where
   pub atoms : List Bool
   pub left : ℕ

@@ -7,7 +7,7 @@ use Rattle.bytecode.specs.Values.{SectionData}
 use Rattle.assertions.specs.declared.sequence.Boolean.{Boolean}
 use Rattle.assertions.specs.Segments.{Seq, Matches}
 use Rattle.assertions.specs.Attempts.{every, first_match}
-use Rattle.machine_sections.specs.Automata.{Follows}
+use Rattle.machine_sections.specs.Automata.{AutomatonFollows}
 use Rattle.machine_sections.specs.Effects.{automaton_of}
 
 -- AcceptFirst in place of Accept
@@ -22,17 +22,17 @@ abbrev pub accepting_first : SectionData → SectionData
 accepting_first s = record { start = s.start; blocks = map (map first_step) s.blocks }
 
 -- no AcceptFirst stands there
-abbrev pub IsPlain : List BlockInstr → Type 0
-IsPlain [] = Unit {0}
-IsPlain (Unless atom target ∷ is) = IsPlain is
-IsPlain (Enter q ∷ is) = IsPlain is
-IsPlain (Accept ∷ is) = IsPlain is
-IsPlain (Stop ∷ is) = IsPlain is
-IsPlain (AcceptFirst ∷ is) = ⊥
+abbrev pub HasNoAcceptFirst : List BlockInstr → Type 0
+HasNoAcceptFirst [] = Unit {0}
+HasNoAcceptFirst (Unless atom target ∷ is) = HasNoAcceptFirst is
+HasNoAcceptFirst (Enter q ∷ is) = HasNoAcceptFirst is
+HasNoAcceptFirst (Accept ∷ is) = HasNoAcceptFirst is
+HasNoAcceptFirst (Stop ∷ is) = HasNoAcceptFirst is
+HasNoAcceptFirst (AcceptFirst ∷ is) = ⊥
 
 abbrev pub ArePlain : List (List BlockInstr) → Type 0
 ArePlain [] = Unit {0}
-ArePlain (b ∷ bs) = IsPlain b × ArePlain bs
+ArePlain (b ∷ bs) = HasNoAcceptFirst b × ArePlain bs
 
 -- Where a section follows a sequence without empty matches, the one that accepts first follows the
 -- first matches.
@@ -40,5 +40,5 @@ abbrev pub AcceptsFirst : Type 0
 AcceptsFirst =
     (s : SectionData) (atoms : ℕ → List Bool) (value : Boolean → ℕ → Bool) (r : Seq Boolean) →
     ArePlain s.blocks → ((e : ℕ) → Matches value r e e → ⊥) →
-    Follows value (every r) (automaton_of s atoms) →
-    Follows value (first_match r) (automaton_of (accepting_first s) atoms)
+    AutomatonFollows value (every r) (automaton_of s atoms) →
+    AutomatonFollows value (first_match r) (automaton_of (accepting_first s) atoms)

@@ -9,34 +9,35 @@ use Rattle.machine_definition.specs.Samples.{Made, nothing_made, run_sample}
 use Rattle.machine_definition.specs.Machine.{opening, sample_of, stored}
 
 -- the row of a clock: the constant 1, the signals, the counters as they stand
-abbrev pub row_at : (ℕ → List ℕ) → (ℕ → List ℕ) → ℕ → List ℕ
-row_at signals counters k = 1 ∷ (signals k ++ counters k)
+abbrev pub clock_row : (ℕ → List ℕ) → (ℕ → List ℕ) → ℕ → List ℕ
+clock_row signals counters k = 1 ∷ (signals k ++ counters k)
 
 -- The rows that are kept before clock n, the newest first: those of the last clocks, as many as the
 -- declared history and one more, with rows of zeros before the first clock.
 abbrev pub rows_before : ProgramData → (ℕ → List ℕ) → (ℕ → List ℕ) → ℕ → List (List ℕ)
 rows_before p signals counters zero = (opening p).rows
 rows_before p signals counters (suc n) =
-    row_at signals counters n
+    clock_row signals counters n
     ∷ take p.header.limits.history (rows_before p signals counters n)
 
 -- those that sample code reads at clock k
-abbrev pub rows_at : ProgramData → (ℕ → List ℕ) → (ℕ → List ℕ) → ℕ → List (List ℕ)
-rows_at p signals counters k = rows_before p signals counters (suc k)
+abbrev pub sample_rows : ProgramData → (ℕ → List ℕ) → (ℕ → List ℕ) → ℕ → List (List ℕ)
+sample_rows p signals counters k = rows_before p signals counters (suc k)
 
 -- what a slot held so many clocks before clock k, 0 before the first clock
-abbrev pub held : (ℕ → List ℕ) → ℕ → ℕ → ℕ → ℕ
-held row k back slot = if nat_le back k then slice_index (row (k - back)) slot else 0
+abbrev pub slot_held_at : (ℕ → List ℕ) → ℕ → ℕ → ℕ → ℕ
+slot_held_at row k back slot = if nat_le back k then slice_index (row (k - back)) slot else 0
 
 -- the run of the sample code at clock k
 abbrev pub sample_run : ProgramData → (ℕ → List ℕ) → (ℕ → List ℕ) → ℕ → Ran Made
 sample_run p signals counters k =
-    run_sample (frame_of p) p.header.limits (sample_of (rows_at p signals counters k)) p.sample
+    run_sample (frame_of p) p.header.limits (sample_of (sample_rows p signals counters k)) p.sample
     p.header.limits.budget 0 [] (nothing_made (frame_of p))
 
 -- Over counters that are read so, the sample code set these atoms, and with what it stored the next
 -- clock reads those counters.
-pub record IsMadeOf (read : List ℕ) (set : List Bool) (next : List ℕ) (made : Made) : Type 0 where
+pub record IsSampleMade (read : List ℕ) (set : List Bool) (next : List ℕ)
+    (made : Made) : Type 0 where
   pub atoms : made.atoms ≡ set
   pub counters : stored made.stores read ≡ next
 
@@ -46,5 +47,5 @@ pub record SamplesAs (p : ProgramData) (signals counters : ℕ → List ℕ) (at
     (count : ℕ) : Type 0 where
   pub opening : counters 0 ≡ replicate (length p.counters) 0
   pub each : (k : ℕ) → k < count →
-      Meets (λ made left. IsMadeOf (counters k) (atoms k) (counters (k + 1)) made)
+      Meets (λ made left. IsSampleMade (counters k) (atoms k) (counters (k + 1)) made)
       (sample_run p signals counters k)

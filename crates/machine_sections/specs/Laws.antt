@@ -14,18 +14,18 @@ use Rattle.machine_definition.specs.Outcomes.{Meets}
 use Rattle.machine_definition.specs.Clocks.{Attempt, none_standing}
 use Rattle.machine_definition.specs.Machine.{State, sample_of}
 use Rattle.machine_definition.specs.Runs.{Decides}
-use Rattle.machine_sections.specs.Automata.{Follows}
+use Rattle.machine_sections.specs.Automata.{AutomatonFollows}
 use Rattle.machine_sections.specs.Effects.{automaton_of}
-use Rattle.machine_sections.specs.Monitors.{monitor_of}
-use Rattle.machine_sections.specs.Standing.{select, is_open, falls_at}
+use Rattle.machine_sections.specs.Monitors.{program_monitor}
+use Rattle.machine_sections.specs.Standing.{select_ticks, is_open, falls_at}
 use Rattle.machine_sections.specs.Clocked.{Sampled, Clocked, clocks_after}
-use Rattle.machine_sections.specs.History.{row_at, rows_at, held, SamplesAs}
+use Rattle.machine_sections.specs.History.{clock_row, sample_rows, slot_held_at, SamplesAs}
 
 -- On these atoms of each tick the sections follow the antecedent r and the consequent s.
 pub record Watches {B : Type 0} (p : ProgramData) (atoms : ℕ → List Bool) (value : B → ℕ → Bool)
     (r : Antecedent B) (s : Seq B) : Type 0 where
-  pub antecedent : Follows value r (automaton_of p.antecedent atoms)
-  pub consequent : Follows value (every s) (automaton_of p.consequent atoms)
+  pub antecedent : AutomatonFollows value r (automaton_of p.antecedent atoms)
+  pub consequent : AutomatonFollows value (every s) (automaton_of p.consequent atoms)
 
 -- no match is empty
 abbrev pub Fills : {B : Type 0} → (B → ℕ → Bool) → Seq B → Type 0
@@ -35,12 +35,13 @@ Fills value s = (e : ℕ) → Matches value s e e → ⊥
 -- that begins at c.
 abbrev pub fallen : (ℕ → Verdict) → ℕ → ℕ → List Decided
 fallen verdict count clock =
-    select (λ c. falls_at clock (verdict c)) (λ c. record { start = c; verdict = verdict c }) 0
+    select_ticks (λ c. falls_at clock (verdict c))
+    (λ c. record { start = c; verdict = verdict c }) 0
     count
 
 -- where the attempts began that are open over so many ticks
 abbrev pub open_starts : (ℕ → Verdict) → ℕ → List ℕ
-open_starts verdict count = select (λ c. is_open (verdict c)) (λ c. c) 0 count
+open_starts verdict count = select_ticks (λ c. is_open (verdict c)) (λ c. c) 0 count
 
 abbrev pub starts_of : List Attempt → List ℕ
 starts_of live = map (λ a. a.start) live
@@ -51,7 +52,7 @@ pub record IsJudged (verdict : ℕ → Verdict) (count : ℕ) (run : Clocked) : 
   pub batches : run.batches ≡ map (fallen verdict count) (range_with_len 0 count)
   pub live : starts_of run.standing.attempts ≡ open_starts verdict count
 
--- The sample code of a tick set an atom for each of the program's, and took no more ticks than its
+-- The sample code of a tick set an atom for each of the program's, and took no more cost than its
 -- longest path.
 pub record IsSampled (p : ProgramData) (c : Sampled) : Type 0 where
   pub atoms : length c.atoms ≡ p.header.atoms
@@ -67,7 +68,7 @@ DecidesByMeaning =
     (r : Antecedent Boolean) (s : Seq Boolean) (count : ℕ) → IsAccepted p →
     ((k : ℕ) → k < count → IsSampled p (sampled_at atoms left k)) →
     Watches p atoms value r s → Fills value s →
-    Meets (λ run left. IsJudged (verdict value (monitor_of p atoms).off r s count) count run)
+    Meets (λ run left. IsJudged (verdict value (program_monitor p atoms).off r s count) count run)
     (clocks_after p none_standing (map (sampled_at atoms left) (range_with_len 0 count)))
 
 -- all verdicts that fall over so many ticks, by clock, then start
@@ -91,12 +92,12 @@ RunsByMeaning =
     IsAccepted p →
     SamplesAs p signals counters atoms count → Watches p atoms value r s → Fills value s →
     IsJudgedOver p (map signals (range_with_len 0 count))
-    (verdict value (monitor_of p atoms).off r s count) count
+    (verdict value (program_monitor p atoms).off r s count) count
 
 -- What sample code reads of a slot so far back as the declared history is what the slot held then.
 abbrev pub ReadsHeld : Type 0
 ReadsHeld =
     (p : ProgramData) (signals counters : ℕ → List ℕ) (k back slot : ℕ) →
     back ≤ p.header.limits.history →
-    sample_of (rows_at p signals counters k) back slot
-    ≡ held (row_at signals counters) k back slot
+    sample_of (sample_rows p signals counters k) back slot
+    ≡ slot_held_at (clock_row signals counters) k back slot

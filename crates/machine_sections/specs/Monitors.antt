@@ -18,8 +18,8 @@ pub record Monitor : Type 0 where
   pub off : ℕ → Bool
 
 -- a program on the atoms of each tick
-abbrev pub monitor_of : ProgramData → (ℕ → List Bool) → Monitor
-monitor_of p atoms =
+abbrev pub program_monitor : ProgramData → (ℕ → List Bool) → Monitor
+program_monitor p atoms =
     record {
       antecedent = automaton_of p.antecedent atoms;
       consequent = automaton_of p.consequent atoms;
@@ -27,9 +27,9 @@ monitor_of p atoms =
     }
 
 -- the attempts after their visits
-abbrev pub visit_each : Automaton → ℕ → List Attempt → List Attempt
-visit_each a now [] = []
-visit_each a now (x ∷ xs) = visited now x (a.step now x.positions) ∷ visit_each a now xs
+abbrev pub all_visited : Automaton → ℕ → List Attempt → List Attempt
+all_visited a now [] = []
+all_visited a now (x ∷ xs) = visited now x (a.step now x.positions) ∷ all_visited a now xs
 
 -- whether any accepted
 abbrev pub some_accepts : Automaton → ℕ → List Attempt → Bool
@@ -37,12 +37,12 @@ some_accepts a now [] = false
 some_accepts a now (x ∷ xs) = (a.step now x.positions).accepted || some_accepts a now xs
 
 -- the obligations, with the new one where there is one
-abbrev pub with_new : Bool → Automaton → ℕ → List Obligation → List Obligation
-with_new true a now os = os ++ record { tick = now; positions = a.start } ∷ []
-with_new false a now os = os
+abbrev pub with_opened : Bool → Automaton → ℕ → List Obligation → List Obligation
+with_opened true a now os = os ++ record { tick = now; positions = a.start } ∷ []
+with_opened false a now os = os
 
-abbrev pub fate_of : Automaton → ℕ → Obligation → Fate
-fate_of a now o =
+abbrev pub fate_in : Automaton → ℕ → Obligation → Fate
+fate_in a now o =
     record {
       tick = o.tick;
       positions = (a.step now o.positions).entered;
@@ -50,18 +50,18 @@ fate_of a now o =
     }
 
 -- what becomes of the obligations
-abbrev pub fates_of : Automaton → ℕ → List Obligation → List Fate
-fates_of a now [] = []
-fates_of a now (o ∷ os) = fate_of a now o ∷ fates_of a now os
+abbrev pub fates_in : Automaton → ℕ → List Obligation → List Fate
+fates_in a now [] = []
+fates_in a now (o ∷ os) = fate_in a now o ∷ fates_in a now os
 
-abbrev pub settle_each : ℕ → List Fate → List Attempt → Settlement
-settle_each now fates [] = record { live = []; decided = [] }
-settle_each now fates (x ∷ xs) = settle now fates x (settle_each now fates xs)
+abbrev pub all_settled : ℕ → List Fate → List Attempt → Settlement
+all_settled now fates [] = record { live = []; decided = [] }
+all_settled now fates (x ∷ xs) = settle now fates x (all_settled now fates xs)
 
-abbrev pub disable_each : ℕ → List Attempt → List Decided
-disable_each now [] = []
-disable_each now (x ∷ xs) =
-    record { start = x.start; verdict = Disabled now } ∷ disable_each now xs
+abbrev pub all_disabled : ℕ → List Attempt → List Decided
+all_disabled now [] = []
+all_disabled now (x ∷ xs) =
+    record { start = x.start; verdict = Disabled now } ∷ all_disabled now xs
 
 -- the clock after the visits
 abbrev pub settled_with : ℕ → List Attempt → List Fate → Settled
@@ -69,36 +69,36 @@ settled_with now live fates =
     record {
       state = record {
         now = now + 1;
-        attempts = (settle_each now fates live).live;
+        attempts = (all_settled now fates live).live;
         obligations = staying fates;
       };
-      decided = (settle_each now fates live).decided;
+      decided = (all_settled now fates live).decided;
     }
 
 -- the clock with its attempt open, disabled or not
-abbrev pub clock_with : Monitor → ℕ → List Attempt → List Obligation → Bool → Settled
-clock_with m now live os true =
+abbrev pub clock_opened : Monitor → ℕ → List Attempt → List Obligation → Bool → Settled
+clock_opened m now live os true =
     record {
       state = record { now = now + 1; attempts = []; obligations = [] };
-      decided = disable_each now live;
+      decided = all_disabled now live;
     }
-clock_with m now live os false =
-    settled_with now (visit_each m.antecedent now live)
-    (fates_of m.consequent now
-    (with_new (some_accepts m.antecedent now live) m.consequent now os))
+clock_opened m now live os false =
+    settled_with now (all_visited m.antecedent now live)
+    (fates_in m.consequent now
+    (with_opened (some_accepts m.antecedent now live) m.consequent now os))
 
-abbrev pub new_attempt : Monitor → ℕ → Attempt
-new_attempt m now = record { start = now; positions = m.antecedent.start; awaited = 0 }
+abbrev pub fresh_attempt : Monitor → ℕ → Attempt
+fresh_attempt m now = record { start = now; positions = m.antecedent.start; awaited = 0 }
 
-unfoldable pub clock_of : Monitor → Standing → Settled
-clock_of m s =
-    clock_with m s.now (s.attempts ++ new_attempt m s.now ∷ []) s.obligations (m.off s.now)
+unfoldable pub monitor_clock : Monitor → Standing → Settled
+monitor_clock m s =
+    clock_opened m s.now (s.attempts ++ fresh_attempt m s.now ∷ []) s.obligations (m.off s.now)
 
 -- what stands after so many clocks
-abbrev pub after : Monitor → ℕ → Standing
-after m zero = none_standing
-after m (suc n) = (clock_of m (after m n)).state
+abbrev pub standing_after : Monitor → ℕ → Standing
+standing_after m zero = none_standing
+standing_after m (suc n) = (monitor_clock m (standing_after m n)).state
 
 -- what the clock n decides
-abbrev pub decided_at : Monitor → ℕ → List Decided
-decided_at m n = (clock_of m (after m n)).decided
+abbrev pub decided_by_clock : Monitor → ℕ → List Decided
+decided_by_clock m n = (monitor_clock m (standing_after m n)).decided

@@ -7,16 +7,16 @@ use Rattle.signals.specs.declared.verdict.Verdict.TheVariants.{Open}
 use Rattle.signals.specs.declared.verdict.Decided.{Decided}
 use Rattle.assertions.specs.Quantifiers.{some_in, each_in}
 use Rattle.machine_definition.specs.Clocks.{Attempt, Obligation, Standing}
-use Rattle.machine_sections.specs.Automata.{Automaton, places, accepts, accepted_at}
+use Rattle.machine_sections.specs.Automata.{Automaton, positions_at, accepts, accepted_at}
 use Rattle.machine_sections.specs.Monitors.{Monitor}
 
 -- the things of those ticks that pass, of so many from the first one on
-abbrev pub select : {A : Type 0} → (ℕ → Bool) → (ℕ → A) → ℕ → ℕ → List A
-select passes thing first zero = []
-select passes thing first (suc count) =
+abbrev pub select_ticks : {A : Type 0} → (ℕ → Bool) → (ℕ → A) → ℕ → ℕ → List A
+select_ticks passes thing first zero = []
+select_ticks passes thing first (suc count) =
     if passes first
-    then thing first ∷ select passes thing (first + 1) count
-    else select passes thing (first + 1) count
+    then thing first ∷ select_ticks passes thing (first + 1) count
+    else select_ticks passes thing (first + 1) count
 
 abbrev pub is_open : Verdict → Bool
 is_open Open = true
@@ -40,28 +40,29 @@ abbrev pub attempt_at : Monitor → ℕ → ℕ → Attempt
 attempt_at m n c =
     record {
       start = c;
-      positions = places m.antecedent c (n - c);
+      positions = positions_at m.antecedent c (n - c);
       awaited = accepted_at m.antecedent c (n - c);
     }
 
 -- an attempt that was open before tick e accepted there
-abbrev pub is_awaited : Monitor → (ℕ → ℕ → Verdict) → ℕ → Bool
-is_awaited m verdict e =
+abbrev pub awaits_at : Monitor → (ℕ → ℕ → Verdict) → ℕ → Bool
+awaits_at m verdict e =
     some_in 0 (e + 1) (λ c. is_open (verdict e c) && accepts m.antecedent c (e - c))
 
 -- so many ticks from e on it was neither kept nor left without a position
 abbrev pub is_unsettled : Automaton → ℕ → ℕ → Bool
 is_unsettled a e zero = true
-is_unsettled a e (suc k) = is_unsettled a e k && not (accepts a e k || places a e (suc k) == 0)
+is_unsettled a e (suc k) = is_unsettled a e k && not
+    (accepts a e k || positions_at a e (suc k) == 0)
 
 -- the obligation of tick e is live before clock n
 abbrev pub is_owed : Monitor → (ℕ → ℕ → Verdict) → ℕ → ℕ → Bool
 is_owed m verdict n e =
-    (is_awaited m verdict e && each_in e n (λ k. not (m.off k)))
+    (awaits_at m verdict e && each_in e n (λ k. not (m.off k)))
     && is_unsettled m.consequent e (n - e)
 
 abbrev pub obligation_at : Monitor → ℕ → ℕ → Obligation
-obligation_at m n e = record { tick = e; positions = places m.consequent e (n - e) }
+obligation_at m n e = record { tick = e; positions = positions_at m.consequent e (n - e) }
 
 -- What stands before clock n: the attempts that are open, and the obligations that one of them made
 -- and that are still unsettled.
@@ -69,12 +70,12 @@ abbrev pub standing_at : Monitor → (ℕ → ℕ → Verdict) → ℕ → Stand
 standing_at m verdict n =
     record {
       now = n;
-      attempts = select (λ c. is_open (verdict n c)) (attempt_at m n) 0 n;
-      obligations = select (is_owed m verdict n) (obligation_at m n) 0 n;
+      attempts = select_ticks (λ c. is_open (verdict n c)) (attempt_at m n) 0 n;
+      obligations = select_ticks (is_owed m verdict n) (obligation_at m n) 0 n;
     }
 
 -- the verdicts that fall at clock n, by start
 abbrev pub falling : (ℕ → ℕ → Verdict) → ℕ → List Decided
 falling verdict n =
-    select (λ c. falls_at n (verdict (n + 1) c))
+    select_ticks (λ c. falls_at n (verdict (n + 1) c))
     (λ c. record { start = c; verdict = verdict (n + 1) c }) 0 (n + 1)

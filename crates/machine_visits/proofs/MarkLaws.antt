@@ -12,7 +12,7 @@ use Rattle.signals.specs.declared.verdict.Verdict.TheVariants.{Holds, Vacuous, F
 use Rattle.machine_definition.specs.Clocks.{Attempt, Fate, Settlement, awaits, is_broken, some_broken}
 use Rattle.machine_definition.specs.Clocks.{some_open, settle, stays, ends}
 use Rattle.machine_visits.specs.declared.fates.Fates.{Fates}
-use Rattle.machine_visits.specs.Marks.{mark_if, marked, is_open, fates_of, AreRecent, Tells, SettlesAs}
+use Rattle.machine_visits.specs.Marks.{fate_mark, mark_set, is_fate_open, fates_of, AreRecent, Tells, SettlesAs}
 
 -- some fate that passes is awaited
 abbrev pub some_of : (Fate → Bool) → Attempt → List Fate → Bool
@@ -23,9 +23,9 @@ broken-some : (a : Attempt) (fs : List Fate) → some_broken a fs ≡ some_of is
 broken-some a [] = refl
 broken-some a (f ∷ fs) = ap (λ b. (is_broken f && awaits a f.tick) || b) (broken-some a fs)
 
-open-some : (a : Attempt) (fs : List Fate) → some_open a fs ≡ some_of is_open a fs
+open-some : (a : Attempt) (fs : List Fate) → some_open a fs ≡ some_of is_fate_open a fs
 open-some a [] = refl
-open-some a (f ∷ fs) = ap (λ b. (is_open f && awaits a f.tick) || b) (open-some a fs)
+open-some a (f ∷ fs) = ap (λ b. (is_fate_open f && awaits a f.tick) || b) (open-some a fs)
 
 and-or : (s a b : ℕ) → bit_and s (bit_or a b) ≡ bit_or (bit_and s a) (bit_and s b)
 and-or s a b = same_from_bits (bit_and s (bit_or a b)) (bit_or (bit_and s a) (bit_and s b)) (λ i.
@@ -64,20 +64,20 @@ neither true b = refl
 neither false b = refl
 
 module _ (passes : Fate → Bool) (now : ℕ) (a : Attempt) (set : ℕ) (tells : Tells now a set) where
-  one-zero : (f : Fate) → f.tick ≤ now → now ≤ f.tick + 127 → (bit_and set (mark_if passes now f) == 0)
+  one-zero : (f : Fate) → f.tick ≤ now → now ≤ f.tick + 127 → (bit_and set (fate_mark passes now f) == 0)
       ≡ not (passes f && awaits a f.tick)
   one-zero f low high = elim (cases_Bool (passes f)) [
     | inl on ↦ rw on (bit-zero set (127 - (now - f.tick)) ∙ ap not (tells f.tick low high))
     | inr off ↦ rw off (eq-eqb (bit_and set 0) 0 (and_zero_r set))
   ]
 
-  pub none-zero : (fs : List Fate) → AreRecent now fs → (bit_and set (marked passes now fs) == 0)
+  pub none-zero : (fs : List Fate) → AreRecent now fs → (bit_and set (mark_set passes now fs) == 0)
       ≡ not (some_of passes a fs)
   none-zero [] h = eq-eqb (bit_and set 0) 0 (and_zero_r set)
   none-zero (f ∷ fs) h =
-      ap (λ n. n == 0) (and-or set (mark_if passes now f) (marked passes now fs))
-      ∙ or-zero (bit_and set (mark_if passes now f)) (bit_and set (marked passes now fs))
-      ∙ ap (λ b. b && (bit_and set (marked passes now fs) == 0)) (one-zero f h.0 h.1)
+      ap (λ n. n == 0) (and-or set (fate_mark passes now f) (mark_set passes now fs))
+      ∙ or-zero (bit_and set (fate_mark passes now f)) (bit_and set (mark_set passes now fs))
+      ∙ ap (λ b. b && (bit_and set (mark_set passes now fs) == 0)) (one-zero f h.0 h.1)
       ∙ ap (λ b. not (passes f && awaits a f.tick) && b) (none-zero fs h.2)
       ∙ neither (passes f && awaits a f.tick) (some_of passes a fs)
 
@@ -86,27 +86,27 @@ not-twice a true h = ap not (sym h)
 not-twice a false h = ap not (sym h)
 
 module _ (now : ℕ) (a : Attempt) (set : ℕ) (tells : Tells now a set) (fs : List Fate) (recent : AreRecent now fs) where
-  broken-zero : some_broken a fs ≡ not (bit_and set (marked is_broken now fs) == 0)
+  broken-zero : some_broken a fs ≡ not (bit_and set (mark_set is_broken now fs) == 0)
   broken-zero =
-      broken-some a fs ∙ not-twice (bit_and set (marked is_broken now fs) == 0) (some_of is_broken a fs)
+      broken-some a fs ∙ not-twice (bit_and set (mark_set is_broken now fs) == 0) (some_of is_broken a fs)
       (none-zero is_broken now a set tells fs recent)
 
-  open-zero : some_open a fs ≡ not (bit_and set (marked is_open now fs) == 0)
+  open-zero : some_open a fs ≡ not (bit_and set (mark_set is_fate_open now fs) == 0)
   open-zero =
-      open-some a fs ∙ not-twice (bit_and set (marked is_open now fs) == 0) (some_of is_open a fs)
-      (none-zero is_open now a set tells fs recent)
+      open-some a fs ∙ not-twice (bit_and set (mark_set is_fate_open now fs) == 0) (some_of is_fate_open a fs)
+      (none-zero is_fate_open now a set tells fs recent)
 
-  pub broken-on : bit_and set (marked is_broken now fs) ≢ 0 → some_broken a fs ≡ true
-  broken-on h = broken-zero ∙ ap not (ne_eqb (bit_and set (marked is_broken now fs)) 0 h)
+  pub broken-on : bit_and set (mark_set is_broken now fs) ≢ 0 → some_broken a fs ≡ true
+  broken-on h = broken-zero ∙ ap not (ne_eqb (bit_and set (mark_set is_broken now fs)) 0 h)
 
-  pub broken-off : bit_and set (marked is_broken now fs) ≡ 0 → some_broken a fs ≡ false
-  broken-off h = broken-zero ∙ ap not (eq-eqb (bit_and set (marked is_broken now fs)) 0 h)
+  pub broken-off : bit_and set (mark_set is_broken now fs) ≡ 0 → some_broken a fs ≡ false
+  broken-off h = broken-zero ∙ ap not (eq-eqb (bit_and set (mark_set is_broken now fs)) 0 h)
 
-  pub open-on : bit_and set (marked is_open now fs) ≢ 0 → some_open a fs ≡ true
-  open-on h = open-zero ∙ ap not (ne_eqb (bit_and set (marked is_open now fs)) 0 h)
+  pub open-on : bit_and set (mark_set is_fate_open now fs) ≢ 0 → some_open a fs ≡ true
+  open-on h = open-zero ∙ ap not (ne_eqb (bit_and set (mark_set is_fate_open now fs)) 0 h)
 
-  pub open-off : bit_and set (marked is_open now fs) ≡ 0 → some_open a fs ≡ false
-  open-off h = open-zero ∙ ap not (eq-eqb (bit_and set (marked is_open now fs)) 0 h)
+  pub open-off : bit_and set (mark_set is_fate_open now fs) ≡ 0 → some_open a fs ≡ false
+  open-off h = open-zero ∙ ap not (eq-eqb (bit_and set (mark_set is_fate_open now fs)) 0 h)
 
 or-true : (b : Bool) → (b || true) ≡ true
 or-true true = refl

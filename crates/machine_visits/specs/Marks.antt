@@ -13,21 +13,21 @@ abbrev pub mark_of : ℕ → ℕ → ℕ
 mark_of now tick = 2 ^ (127 - (now - tick))
 
 -- the set of a fate's tick where it passes a test
-abbrev pub mark_if : (Fate → Bool) → ℕ → Fate → ℕ
-mark_if passes now f = if passes f then mark_of now f.tick else 0
+abbrev pub fate_mark : (Fate → Bool) → ℕ → Fate → ℕ
+fate_mark passes now f = if passes f then mark_of now f.tick else 0
 
 -- the set of the ticks of those fates that pass a test
-abbrev pub marked : (Fate → Bool) → ℕ → List Fate → ℕ
-marked passes now [] = 0
-marked passes now (f ∷ fs) = bit_or (mark_if passes now f) (marked passes now fs)
+abbrev pub mark_set : (Fate → Bool) → ℕ → List Fate → ℕ
+mark_set passes now [] = 0
+mark_set passes now (f ∷ fs) = bit_or (fate_mark passes now f) (mark_set passes now fs)
 
-abbrev pub is_open : Fate → Bool
-is_open f = not (is_ended f)
+abbrev pub is_fate_open : Fate → Bool
+is_fate_open f = not (is_ended f)
 
 -- the fates of a clock, as the sets of the open and of the broken ticks
 abbrev pub fates_of : ℕ → List Fate → Fates
 fates_of now fs =
-    record { open_ticks = marked is_open now fs; broken_ticks = marked is_broken now fs }
+    record { open_ticks = mark_set is_fate_open now fs; broken_ticks = mark_set is_broken now fs }
 
 -- each is one of the last 128 ticks
 abbrev pub AreRecent : ℕ → List Fate → Type 0

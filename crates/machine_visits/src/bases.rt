@@ -2,7 +2,7 @@
 
 ghost use Rattle.std.specs.Prelude.{◌≤◌, IfOk};
 ghost use Rattle.bytecode.specs.Views.{section_data};
-ghost use Rattle.verifier_inference.specs.Sections.{size_of};
+ghost use Rattle.verifier_inference.specs.Sections.{instructions_in};
 ghost use Rattle.machine_visits.specs.Bases.{AreBases};
 
 use bytecode::Section;
@@ -10,7 +10,7 @@ use std::alloc::{AllocError, Global};
 
 /// The numbers of the first instructions of a section's blocks, counted through the section.
 pub fn bases_of(alloc: Global, section: &Section) -> Result<Vec<usize>, AllocError>
-    requires { size_of (section_data section.now).blocks ≤ 4096 }
+    requires { instructions_in (section_data section.now).blocks ≤ 4096 }
     ensures { IfOk result (λ bases. AreBases (section_data section.now).blocks bases.items) }
 {
     let mut bases = Vec::new(alloc);

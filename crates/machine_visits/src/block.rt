@@ -5,7 +5,7 @@ ghost use Rattle.machine_definition.specs.Outcomes.{done};
 ghost use Rattle.verifier_inference.specs.Views.{blocks_of};
 ghost use Rattle.machine_visits.specs.Finishes.{Finishes};
 ghost use Rattle.machine_visits.specs.Records.{made_by};
-ghost use Rattle.machine_visits.specs.Steps.{IsNamed, leads, makes, block_run};
+ghost use Rattle.machine_visits.specs.Steps.{NamesWhatIsThere, leads, makes, block_run};
 
 use crate::visit::Visit;
 use bytecode::BlockInstr;
@@ -13,7 +13,7 @@ use bytecode::BlockInstr;
 /// Does what an instruction says, and answers the one after it, if any.
 fn obey(instr: BlockInstr, pc: usize, atoms: &[bool], visit: &mut Visit) -> Option<usize>
     requires pc { pc < 65536 }
-    requires named { IsNamed (length atoms.now) 127 instr }
+    requires named { NamesWhatIsThere (length atoms.now) 127 instr }
     ensures leads { result ≡ leads atoms.now pc instr }
     ensures makes { made_by visit.new ≡ makes (made_by visit.old) instr }
 {

@@ -2,7 +2,7 @@
 
 ghost use Rattle.std.specs.Prelude.{◌≡◌, ◌+◌, ◌≤◌, bit_or, []};
 ghost use Rattle.machine_definition.specs.Clocks.{is_broken};
-ghost use Rattle.machine_visits.specs.Marks.{is_open, mark_if, fates_of};
+ghost use Rattle.machine_visits.specs.Marks.{is_fate_open, fate_mark, fates_of};
 ghost use Rattle.machine_visits.specs.Records.{fate_of};
 
 use crate::obligation::ObligationRecord;
@@ -32,9 +32,9 @@ impl Fates {
         requires before { obligation.tick ≤ now }
         requires recent { now ≤ obligation.tick + 127 }
         ensures open { self.new.open_ticks
-            ≡ bit_or self.old.open_ticks (mark_if is_open now (fate_of obligation visit)) }
+            ≡ bit_or self.old.open_ticks (fate_mark is_fate_open now (fate_of obligation visit)) }
         ensures broken { self.new.broken_ticks
-            ≡ bit_or self.old.broken_ticks (mark_if is_broken now (fate_of obligation visit)) }
+            ≡ bit_or self.old.broken_ticks (fate_mark is_broken now (fate_of obligation visit)) }
     {
         if visit.accepted {
             return;

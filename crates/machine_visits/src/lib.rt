@@ -14,7 +14,7 @@
 //!
 //! Nothing here tests what an accepted program can't break: an operand, a jump, a budget. Each call
 //! asks that the checked machine comes to a value there, and does what that machine does: `left`
-//! is the number of ticks that are left.
+//! is the cost that is left.
 //!
 //! The definitions: the checked machine's visit and settling stand in `machine_definition`; where
 //! blocks begin in `specs/Bases.antt`; what the records stand for, and the two sets of ticks, in

@@ -2,7 +2,7 @@
 
 ghost use Rattle.std.specs.Prelude.{◌≡◌, ◌<◌, ◌≤◌, length};
 ghost use Rattle.bytecode.specs.Views.{section_data};
-ghost use Rattle.verifier_inference.specs.Sections.{size_of};
+ghost use Rattle.verifier_inference.specs.Sections.{instructions_in};
 ghost use Rattle.machine_definition.specs.Outcomes.{done};
 ghost use Rattle.machine_definition.specs.Blocks.{ended, run_set, visit};
 ghost use Rattle.machine_definition.specs.Bounds.{EachIn};
@@ -35,10 +35,10 @@ impl Visit {
     }
 }
 
-/// Runs the blocks of a set of positions in rising order, and takes a tick for each instruction.
+/// Runs the blocks of a set of positions in rising order, and each instruction costs one.
 fn run_set(section: &Section, bases: &[usize], atoms: &[bool], set: u128, left: &mut u64) -> Visit
     requires few { length section.now.blocks.items ≤ 127 }
-    requires size { size_of (section_data section.now).blocks ≤ 4096 }
+    requires size { instructions_in (section_data section.now).blocks ≤ 4096 }
     requires bases { AreBases (section_data section.now).blocks bases.now }
     requires inside { EachIn (λ q. q < length section.now.blocks.items) set }
     requires finishes { Finishes (run_set (section_data section.now) atoms.now set left.old) }
@@ -75,7 +75,7 @@ pub fn visit_positions(
     left: &mut u64,
 ) -> Visit
     requires few { length section.now.blocks.items ≤ 127 }
-    requires size { size_of (section_data section.now).blocks ≤ 4096 }
+    requires size { instructions_in (section_data section.now).blocks ≤ 4096 }
     requires bases { AreBases (section_data section.now).blocks bases.now }
     requires inside { EachIn (λ q. q < length section.now.blocks.items) set }
     requires finishes { Finishes (visit (section_data section.now) atoms.now set left.old) }

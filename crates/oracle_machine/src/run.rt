@@ -74,7 +74,7 @@ impl Run {
         self.out.as_slice()
     }
 
-    /// The ticks of the last clock.
+    /// The cost of the last clock.
     pub fn spent(&self) -> u64 {
         self.machine.spent()
     }

@@ -63,18 +63,18 @@ fn worth(decided: &Decided) -> u64 {
         .wrapping_add(clock)
 }
 
-/// The sums over all verdicts and all ticks.
+/// The sums over all verdicts and the cost of all clocks.
 #[derive(Drop)]
 struct Sums {
     verdicts: u64,
-    ticks: u64,
+    cost: u64,
 }
 
 /// Runs so many clocks over the trace.
 fn sums_of(run: &mut Run, trace: &[Vec<u128>], clocks: u64) -> Result<Sums> {
     let mut sums = Sums {
         verdicts: 0,
-        ticks: 0,
+        cost: 0,
     };
     for clock in 0..clocks {
         let row = trace.get((clock % ROWS) as usize).context("no row")?;
@@ -82,7 +82,7 @@ fn sums_of(run: &mut Run, trace: &[Vec<u128>], clocks: u64) -> Result<Sums> {
         for decided in run.decisions() {
             sums.verdicts = sums.verdicts.wrapping_add(worth(decided));
         }
-        sums.ticks = sums.ticks.wrapping_add(run.spent());
+        sums.cost = sums.cost.wrapping_add(run.spent());
     }
     Ok(sums)
 }
@@ -93,8 +93,8 @@ fn time_over(rt: &HostRuntime, run: &mut Run, trace: &[Vec<u128>], clocks: u64) 
     let start = Instant::now(rt)?;
     let sums = sums_of(run, trace, clocks)?;
     let took = start.elapsed(rt)?.as_micros();
-    let (verdicts, ticks) = (sums.verdicts, sums.ticks);
-    println!(rt; "attempts {clocks} us {took} verdicts {verdicts} ticks {ticks}")?;
+    let (verdicts, cost) = (sums.verdicts, sums.cost);
+    println!(rt; "attempts {clocks} us {took} verdicts {verdicts} ticks {cost}")?;
     Ok(())
 }
 

@@ -14,8 +14,8 @@ use Rattle.parser_grammar.proofs.FilesSound.{file-found}
 use Rattle.parser.specs.declared.fault.ParseFault.{ParseFault}
 use Rattle.parser_expressions.specs.declared.stop.Stop.{Stop}
 use Rattle.parser_expressions.specs.declared.stop.Stop.TheVariants as stops
-use Rattle.parser_trees.specs.declared.item.ItemTree.{ItemTree}
-use Rattle.parser_trees.specs.Views.{item_of}
+use Rattle.parser_grammar.specs.declared.item.ItemTree.{ItemTree}
+use Rattle.parser_grammar.specs.Views.{item_of}
 use Rattle.parser_expressions.proofs.LoopLaws.{map-push}
 use Rattle.parser.specs.Faults.{NamesStop, Refuses, IsParseFault}
 use Rattle.parser_expressions.specs.Views.{Fails}

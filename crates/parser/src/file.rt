@@ -6,7 +6,7 @@ ghost use Rattle.parser_grammar.specs.Trees.{ItemForm};
 ghost use Rattle.parser_grammar.specs.Readers.{lead};
 ghost use Rattle.parser_grammar.specs.Files.{IsFile};
 ghost use Rattle.parser_grammar.specs.ReadFiles.{asserts, is_more, items};
-ghost use Rattle.parser_trees.specs.Views.{item_of, items_of};
+ghost use Rattle.parser_grammar.specs.Views.{item_of, items_of};
 ghost use Rattle.parser.specs.Faults.{IsParseFault, Refuses, IsPlaced};
 
 use crate::fault::{ParseFault, byte_in, fault_of};
@@ -14,8 +14,7 @@ use crate::item::read_item;
 use crate::read::read;
 use lexer::Token;
 use parser_expressions::{byte_at, first, same};
-use parser_grammar::{Terminal, is};
-use parser_trees::{File, ItemTree};
+use parser_grammar::{File, ItemTree, Terminal, is};
 use std::alloc::Global;
 
 /// The items that stand first, whether one of them is an assertion, and the tokens behind them.

@@ -15,10 +15,10 @@ ghost use Rattle.parser_grammar.specs.ReadFiles.{opening_words, clock_words, dis
 ghost use Rattle.parser_grammar.specs.ReadFiles.{property_end};
 ghost use Rattle.parser_grammar.specs.ReadFiles.{assertion_item, label_reader, declaration_reader};
 ghost use Rattle.parser_grammar.specs.ReadFiles.{item};
-ghost use Rattle.parser_trees.specs.Views.{path_of, boxed_of};
+ghost use Rattle.parser_grammar.specs.Views.{path_of, boxed_of};
 ghost use Rattle.parser_expressions.specs.Views.{Gives};
-ghost use Rattle.parser_trees.specs.Views.{pair_of, property_of, counter_of, declaration_of};
-ghost use Rattle.parser_trees.specs.Views.{assertion_of, item_of};
+ghost use Rattle.parser_grammar.specs.Views.{pair_of, property_of, counter_of, declaration_of};
+ghost use Rattle.parser_grammar.specs.Views.{assertion_of, item_of};
 
 use crate::property::read_property;
 use crate::read::read;
@@ -27,11 +27,11 @@ use parser_expressions::{
     Read, Stop, accept, accept_name, expect, expect_bound, expect_name, expect_verb, first,
     read_expression, read_path, same,
 };
-use parser_grammar::{Bound, Terminal, is_word};
-use parser_sequences::read_sequence;
-use parser_trees::{
-    AssertionTree, CounterTree, DeclarationTree, ExprTree, ItemTree, Operands, Path, PropertyTree,
+use parser_grammar::{
+    AssertionTree, Bound, CounterTree, DeclarationTree, ExprTree, ItemTree, Operands, Path,
+    PropertyTree, Terminal, is_word,
 };
+use parser_sequences::read_sequence;
 use std::alloc::Global;
 
 /// How many brackets and unfinished operators may be open at once.

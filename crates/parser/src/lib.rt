@@ -7,9 +7,9 @@
 //!
 //! The grammar stands in `parser_grammar/specs/Files.antt` (`IsFile`: the tokens before the end
 //! spell the items, one of which is an assertion), and the functions that read by it in
-//! `parser_grammar/specs/ReadFiles.antt`; `parser_trees` has the trees, and says how one stands for
-//! the grammar's, and `specs/Faults.antt` what a refusal says: no items spell the tokens, unless
-//! memory ran out.
+//! `parser_grammar/specs/ReadFiles.antt`; `parser_grammar` has the trees, too, and says how one
+//! stands for the grammar's. `specs/Faults.antt` has what a refusal says: no items spell the
+//! tokens, unless memory ran out.
 //!
 //! Expressions are read by `parser_expressions`, and sequences by `parser_sequences`; the trees can
 //! be imported from here, too.
@@ -26,8 +26,7 @@ mod read;
 
 pub use fault::ParseFault;
 pub use file::parse;
-pub use parser_grammar::{Bound, Function, Index, Range, Select};
-pub use parser_trees::{
-    AssertionTree, CounterTree, DeclarationTree, ExprTree, File, ItemTree, Operands, Path,
-    PropertyTree, SequenceTree,
+pub use parser_grammar::{
+    AssertionTree, Bound, CounterTree, DeclarationTree, ExprTree, File, Function, Index, ItemTree,
+    Operands, Path, PropertyTree, Range, Select, SequenceTree,
 };

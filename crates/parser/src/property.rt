@@ -9,14 +9,15 @@ ghost use Rattle.parser_grammar.specs.ReadSequences.{implication_behind, regroup
 ghost use Rattle.parser_grammar.specs.ReadSequences.{property};
 ghost use Rattle.parser_grammar.specs.ReadSequences.{first_behind};
 ghost use Rattle.parser_expressions.specs.Views.{Gives};
-ghost use Rattle.parser_trees.specs.Views.{sequence_of, property_of};
+ghost use Rattle.parser_grammar.specs.Views.{sequence_of, property_of};
 
 use crate::read::read;
 use lexer::Token;
 use parser_expressions::{Read, Stop, accept, byte_at, deeper, expect, first};
-use parser_grammar::{Implication, Terminal, implication_of, is_first_match};
+use parser_grammar::{
+    Implication, PropertyTree, SequenceTree, Terminal, implication_of, is_first_match,
+};
 use parser_sequences::{finish_sequence, read_sequence, regroup};
-use parser_trees::{PropertyTree, SequenceTree};
 use std::alloc::Global;
 
 /// The implication that stands first, if one does.

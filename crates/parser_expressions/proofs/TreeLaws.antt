@@ -4,10 +4,10 @@ use Rattle.parser_grammar.specs.declared.operator.Infix.{Infix}
 use Rattle.parser_grammar.specs.Trees as trees
 use Rattle.parser_grammar.specs.Trees.{Tree}
 use Rattle.parser_grammar.specs.ReadExpressions.{links_of, chain_of}
-use Rattle.parser_trees.specs.declared.expression.ExprTree.{ExprTree}
-use Rattle.parser_trees.specs.Views.{link_of}
-use Rattle.parser_trees.proofs.TreeLaws.{tree-Number, tree-Path, tree-Concatenation, tree-Past, tree-Call}
-use Rattle.parser_trees.proofs.TreeLaws.{tree-Unary, tree-Chain, tree-Choice}
+use Rattle.parser_grammar.specs.declared.expression.ExprTree.{ExprTree}
+use Rattle.parser_grammar.specs.Views.{link_of}
+use Rattle.parser_grammar.proofs.TreeLaws.{tree-Number, tree-Path, tree-Concatenation, tree-Past, tree-Call}
+use Rattle.parser_grammar.proofs.TreeLaws.{tree-Unary, tree-Chain, tree-Choice}
 
 -- nothing more, or something
 pub links-none : (e : Tree) (xs : List (Infix × ExprTree)) → length xs ≡ 0 → e ≡ chain_of e (map link_of xs)

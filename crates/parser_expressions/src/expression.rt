@@ -16,7 +16,7 @@ ghost use Rattle.parser_grammar.specs.ReadExpressions.{call_reader, prefix_reade
 ghost use Rattle.parser_grammar.specs.ReadExpressions.{links};
 ghost use Rattle.parser_grammar.specs.ReadExpressions.{climb, operand, prefixed_with, finish};
 ghost use Rattle.parser_grammar.specs.ReadExpressions.{expression};
-ghost use Rattle.parser_trees.specs.Views.{path_of, tree_of, link_of};
+ghost use Rattle.parser_grammar.specs.Views.{path_of, tree_of, link_of};
 ghost use Rattle.parser_expressions.specs.Views.{Gives};
 
 use crate::node::{
@@ -28,8 +28,9 @@ use crate::read::{
 };
 use crate::stop::Stop;
 use lexer::Token;
-use parser_grammar::{Bound, Function, Index, Infix, Mark, Prefix, Select, Terminal, mark_of};
-use parser_trees::{ExprTree, Path};
+use parser_grammar::{
+    Bound, ExprTree, Function, Index, Infix, Mark, Path, Prefix, Select, Terminal, mark_of,
+};
 use std::alloc::Global;
 
 /// The words of a path behind its first.

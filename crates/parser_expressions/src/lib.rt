@@ -8,7 +8,7 @@
 //! ```
 //!
 //! The grammar stands in `parser_grammar/specs/Expressions.antt`, and the functions that read by it
-//! in `parser_grammar/specs/ReadExpressions.antt`; `parser_trees` has the trees, and says how one
+//! in `parser_grammar/specs/ReadExpressions.antt`; `parser_grammar` has the trees, and says how one
 //! stands for the grammar's; `specs/Views.antt` says what it is that a reader gives what the
 //! function reads (`Gives`).
 //!

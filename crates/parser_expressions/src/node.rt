@@ -4,14 +4,13 @@ ghost use Rattle.std.specs.Prelude.{◌≡◌, ◌≤◌, ◌++◌, [], ◌∷�
 ghost use Rattle.parser_expressions.specs.declared.stop.Stop.TheVariants.{Memory};
 ghost use Rattle.parser_grammar.specs.Trees as trees;
 ghost use Rattle.parser_grammar.specs.ReadExpressions.{parts_of, chain_of};
-ghost use Rattle.parser_trees.specs.Views.{tree_of, link_of};
+ghost use Rattle.parser_grammar.specs.Views.{tree_of, link_of};
 ghost use Rattle.parser_expressions.specs.Views.{Gives, read_as};
 
 use crate::read::Read;
 use crate::stop::Stop;
 use lexer::{Number, Token};
-use parser_grammar::{Bound, Function, Infix, Prefix, Select};
-use parser_trees::{ExprTree, Path};
+use parser_grammar::{Bound, ExprTree, Function, Infix, Path, Prefix, Select};
 use std::alloc::Global;
 
 /// A tree in memory, with the tokens behind it.

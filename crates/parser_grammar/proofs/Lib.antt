@@ -8,3 +8,4 @@ pub mod SequencesSound
 pub mod PropertyLaws
 pub mod FilesComplete
 pub mod FilesSound
+pub mod TreeLaws

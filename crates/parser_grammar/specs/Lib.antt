@@ -11,3 +11,4 @@ pub mod ReadExpressions
 pub mod ReadSequences
 pub mod ReadFiles
 pub mod Laws
+pub mod Views

@@ -7,7 +7,10 @@
 //! agree for files, and for expressions, sequences and properties where no operator behind them
 //! goes on; and that tokens spell at most one file. The readers themselves, with trees in memory,
 //! are `parser_expressions`, `parser_sequences` and `parser`, whose contracts go by these
-//! definitions. The code here says what a single token is to the grammar:
+//! definitions. The trees in memory stand here too, below all that makes or reads them: `tree_of`,
+//! `sequence_of`, `property_of` and `item_of` say which tree of the grammar each stands for.
+//! Brackets are not kept, and what groups to the left on one level is one node. The rest of the
+//! code says what a single token is to the grammar:
 //!
 //! ```text
 //! let terminal = terminal_of(token);       // Terminal::Sequence, Terminal::Name, ..
@@ -23,7 +26,8 @@
 //! The definitions: what a token is to the rules in `specs/Terminals.antt`, and numbers as bounds
 //! in `specs/Bounds.antt`; left operators with their levels, and implications, in
 //! `specs/Operators.antt`; how a token may begin a primary, and how loosely it joins, in
-//! `specs/Marks.antt`; the trees in `specs/Trees.antt`. The rules: `specs/Expressions.antt`,
+//! `specs/Marks.antt`; the trees in `specs/Trees.antt`, and those in memory in `specs/Views.antt`
+//! (`proofs/TreeLaws.antt` has what each node stands for). The rules: `specs/Expressions.antt`,
 //! `specs/Sequences.antt` and `specs/Files.antt` (`IsFile`); the functions:
 //! `specs/ReadExpressions.antt`, `specs/ReadSequences.antt` and `specs/ReadFiles.antt`, with their
 //! common parts in `specs/Readers.antt`; what the law says stands in `specs/Laws.antt`. Of IEEE
@@ -34,15 +38,23 @@
 #![tactic(auto)]
 
 mod bound;
+mod expression;
+mod item;
 mod laws;
 mod mark;
 mod operator;
 mod precedence;
+mod sequence;
 mod terminal;
 
 pub use bound::{Bound, Index, Range, Select, bound_of, index_of};
+pub use expression::{ExprTree, Path};
+pub use item::{
+    AssertionTree, CounterTree, DeclarationTree, File, ItemTree, Operands, PropertyTree,
+};
 pub use laws::grammar_law;
 pub use mark::{Function, Mark, mark_of};
 pub use operator::{Implication, Infix, Junction, Prefix, implication_of, infix_of};
 pub use precedence::precedence_of;
+pub use sequence::SequenceTree;
 pub use terminal::{Terminal, is, is_first_match, is_name, is_word, terminal_of};

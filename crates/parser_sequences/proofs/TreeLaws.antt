@@ -4,9 +4,9 @@ use Rattle.parser_grammar.specs.Trees as trees
 use Rattle.parser_grammar.specs.declared.bound.Range.{Range}
 use Rattle.parser_grammar.specs.declared.operator.Junction.{Junction}
 use Rattle.parser_grammar.specs.ReadSequences.{steps_of, others_of, with_steps, with_others}
-use Rattle.parser_trees.specs.declared.sequence.SequenceTree.{SequenceTree}
-use Rattle.parser_trees.specs.Views.{sequence_of, delay_step_of}
-use Rattle.parser_trees.proofs.TreeLaws.{seq-Boolean, seq-Repeated, seq-Late, seq-Delayed, seq-Throughout, seq-Joined}
+use Rattle.parser_grammar.specs.declared.sequence.SequenceTree.{SequenceTree}
+use Rattle.parser_grammar.specs.Views.{sequence_of, delay_step_of}
+use Rattle.parser_grammar.proofs.TreeLaws.{seq-Boolean, seq-Repeated, seq-Late, seq-Delayed, seq-Throughout, seq-Joined}
 
 pub ruleset sequence_rules = (seq-Boolean, seq-Repeated, seq-Late, seq-Delayed, seq-Throughout, seq-Joined)
 

@@ -8,16 +8,15 @@ ghost use Rattle.parser_grammar.specs.Trees.{boolean};
 ghost use Rattle.parser_grammar.specs.Trees as trees;
 ghost use Rattle.parser_grammar.specs.Readers.{expect};
 ghost use Rattle.parser_grammar.specs.ReadSequences.{with_times, with_steps, with_others};
-ghost use Rattle.parser_trees.specs.Views.{tree_of};
+ghost use Rattle.parser_grammar.specs.Views.{tree_of};
 ghost use Rattle.parser_expressions.specs.Views.{Gives, read_as};
-ghost use Rattle.parser_trees.specs.Views.{sequence_of, delay_step_of};
+ghost use Rattle.parser_grammar.specs.Views.{sequence_of, delay_step_of};
 ghost use Rattle.parser_grammar.specs.Sequences.{IsNoExpression};
 ghost use Rattle.parser_sequences.specs.Bodies.{HasNoThroughout};
 
 use lexer::Token;
 use parser_expressions::{Read, Stop, accept};
-use parser_grammar::{Junction, Range, Terminal};
-use parser_trees::{ExprTree, SequenceTree};
+use parser_grammar::{ExprTree, Junction, Range, SequenceTree, Terminal};
 use std::alloc::Global;
 
 /// Whether a sequence is an expression.

@@ -12,7 +12,7 @@
 //! from what stood in brackets, which a property, too, may begin with.
 //!
 //! The grammar stands in `parser_grammar/specs/Sequences.antt`, and the functions that read by it
-//! in `parser_grammar/specs/ReadSequences.antt`; `parser_trees` has the trees, and says how one
+//! in `parser_grammar/specs/ReadSequences.antt`; `parser_grammar` has the trees, and says how one
 //! stands for the grammar's. What it is that a reader gives what the function reads (`Gives`) is a
 //! definition of `parser_expressions`.
 //!

@@ -8,7 +8,7 @@ ghost use Rattle.parser_grammar.specs.ReadSequences.{intersection_behind, inters
 ghost use Rattle.parser_grammar.specs.ReadSequences.{conjunction_with, alternatives_behind};
 ghost use Rattle.parser_grammar.specs.ReadSequences.{sequence_behind, whole};
 ghost use Rattle.parser_expressions.specs.Views.{Gives};
-ghost use Rattle.parser_trees.specs.Views.{sequence_of, boxed_step_of};
+ghost use Rattle.parser_grammar.specs.Views.{sequence_of, boxed_step_of};
 
 use crate::body::{
     into_expression, late, plain, push_sequence, push_step, throughout, throughout_side,
@@ -20,8 +20,7 @@ use lexer::Token;
 use parser_expressions::{
     Read, Stop, accept, deeper, expect, finish_expression, read_expression, same,
 };
-use parser_grammar::{Junction, Range, Terminal};
-use parser_trees::SequenceTree;
+use parser_grammar::{Junction, Range, SequenceTree, Terminal};
 use std::alloc::Global;
 
 /// What goes on behind brackets.

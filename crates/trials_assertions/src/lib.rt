@@ -1,5 +1,6 @@
 //! Tests of what expressions, sequences, sections and programs are made of, from `expressions` to
-//! `bytecode`, on happy paths: what no table of a program `oracle_*` reaches by itself.
+//! `bytecode`, of causes and their sheets, and of reports in other forms, on happy paths: what no
+//! table of a program `oracle_*` reaches by itself.
 //!
 //! They stand above those crates, so that the gate proves each of them once, and not once more
 //! beside its tests; and they are several crates, since one process that goes through the tests of
@@ -22,11 +23,15 @@
 #![tactic(auto)]
 
 #[cfg(test)]
+mod forms;
+#[cfg(test)]
 mod named_sequences;
 #[cfg(test)]
 mod programs;
 #[cfg(test)]
 mod sections;
+#[cfg(test)]
+mod sheets;
 #[cfg(test)]
 mod values;
 #[cfg(test)]

@@ -7,15 +7,15 @@ use Rattle.std.proofs.lemmas.Bool.Decides.{eqb_tells}
 use Rattle.std.specs.Prelude.{nat_eq, cond, IsSome}
 use Rattle.std.specs.List.{IsDistinct}
 use Rattle.std.specs.Map.{lookup, set_value, remove_entry, keys_of}
-use Rattle.machine_pool.specs.Pooled.{Pooled, pooled, first_slot, slot_after}
-use Rattle.machine_pool.specs.Walk.{IsAt, left_at}
-use Rattle.machine_pool.proofs.WalkLaws as walk
+use Rattle.machine_memory.specs.Pooled.{Pooled, pooled, first_slot, slot_after}
+use Rattle.machine_memory.specs.Walk.{WalkIsAt, left_at}
+use Rattle.machine_memory.proofs.WalkLaws as walk
 use Rattle.trials_machine.specs.Counted.{counted_down}
 
 pub record Counting (pool : Pooled ℕ) (at : Option ℕ) (old : Pooled ℕ) : Type 0 where
   pub done : List (ℕ × ℕ)
   pub rest : List (ℕ × ℕ)
-  pub stands : IsAt pool.live at done rest
+  pub stands : WalkIsAt pool.live at done rest
   pub makes : done ++ counted_down rest ≡ counted_down old.live
   pub cap : pool.cap ≡ old.cap
 
@@ -43,7 +43,7 @@ pub starts : (pool : Pooled ℕ) (at : Option ℕ) → IsDistinct nat_eq (keys_o
 starts pool at d e = record {
   done = [];
   rest = pool.live;
-  stands = subst (λ (a : Option ℕ). IsAt pool.live a [] pool.live) (sym e)
+  stands = subst (λ (a : Option ℕ). WalkIsAt pool.live a [] pool.live) (sym e)
       (walk.begins pool.live d);
   makes = refl;
   cap = refl;
@@ -53,21 +53,21 @@ pub over : (pool : Pooled ℕ) (at : Option ℕ) (old : Pooled ℕ) → Counting
     → pool ≡ pooled old.cap (counted_down old.live)
 over pool at old h e =
     let end = walk.ends pool.live h.done h.rest
-    (subst (λ (a : Option ℕ). IsAt pool.live a h.done h.rest) e h.stands) in
+    (subst (λ (a : Option ℕ). WalkIsAt pool.live a h.done h.rest) e h.stands) in
     (λ i. pooled (h.cap i)
     ((end.1 ∙ sym (ap (λ l. h.done ++ l) (ap counted_down end.0 ∙ empty-counted)
     ∙ append-nil h.done) ∙ h.makes) i))
 
 module _ (pool : Pooled ℕ) (old : Pooled ℕ) (at : Option ℕ) (s : ℕ) (h : Counting pool at old)
     (is : at ≡ Some s) where
-  here : IsAt pool.live (Some s) h.done h.rest
-  here = subst (λ (a : Option ℕ). IsAt pool.live a h.done h.rest) is h.stands
+  here : WalkIsAt pool.live (Some s) h.done h.rest
+  here = subst (λ (a : Option ℕ). WalkIsAt pool.live a h.done h.rest) is h.stands
 
   on : walk.Head s h.rest
   on = walk.head pool.live s h.done h.rest here
 
-  stands : IsAt pool.live (Some s) h.done ((s, on.item) ∷ on.tail)
-  stands = subst (IsAt pool.live (Some s) h.done) on.is here
+  stands : WalkIsAt pool.live (Some s) h.done ((s, on.item) ∷ on.tail)
+  stands = subst (WalkIsAt pool.live (Some s) h.done) on.is here
 
   pub live : IsSome (lookup (nat_eq s) pool.live)
   live = walk.found pool.live s on.item h.done on.tail (Some s) stands
@@ -85,14 +85,14 @@ module _ (pool : Pooled ℕ) (old : Pooled ℕ) (at : Option ℕ) (s : ℕ) (h :
   module _ (n : ℕ) (got : lookup (nat_eq s) pool.live ≡ Some n) (next : Option ℕ)
       (after : next ≡ slot_after s pool.live) (now : Pooled ℕ) where
     moved : (done : List (ℕ × ℕ)) (l : List (ℕ × ℕ)) → now ≡ pooled pool.cap l
-        → IsAt l (slot_after s pool.live) done on.tail
+        → WalkIsAt l (slot_after s pool.live) done on.tail
         → done ++ counted_down on.tail ≡ counted_down old.live
         → Counting now next old × (left_at next now.live < left_at at pool.live)
     moved done l e stands' makes =
         let lists = ap (λ (p : Pooled ℕ). p.live) e in
-        let stands2 : IsAt now.live next done on.tail =
-        subst (λ (a : Option ℕ). IsAt now.live a done on.tail) (sym after)
-        (subst (λ k. IsAt k (slot_after s pool.live) done on.tail) (sym lists) stands') in (
+        let stands2 : WalkIsAt now.live next done on.tail =
+        subst (λ (a : Option ℕ). WalkIsAt now.live a done on.tail) (sym after)
+        (subst (λ k. WalkIsAt k (slot_after s pool.live) done on.tail) (sym lists) stands') in (
           record {
             done = done;
             rest = on.tail;

@@ -198,12 +198,12 @@ fn stored_twice(alloc: Global) -> Result<Option<Outcome>, AllocError> {
     outcome_of(alloc, 7, code.as_slice())
 }
 
-/// What is left: the counter, the atom, the ticks.
-fn left(counter: u128, atom: bool, ticks: u64) -> Option<Outcome> {
+/// What is left: the counter, the atom, the cost.
+fn left(counter: u128, atom: bool, cost: u64) -> Option<Outcome> {
     Some(Outcome {
         counter,
         atom,
-        ticks,
+        cost,
     })
 }
 
@@ -243,7 +243,7 @@ fn rows_and_choices(rt: HostRuntime) -> Result<(), Fail> {
 }
 
 #[test]
-fn ways_and_ticks(rt: HostRuntime) -> Result<(), Fail> {
+fn ways_and_costs(rt: HostRuntime) -> Result<(), Fail> {
     assert!(rt; jump_outcome(rt.alloc(), 1)? == left(3, false, 7));
     assert!(rt; jump_outcome(rt.alloc(), 0)? == left(9, false, 6));
     assert!(rt; atom_set(rt.alloc(), 1)? == left(9, true, 3));

@@ -1,4 +1,4 @@
-//! Trials of the parts of a machine: `machine_ring`, `machine_pool`, `machine_samples` and
+//! Trials of the parts of a machine: `machine_memory`, `machine_memory`, `machine_samples` and
 //! `machine_decoded`.
 //!
 //! A ring keeps the last rows of a monitor: the tests look back each number of pushes at each slot,
@@ -13,7 +13,7 @@
 //! fill(&mut pool, 2);                          // four records of 2
 //! count_down(&mut pool);                       // each is 1 now
 //! let same = holds(&pool, &[1, 1, 1, 1]);
-//! // one instruction, Halt: the counter is 9 as before, no atom is set, one tick is spent
+//! // one instruction, Halt: the counter is 9 as before, no atom is set, one is spent
 //! assert!(rt; outcome_of(rt.alloc(), 1, &[0x34])? == left(9, false, 1));
 //! ```
 //!

@@ -12,7 +12,7 @@ ghost use Rattle.machine_definition.specs.Values.{AreValues};
 use bytecode::Program;
 use bytecode_files::decode;
 use machine_decoded::Decoded;
-use machine_ring::Ring;
+use machine_memory::Ring;
 use machine_samples::{Stack, run};
 use signals::Bits;
 use std::alloc::{AllocError, Global};
@@ -33,12 +33,12 @@ const SECTIONS: &str = "00000000000000000000000000000000000000000000000000000000
 /// The rows, the oldest first: the constant 1, `x`, `y`, the counter.
 const ROWS: [[u128; 4]; 3] = [[1, 5, 100, 4], [1, 6, 200, 4], [1, 7, 300, 4]];
 
-/// What is left of a counter that was 9 and an atom that was 1, in so many ticks.
+/// What is left of a counter that was 9 and an atom that was 1, at this cost.
 #[derive(Clone, Copy, PartialEq, Eq, Debug)]
 pub(crate) struct Outcome {
     pub counter: u128,
     pub atom: bool,
-    pub ticks: u64,
+    pub cost: u64,
 }
 
 /// The value of a hexadecimal digit, 0 for other bytes.
@@ -134,11 +134,11 @@ fn left_by_stack(
         return Ok(None);
     }
     let mut stack = Stack::new(alloc)?;
-    let ticks = run(program, widths, ring, &mut stack, &mut atoms, &mut counters);
+    let cost = run(program, widths, ring, &mut stack, &mut atoms, &mut counters);
     Ok(Some(Outcome {
         counter: counters[0],
         atom: atoms[0],
-        ticks,
+        cost,
     }))
 }
 
@@ -174,11 +174,11 @@ fn left_by_steps(
         return Ok(None);
     }
     decoded.enter(program, &row[1..], &[]);
-    let ticks = decoded.run(program, ring, &mut atoms, &mut counters);
+    let cost = decoded.run(program, ring, &mut atoms, &mut counters);
     Ok(Some(Outcome {
         counter: counters[0],
         atom: atoms[0],
-        ticks,
+        cost,
     }))
 }
 

@@ -2,7 +2,7 @@
 
 ghost use Rattle.std.specs.Prelude.{◌≡◌, ◌≤◌, IfOk, length};
 
-use machine_ring::Ring;
+use machine_memory::Ring;
 use std::alloc::{AllocError, Global};
 use std::test::Fail;
 

@@ -5,7 +5,7 @@ use signals::{Decided, Verdict};
 use std::alloc::{AllocError, Global};
 use std::test::Fail;
 use std::thread;
-use workers_board::Board;
+use workers_shared::Board;
 
 /// A batch of one attempt, which failed at its start.
 fn batch_of(alloc: Global, start: u64) -> Result<Batch, AllocError> {

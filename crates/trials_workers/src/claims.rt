@@ -1,7 +1,7 @@
 //! Claims from a bench, and one worker's round.
 
 ghost use Rattle.std.specs.Prelude.{◌≡◌};
-ghost use Rattle.workers_tally.specs.Blanks.{HaveParts, AreOf};
+ghost use Rattle.workers_shared.specs.Blanks.{HaveParts, HaveNames};
 
 use crate::job::job_of;
 use crate::tests::{OVERLAPPED, THREE, TWO_POSITIONS};
@@ -11,12 +11,10 @@ use std::marker::Brand;
 use std::sync::Wait;
 use std::test::Fail;
 use workers::{NoGate, first_monitors};
-use workers_bench::{Bench, Numbered};
-use workers_board::Board;
 use workers_core::{Job, window_of};
 use workers_rounds::round::put_all;
 use workers_rounds::work::work;
-use workers_tally::{Blanks, Tally, Tallying};
+use workers_shared::{Bench, Blanks, Board, Numbered, Tally, Tallying};
 
 /// The number of a claimed monitor.
 fn number_of(claimed: &Option<Numbered>) -> Option<usize> {
@@ -82,7 +80,7 @@ fn round_alone<L: Tallying>(
 ) -> Result<Alone, AllocError>
     requires shares { L.shares ≡ 1 }
     requires parts { HaveParts 1 blanks }
-    requires names { AreOf L.holds L.vacuous L.fails L.disabled blanks }
+    requires names { HaveNames L.holds L.vacuous L.fails L.disabled blanks }
 {
     let Ok(window) = window_of(alloc, job, WindowSize::usual()) else {
         return Err(AllocError);

@@ -10,7 +10,7 @@ use Rattle.assertions.specs.declared.sequence.Boolean.{Boolean}
 use Rattle.types_sequences.specs.declared.entry.Entry.{Entry}
 use Rattle.types_sequences.specs.Drafts.{Draft, IsCyclic}
 use Rattle.types_sequences.specs.Outlines.{map_draft}
-use Rattle.types_sequences.specs.Entries.{IsTable, has_entry, is_entry}
+use Rattle.types_sequences.specs.Entries.{IsEntryTable, has_entry, is_entry}
 use Rattle.types_sequences.proofs.MapLaws.{cyclic_map, map_cyclic}
 use Rattle.types_sequences.proofs.AcyclicLaws.{named_acyclic}
 use Rattle.types_sequences.proofs.CyclicLaws.{declared_by_reach}
@@ -30,7 +30,7 @@ entry_there (Some None) h = absurd (false≢true h)
 entry_there (Some (Some e)) h = (e, refl)
 
 -- what has an entry doesn't reach itself
-pub entry_acyclic : (bodies : List (Draft Boolean)) (table : List (Option Entry)) (p : ℕ) → IsTable bodies table
+pub entry_acyclic : (bodies : List (Draft Boolean)) (table : List (Option Entry)) (p : ℕ) → IsEntryTable bodies table
     → has_entry table p ≡ true → IsCyclic bodies p → ⊥
 entry_acyclic bodies table p t h c =
     let there = entry_there (slice_get table p) h in

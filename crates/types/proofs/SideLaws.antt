@@ -10,13 +10,13 @@ use Rattle.assertions.specs.Emptiness.{admits_empty, takes_ticks}
 use Rattle.assertions.proofs.FirstLaws.{empty-degenerate, none-degenerate_by, degenerate_by-none}
 use Rattle.assertions.proofs.EmptinessLaws.{degenerate-none, none-degenerate, empty-Matches, Matches-empty}
 use Rattle.std.specs.List.{AllByRecursion}
-use Rattle.types_sequences.specs.Drafts.{Draft, IsIn, Spells}
+use Rattle.types_sequences.specs.Drafts.{Draft, IsNumberIn, IsWrittenOut}
 use Rattle.types_sequences.proofs.MapLaws.{spells_one}
 use Rattle.types.specs.declared.side.Side.{Side}
 use Rattle.types_suites.specs.Readings.{Dot, dot}
 use Rattle.types_suites.specs.Faults as faults
 use Rattle.types_suites.specs.Faults.{SideAt}
-use Rattle.types.specs.Sides.{IsWeighed, AreWeighed, AreLight, places_where, is_wide, is_degenerate, is_empty}
+use Rattle.types.specs.Sides.{IsWeighed, AreWeighed, AreLight, places_where, is_wide, is_degenerate, is_side_empty}
 
 -- the test tells what is so of what a side says, where something is known of what it tells
 abbrev pub Tells : (Side → Type 0) → (Bool → Written Dot → Type 0) → (Side → Bool) → Type 0
@@ -36,8 +36,8 @@ all_any (y ∷ ys) = (tt, all_any ys)
 abbrev pub Light : Side → Type 0
 Light y = y.facts.weight ≤ 127
 
-place_kept : (test : Side → Bool) (y : Side) (ys : List Side) (at : ℕ) → IsIn at (places_where test ys)
-    → IsIn at (places_where test (y ∷ ys))
+place_kept : (test : Side → Bool) (y : Side) (ys : List Side) (at : ℕ) → IsNumberIn at (places_where test ys)
+    → IsNumberIn at (places_where test (y ∷ ys))
 place_kept test y ys at i =
     elim (cases_Bool (test y)) [
       | inl e ↦ rw e (inr i)
@@ -45,19 +45,19 @@ place_kept test y ys at i =
     ]
 
 place_here : (test : Side → Bool) (y : Side) (ys : List Side) → test y ≡ true
-    → IsIn y.at (places_where test (y ∷ ys))
+    → IsNumberIn y.at (places_where test (y ∷ ys))
 place_here test y ys e = rw e (inl refl)
 
-place_of : (test : Side → Bool) (y : Side) (ys : List Side) (at : ℕ) → IsIn at (places_where test (y ∷ ys))
-    → ((test y ≡ true) × (at ≡ y.at)) ⊎ IsIn at (places_where test ys)
+place_of : (test : Side → Bool) (y : Side) (ys : List Side) (at : ℕ) → IsNumberIn at (places_where test (y ∷ ys))
+    → ((test y ≡ true) × (at ≡ y.at)) ⊎ IsNumberIn at (places_where test ys)
 place_of test y ys at i =
     elim (cases_Bool (test y)) [
       | inl e ↦ here e (rw e at i)
       | inr e ↦ inr (rw e at i)
     ]
   where
-    here : test y ≡ true → (at ≡ y.at) ⊎ IsIn at (places_where test ys) → ((test y ≡ true) × (at ≡ y.at))
-        ⊎ IsIn at (places_where test ys)
+    here : test y ≡ true → (at ≡ y.at) ⊎ IsNumberIn at (places_where test ys) → ((test y ≡ true) × (at ≡ y.at))
+        ⊎ IsNumberIn at (places_where test ys)
     here e (inl a) = inl (e, a)
     here e (inr r) = inr r
 
@@ -65,7 +65,7 @@ place_of test y ys at i =
 pub side_there : (Known : Side → Type 0) (IsSo : Bool → Written Dot → Type 0) (test : Side → Bool)
     → Tells Known IsSo test
     → (bodies : List (Draft Dot)) (xs : List faults.Side) (ys : List Side) → AreWeighed bodies xs ys
-    → AllByRecursion Known ys → (at : ℕ) → SideAt bodies xs IsSo at → IsIn at (places_where test ys)
+    → AllByRecursion Known ys → (at : ℕ) → SideAt bodies xs IsSo at → IsNumberIn at (places_where test ys)
 side_there Known IsSo test tells bodies [] [] all known at s = elim s.one [ ]
 side_there Known IsSo test tells bodies [] (y ∷ ys) all known at s = elim all [ ]
 side_there Known IsSo test tells bodies (x ∷ xs) [] all known at s = elim all [ ]
@@ -77,22 +77,22 @@ side_there Known IsSo test tells bodies (x ∷ xs) (y ∷ ys) all known at s =
           (record { side = s.side; one = r; meant = s.meant; spells = s.spells; so = s.so; byte = s.byte }))
     ]
   where
-    first : s.side ≡ x → IsIn at (places_where test (y ∷ ys))
+    first : s.side ≡ x → IsNumberIn at (places_where test (y ∷ ys))
     first e =
-        let here : Spells bodies x.outline s.meant =
-        subst (λ (z : faults.Side). Spells bodies z.outline s.meant) e s.spells in
+        let here : IsWrittenOut bodies x.outline s.meant =
+        subst (λ (z : faults.Side). IsWrittenOut bodies z.outline s.meant) e s.spells in
         let same = spells_one bodies x.outline s.meant all.0.meant here all.0.spells in
         let so : IsSo x.first all.0.meant =
         subst (λ (z : faults.Side). IsSo z.first all.0.meant) e (subst (IsSo s.side.first) same s.so) in
         let byte : at ≡ y.at = s.byte ∙ ap (λ (z : faults.Side). z.byte) e ∙ sym all.0.byte in
-        subst (λ (b : ℕ). IsIn b (places_where test (y ∷ ys))) (sym byte)
+        subst (λ (b : ℕ). IsNumberIn b (places_where test (y ∷ ys))) (sym byte)
         (place_here test y ys ((tells bodies x y all.0 known.0).1 so))
 
 -- and each place is that of a side that is so
 pub side_back : (Known : Side → Type 0) (IsSo : Bool → Written Dot → Type 0) (test : Side → Bool)
     → Tells Known IsSo test
     → (bodies : List (Draft Dot)) (xs : List faults.Side) (ys : List Side) → AreWeighed bodies xs ys
-    → AllByRecursion Known ys → (at : ℕ) → IsIn at (places_where test ys) → SideAt bodies xs IsSo at
+    → AllByRecursion Known ys → (at : ℕ) → IsNumberIn at (places_where test ys) → SideAt bodies xs IsSo at
 side_back Known IsSo test tells bodies [] [] all known at i = elim i [ ]
 side_back Known IsSo test tells bodies [] (y ∷ ys) all known at i = elim all [ ]
 side_back Known IsSo test tells bodies (x ∷ xs) [] all known at i = elim all [ ]
@@ -160,14 +160,14 @@ tells_degenerate bodies x y h light = (
       (subst (λ (b : Bool). IsDegenerateBy b (kernel dot h.meant)) (sym h.first) so),
 )
 
-pub tells_empty : Tells Any (λ first w. AdmitsEmpty (kernel dot w)) is_empty
+pub tells_empty : Tells Any (λ first w. AdmitsEmpty (kernel dot w)) is_side_empty
 tells_empty bodies x y h known = (
   λ t. empty-Matches Dot always dot h.meant 0 h.ordered (sym h.empty ∙ t),
   λ so. h.empty ∙ Matches-empty Dot always dot h.meant 0 h.ordered so,
 )
 
 -- Where no side is wide, each is light.
-pub all_light : (ys : List Side) → ((at : ℕ) → IsIn at (places_where is_wide ys) → ⊥) → AreLight ys
+pub all_light : (ys : List Side) → ((at : ℕ) → IsNumberIn at (places_where is_wide ys) → ⊥) → AreLight ys
 all_light [] none = tt
 all_light (y ∷ ys) none = (light, all_light ys (λ at i. none at (place_kept is_wide y ys at i)))
   where

@@ -15,7 +15,7 @@ use Rattle.types_suites.specs.Readings.{dot}
 use Rattle.types_suites.specs.Texts.{assertions_of}
 use Rattle.types_suites.specs.Readings.{outlines_of}
 use Rattle.types_suites.specs.Faults.{sides_of, consequents_of, ClearTo, IsFaultless, IsFirst, rank, byte_of}
-use Rattle.types.specs.Sides.{AreWeighed, AreLight, places_where, is_wide, is_degenerate, is_empty}
+use Rattle.types.specs.Sides.{AreWeighed, AreLight, places_where, is_wide, is_degenerate, is_side_empty}
 use Rattle.types.proofs.StageLaws.{nowhere, least_stands, clear_next, first_at, of_rank}
 use Rattle.types.proofs.SideLaws.{side_there, side_back, tells_wide, tells_degenerate, tells_empty, Any, all_any, Light}
 
@@ -62,20 +62,21 @@ module _ (s : Scope) (items : List ItemForm) (ys : List Side)
 
 module _ (s : Scope) (items : List ItemForm) (ys : List Side)
     (all : AreWeighed (outlines_of s items) (consequents_of s (assertions_of items)) ys) where
-  pub clear_9 : ClearTo s items 8 → least (places_where is_empty ys) ≡ None → ClearTo s items 9
+  pub clear_9 : ClearTo s items 8 → least (places_where is_side_empty ys) ≡ None → ClearTo s items 9
   clear_9 clear e =
-      clear_next s items 8 clear (λ fault r h. nowhere (places_where is_empty ys) e (byte_of fault)
-      (side_there Any (λ first w. AdmitsEmpty (kernel dot w)) is_empty tells_empty (outlines_of s items)
+      clear_next s items 8 clear (λ fault r h. nowhere (places_where is_side_empty ys) e (byte_of fault)
+      (side_there Any (λ first w. AdmitsEmpty (kernel dot w)) is_side_empty tells_empty (outlines_of s items)
       (consequents_of s (assertions_of items)) ys all (all_any ys) (byte_of fault) (of_rank s items 9 fault r h)))
 
-  pub first_9 : (at : ℕ) → ClearTo s items 8 → least (places_where is_empty ys) ≡ Some at → IsFirst s items (Empty at)
+  pub first_9 : (at : ℕ) → ClearTo s items 8 → least (places_where is_side_empty ys) ≡ Some at
+      → IsFirst s items (Empty at)
   first_9 at clear e =
-      let l = least_stands (places_where is_empty ys) at e in
+      let l = least_stands (places_where is_side_empty ys) at e in
       first_at s items 8 (Empty at) clear (omega arith)
-      (side_back Any (λ first w. AdmitsEmpty (kernel dot w)) is_empty tells_empty (outlines_of s items)
+      (side_back Any (λ first w. AdmitsEmpty (kernel dot w)) is_side_empty tells_empty (outlines_of s items)
       (consequents_of s (assertions_of items)) ys all (all_any ys) at l.stands)
       (λ other r h. l.lowest (byte_of other)
-      (side_there Any (λ first w. AdmitsEmpty (kernel dot w)) is_empty tells_empty (outlines_of s items)
+      (side_there Any (λ first w. AdmitsEmpty (kernel dot w)) is_side_empty tells_empty (outlines_of s items)
       (consequents_of s (assertions_of items)) ys all (all_any ys) (byte_of other) (of_rank s items 9 other r h)))
 
 rank_most : (fault : TypeFault) → rank fault ≤ 9

@@ -5,7 +5,7 @@ use Rattle.std.specs.Result.{IsErrAnd}
 use Rattle.std.proofs.lemmas.Option.{none-some}
 use Rattle.std.proofs.lemmas.Bool.{cases_eq, cases_lt}
 use Rattle.parser_grammar.specs.Trees.{ItemForm}
-use Rattle.types_sequences.specs.Drafts.{IsIn}
+use Rattle.types_sequences.specs.Drafts.{IsNumberIn}
 use Rattle.types_names.specs.declared.own.Sought.{Sought}
 use Rattle.types_names.specs.declared.own.Sought.TheVariants.{Unknown, Wide, OutOfRange}
 use Rattle.types_names.specs.Scopes.{Scope}
@@ -22,14 +22,14 @@ least_of_more : (x : ℕ) (o : Option ℕ) → earlier (Some x) o ≡ None → �
 least_of_more x None e = none-some x (sym e)
 least_of_more x (Some y) e = none-some (min x y) (sym e)
 
-pub nowhere : (xs : List ℕ) → least xs ≡ None → (at : ℕ) → IsIn at xs → ⊥
+pub nowhere : (xs : List ℕ) → least xs ≡ None → (at : ℕ) → IsNumberIn at xs → ⊥
 nowhere [] e at i = elim i [ ]
 nowhere (x ∷ xs) e at i = least_of_more x (least xs) e
 
 -- a least place stands in the list, and none is below it
 pub record IsLeast (xs : List ℕ) (at : ℕ) : Type 0 where
-  pub stands : IsIn at xs
-  pub lowest : (other : ℕ) → IsIn other xs → at ≤ other
+  pub stands : IsNumberIn at xs
+  pub lowest : (other : ℕ) → IsNumberIn other xs → at ≤ other
 
 least_with : (x at : ℕ) (xs : List ℕ) (o : Option ℕ) → o ≡ least xs → ((b : ℕ) → o ≡ Some b → IsLeast xs b)
     → earlier (Some x) o ≡ Some at → IsLeast (x ∷ xs) at
@@ -49,7 +49,8 @@ least_with x at xs (Some y) is below e =
     record {
       stands =
           elim (cases_lt y x) [
-            | inl lt ↦ inr (subst (λ (z : ℕ). IsIn z xs) (let h : y ≡ at = omega (arith, same, lt) in h) rest.stands)
+            | inl lt ↦ inr
+                (subst (λ (z : ℕ). IsNumberIn z xs) (let h : y ≡ at = omega (arith, same, lt) in h) rest.stands)
             | inr ge ↦ inl (omega (arith, same, ge))
           ];
       lowest = λ other i.
@@ -129,7 +130,7 @@ first_at s items n fault clear r h low =
 -- and where it has one the fault there is the first.
 abbrev pub IsListed : Scope → List ItemForm → ℕ → List ℕ → Type 0
 IsListed s items n places =
-    (fault : TypeFault) → rank fault ≡ n → FaultStands s items fault → IsIn (byte_of fault) places
+    (fault : TypeFault) → rank fault ≡ n → FaultStands s items fault → IsNumberIn (byte_of fault) places
 
 clear_by : (s : Scope) (items : List ItemForm) (n : ℕ) (places : List ℕ)
     → IsListed s items (n + 1) places → ClearTo s items n → least places ≡ None
@@ -140,7 +141,7 @@ clear_by s items n places listed clear e =
 
 first_by : (s : Scope) (items : List ItemForm) (n : ℕ) (places : List ℕ) (fault : TypeFault)
     → IsListed s items (n + 1) places → rank fault ≡ n + 1
-    → (IsIn (byte_of fault) places → FaultStands s items fault) → ClearTo s items n
+    → (IsNumberIn (byte_of fault) places → FaultStands s items fault) → ClearTo s items n
     → least places ≡ Some (byte_of fault) → IsFirst s items fault
 first_by s items n places fault listed r stands clear e =
     let l = least_stands places (byte_of fault) e in
@@ -201,7 +202,7 @@ pub ruleset for_stages =
     (clear_start, clear_1, clear_2, clear_3, clear_4, clear_5, first_1, first_2, first_3, first_4, first_5)
 
 -- Behind the first five kinds, the expressions of a text have no fault.
-nothing_in : (xs : List ℕ) → ((at : ℕ) → IsIn at xs → ⊥) → xs ≡ []
+nothing_in : (xs : List ℕ) → ((at : ℕ) → IsNumberIn at xs → ⊥) → xs ≡ []
 nothing_in [] none = refl
 nothing_in (x ∷ xs) none = absurd (none x (inl refl))
 

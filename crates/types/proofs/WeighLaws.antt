@@ -11,7 +11,7 @@ use Rattle.assertions.specs.declared.sequence.Boolean.TheVariants.{One}
 use Rattle.assertions.specs.Written.{weight}
 use Rattle.assertions.specs.Written as written
 use Rattle.types_sequences.specs.declared.entry.Entry.{Entry}
-use Rattle.types_sequences.specs.Drafts.{Draft, Spells}
+use Rattle.types_sequences.specs.Drafts.{Draft, IsWrittenOut}
 use Rattle.types_sequences.specs.Outlines.{map_written}
 use Rattle.types_sequences.specs.Entries.{HasEntry}
 use Rattle.types_sequences.proofs.MapLaws.{spells_map, weight_map, empty_map, ticks_map, ordered_map, spells_one}
@@ -26,7 +26,7 @@ use Rattle.types_suites.specs.Faults.{outline_before, antecedents_in, consequent
 use Rattle.types.specs.Sides.{IsWeighed, AreWeighed, AreLight}
 use Rattle.types_suites.specs.Drafted.{antecedent_byte, consequent_byte}
 use Rattle.types.specs.Sides.{side_of, side_at, consequent_side, sides_in, consequents_in, entry_ticks, sequence_ticks}
-use Rattle.types.specs.Sides.{AreKnown}
+use Rattle.types.specs.Sides.{AreKnownEntries}
 use Rattle.std.specs.Prelude.{Box, nat_lt, Bool, true, false, if◌then◌else◌}
 use Rattle.std.specs.declared.alloc.Global.{Global}
 use Rattle.std.proofs.lemmas.Bool.{cases_Bool, ltb-true, false≢true}
@@ -37,7 +37,7 @@ use Rattle.assertions.specs.Written.{Written, kernel, IsOrdered}
 use Rattle.assertions.specs.Shapes.{written_form}
 use Rattle.assertions.specs.Emptiness.{takes_ticks}
 use Rattle.assertions.proofs.EmptinessLaws.{degenerate-none, none-degenerate}
-use Rattle.types_sequences.specs.Entries.{IsEntry, HasSame, SaysSame}
+use Rattle.types_sequences.specs.Entries.{IsTheEntryOf, HasSame, SaysSame}
 use Rattle.types_suites.specs.Resolved.{AreResolved}
 use Rattle.types_suites.specs.Made.{AreFitting}
 use Rattle.types_suites.proofs.OutlineLaws.{dotted, reads_outline}
@@ -70,7 +70,7 @@ same_ticks w u o h = by_both (cases_Bool (takes_ticks u)) (cases_Bool (takes_tic
     by_both (inr e) f = e ∙ sym (over e)
 
 -- What is told of an entry's sequence is so of what is meant.
-entry_says : (e : Entry) (w : Written Boolean) → IsEntry w e → e.facts.weight ≤ 127 → entry_ticks e ≡ takes_ticks w
+entry_says : (e : Entry) (w : Written Boolean) → IsTheEntryOf w e → e.facts.weight ≤ 127 → entry_ticks e ≡ takes_ticks w
 entry_says e w h low = elim (cases_Bool (nat_lt 127 e.facts.weight)) [
   | inl over ↦ absurd (let l = ltb-true 127 e.facts.weight over in omega (arith, l, low))
   | inr under ↦ rw under (told e.sequence (h.same (omega (arith, h.facts.weighs, low))))
@@ -83,7 +83,7 @@ entry_says e w h low = elim (cases_Bool (nat_lt 127 e.facts.weight)) [
 -- All entries of the assertions are those of what their sides say.
 pub sides_known : (s : Scope) (cs : List (List ℕ)) (e : List Expr) (bodies : List (Draft Boolean))
     (us : List trees.AssertionForm) (ms : List Resolved) (before : ℕ)
-    → AreResolved s cs e bodies before us ms → AreKnown ms
+    → AreResolved s cs e bodies before us ms → AreKnownEntries ms
 sides_known s cs e bodies [] [] before h = tt
 sides_known s cs e bodies [] (m ∷ ms) before h = elim h [ ]
 sides_known s cs e bodies (a ∷ us) [] before h = elim h [ ]
@@ -106,8 +106,8 @@ weighed bodies o d e x first at same h out led is =
     record {
       meant = map_written f h.meant;
       spells =
-          subst (λ (bs : List (Draft Dot)). Spells bs x.outline (map_written f h.meant)) same
-          (subst (λ (z : Draft Dot). Spells (map dotted bodies) z (map_written f h.meant)) out
+          subst (λ (bs : List (Draft Dot)). IsWrittenOut bs x.outline (map_written f h.meant)) same
+          (subst (λ (z : Draft Dot). IsWrittenOut (map dotted bodies) z (map_written f h.meant)) out
           (spells_map f bodies d h.meant h.spells));
       ordered = ordered_map f h.meant h.entry.ordered;
       weighs = k.weighs ∙ ap (λ (w : ℕ). min w 128) (sym (weight_map f h.meant));
@@ -181,8 +181,8 @@ module _ (s : Scope) (cs : List (List ℕ)) (e : List Expr) (bodies : List (Draf
       → ReadsAntecedent s cs e p d → HasEntry bodies d n → at ≡ antecedent_byte p →
       AreLight (side_at n f at ++ rest) → n.facts.weight ≤ 127
   antecedent_light (plain q) d n f at rest h i is l =
-      let one : Spells bodies d (written.boolean One) =
-      subst (λ (z : Draft Boolean). Spells bodies z (written.boolean One)) (sym h) (0, refl) in
+      let one : IsWrittenOut bodies d (written.boolean One) =
+      subst (λ (z : Draft Boolean). IsWrittenOut bodies z (written.boolean One)) (sym h) (0, refl) in
       let w = ap weight (spells_one bodies d i.meant (written.boolean One) i.spells one) in
       omega (arith, i.entry.facts.weighs, w)
   antecedent_light (implication word a t c) d n f at rest h i is l =

@@ -9,8 +9,8 @@ use Rattle.assertions.specs.Written.{Written, weight, IsOrdered}
 use Rattle.assertions.specs.Shapes.{written_form}
 use Rattle.assertions.specs.Emptiness.{admits_empty, takes_ticks}
 use Rattle.types_sequences.specs.declared.entry.Entry.{Entry}
-use Rattle.types_sequences.specs.Entries.{IsEntry}
-use Rattle.types_sequences.specs.Drafts.{Draft, Spells}
+use Rattle.types_sequences.specs.Entries.{IsTheEntryOf}
+use Rattle.types_sequences.specs.Drafts.{Draft, IsWrittenOut}
 use Rattle.types.specs.declared.side.Side.{Side}
 use Rattle.types_suites.specs.declared.resolved.Resolved.{Resolved}
 use Rattle.types_suites.specs.Readings.{Dot}
@@ -20,7 +20,7 @@ use Rattle.types_suites.specs.Faults as faults
 -- and what its form tells.
 pub record IsWeighed (bodies : List (Draft Dot)) (side : faults.Side) (seen : Side) : Type 0 where
   pub meant : Written Dot
-  pub spells : Spells bodies side.outline meant
+  pub spells : IsWrittenOut bodies side.outline meant
   pub ordered : IsOrdered meant
   pub weighs : seen.facts.weight ≡ min (weight meant) 128
   pub empty : seen.facts.empty ≡ admits_empty meant
@@ -50,20 +50,20 @@ is_wide y = nat_lt 127 y.facts.weight
 abbrev pub is_degenerate : Side → Bool
 is_degenerate y = not y.ticks || (y.first && y.facts.empty)
 
-abbrev pub is_empty : Side → Bool
-is_empty y = y.facts.empty
+abbrev pub is_side_empty : Side → Bool
+is_side_empty y = y.facts.empty
 
 -- It is the entry of something; those of both sides are.
-pub record IsKnown (e : Entry) : Type 0 where
+pub record IsKnownEntry (e : Entry) : Type 0 where
   pub meant : Written Boolean
-  pub entry : IsEntry meant e
+  pub entry : IsTheEntryOf meant e
 
 pub record SidesKnown (m : Resolved) : Type 0 where
-  pub antecedent : IsKnown m.antecedent
-  pub consequent : IsKnown m.consequent
+  pub antecedent : IsKnownEntry m.antecedent
+  pub consequent : IsKnownEntry m.consequent
 
-abbrev pub AreKnown : List Resolved → Type 0
-AreKnown = AllByRecursion SidesKnown
+abbrev pub AreKnownEntries : List Resolved → Type 0
+AreKnownEntries = AllByRecursion SidesKnown
 
 -- whether its sequence matches a tick or more, which is told of what weighs at most 127
 abbrev pub sequence_ticks : Option (Box Sequence Global) → Bool

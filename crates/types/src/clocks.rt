@@ -1,12 +1,12 @@
 //! Clocks.
 
 ghost use Rattle.std.specs.Prelude.{◌≡◌, map, IfOk, string_bytes};
-ghost use Rattle.parser_trees.specs.Views.{path_of, item_of};
+ghost use Rattle.parser_grammar.specs.Views.{path_of, item_of};
 ghost use Rattle.types_names.specs.Faults.{least};
 ghost use Rattle.types_names.specs.Scopes.{first_byte};
-ghost use Rattle.types_suites.specs.Texts.{assertions_of, clocks_unlike, clock_of};
+ghost use Rattle.types_suites.specs.Texts.{assertions_of, clocks_unlike, suite_clock};
 
-use parser_trees::{ItemTree, Path};
+use parser_grammar::{ItemTree, Path};
 use std::alloc::{AllocError, Global};
 use types_faults::earlier;
 use types_names::path_string;
@@ -14,7 +14,7 @@ use types_names::path_string;
 /// The path of the first assertion's clock, and no text where there is no assertion.
 pub(crate) fn first_clock(alloc: Global, items: &[ItemTree]) -> Result<String, AllocError>
     ensures { IfOk result
-        (λ clock. string_bytes clock ≡ clock_of (assertions_of (map item_of items.now))) }
+        (λ clock. string_bytes clock ≡ suite_clock (assertions_of (map item_of items.now))) }
 {
     for item in items {
         match item {

@@ -2,12 +2,12 @@
 
 ghost use Rattle.std.specs.Prelude.{◌≡◌, ◌<◌, ◌++◌, ◌+◌, map, IfOk, OnOk, string_bytes, option_map};
 ghost use Rattle.std.specs.Prelude.{codes};
-ghost use Rattle.parser_trees.specs.Views.{assertion_of, item_of};
+ghost use Rattle.parser_grammar.specs.Views.{assertion_of, item_of};
 ghost use Rattle.types_names.specs.Faults.{least};
 ghost use Rattle.types_suites.specs.Texts.{label_byte, name_made, assertions_after, duplicates};
 
 use indexmap::IndexSet;
-use parser_trees::{AssertionTree, ItemTree};
+use parser_grammar::{AssertionTree, ItemTree};
 use std::alloc::{AllocError, Global};
 use types_faults::earlier;
 use types_suites::label_string;

@@ -2,7 +2,7 @@
 
 ghost use Rattle.std.specs.Prelude.{◌≡◌};
 ghost use Rattle.types_names.specs.Faults.{least};
-ghost use Rattle.types.specs.Sides.{places_where, is_wide, is_degenerate, is_empty};
+ghost use Rattle.types.specs.Sides.{places_where, is_wide, is_degenerate, is_side_empty};
 
 use assertions::HEAVIEST;
 use types_faults::earlier;
@@ -47,7 +47,7 @@ pub(crate) fn first_degenerate(sides: &[Side]) -> Option<usize>
 
 /// The first side that matches an empty segment.
 pub(crate) fn first_empty(sides: &[Side]) -> Option<usize>
-    ensures { result ≡ least (places_where is_empty sides.now) }
+    ensures { result ≡ least (places_where is_side_empty sides.now) }
 {
     let mut fault = None;
     for side in sides {

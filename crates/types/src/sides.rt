@@ -2,7 +2,7 @@
 
 ghost use Rattle.std.specs.Prelude.{◌≡◌, ◌++◌, IfOk, OnOk};
 ghost use Rattle.types.specs.Sides.{side_of, side_at, sides_in, consequents_in, entry_ticks};
-ghost use Rattle.types.specs.Sides.{IsKnown, AreKnown};
+ghost use Rattle.types.specs.Sides.{IsKnownEntry, AreKnownEntries};
 
 use crate::side::Side;
 use assertions::HEAVIEST;
@@ -13,7 +13,7 @@ use types_suites::Resolved;
 
 /// Whether what an entry is of matches a tick or more, if it weighs at most 127.
 fn entry_ticks(alloc: Global, entry: &Entry) -> Result<bool, AllocError>
-    requires { IsKnown entry.now }
+    requires { IsKnownEntry entry.now }
     ensures { IfOk result (λ ticks. ticks ≡ entry_ticks entry.now) }
 {
     if usize::from(entry.facts.weight) > HEAVIEST {
@@ -27,7 +27,7 @@ fn entry_ticks(alloc: Global, entry: &Entry) -> Result<bool, AllocError>
 
 /// What is known of a side by its entry.
 fn side_of(alloc: Global, entry: &Entry, first: bool, at: usize) -> Result<Side, AllocError>
-    requires { IsKnown entry.now }
+    requires { IsKnownEntry entry.now }
     ensures { IfOk result (λ side. side ≡ side_of entry.now first at) }
 {
     let ticks = entry_ticks(alloc, entry)?;
@@ -47,7 +47,7 @@ fn push_antecedent(
     first: bool,
     at: Option<usize>,
 ) -> Result<(), AllocError>
-    requires { IsKnown entry.now }
+    requires { IsKnownEntry entry.now }
     ensures { OnOk result (sides.new.items ≡ sides.old.items ++ side_at entry.now first at) }
 {
     match at {
@@ -65,7 +65,7 @@ pub(crate) struct Sides {
 
 /// The sides of assertions.
 pub(crate) fn written_sides(alloc: Global, assertions: &[Resolved]) -> Result<Sides, AllocError>
-    requires { AreKnown assertions.now }
+    requires { AreKnownEntries assertions.now }
     ensures all { IfOk result (λ v. v.all.items ≡ sides_in assertions.now) }
     ensures consequents { IfOk result (λ v. v.consequents.items ≡ consequents_in assertions.now) }
 {

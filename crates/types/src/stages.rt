@@ -1,23 +1,23 @@
 //! Faults in their order.
 
 ghost use Rattle.std.specs.Prelude.{◌≡◌, ◌<◌, ℕ, true, false, map, length, IfOk, IfErr};
-ghost use Rattle.parser_trees.specs.Views.{item_of};
+ghost use Rattle.parser_grammar.specs.Views.{item_of};
 ghost use Rattle.types_names.specs.Views.{scope_of};
-ghost use Rattle.types_suites.specs.Texts.{assertions_of, clock_of};
+ghost use Rattle.types_suites.specs.Texts.{assertions_of, suite_clock};
 ghost use Rattle.types_suites.specs.Readings.{Where, outlines_of};
 ghost use Rattle.types_suites.specs.Faults.{Text, sides_of, consequents_of, ClearTo, IsFaultless};
 ghost use Rattle.types_suites.specs.Faults.{IsTypeFault};
 ghost use Rattle.types.specs.Cycles.{AreOutlined};
 ghost use Rattle.types.specs.Sides.{AreWeighed, AreLight};
 ghost use Rattle.types_sequences.specs.Cycles.{ReachesCycle};
-ghost use Rattle.types_sequences.specs.Entries.{IsTable, has_entry};
+ghost use Rattle.types_sequences.specs.Entries.{IsEntryTable, has_entry};
 ghost use Rattle.types_sequences.specs.Views.{draft_of};
 
 use crate::clocks::first_other_clock;
 use crate::cycles::{first_cycle, has_all};
 use crate::names::first_duplicate;
 use crate::side::{Side, first_degenerate, first_empty, first_wide};
-use parser_trees::ItemTree;
+use parser_grammar::ItemTree;
 use std::alloc::Global;
 use types_faults::first_fault;
 use types_names::{Scope, Sought};
@@ -84,7 +84,7 @@ fn check_clocks(
     clock: &str,
 ) -> Result<(), TypeFault>
     requires clear { ClearTo (scope_of scope.now) (map item_of items.now) 4 }
-    requires clock { clock.now ≡ clock_of (assertions_of (map item_of items.now)) }
+    requires clock { clock.now ≡ suite_clock (assertions_of (map item_of items.now)) }
     ensures ok { IfOk result (λ _. ClearTo (scope_of scope.now) (map item_of items.now) 5) }
     ensures err { IfErr result (IsTypeFault (scope_of scope.now) (map item_of items.now)) }
 {
@@ -101,7 +101,7 @@ pub(crate) fn check_expressions(
     items: &[ItemTree],
     clock: &str,
 ) -> Result<(), TypeFault>
-    requires { clock.now ≡ clock_of (assertions_of (map item_of items.now)) }
+    requires { clock.now ≡ suite_clock (assertions_of (map item_of items.now)) }
     ensures ok { IfOk result (λ _. ClearTo (scope_of scope.now) (map item_of items.now) 5) }
     ensures err { IfErr result (IsTypeFault (scope_of scope.now) (map item_of items.now)) }
 {
@@ -122,7 +122,7 @@ pub(crate) fn check_cycles(
 ) -> Result<(), TypeFault>
     requires bytes { length bytes.now ≡ length bodies.now }
     requires long { length table.now ≡ length bodies.now }
-    requires entries { IsTable (map draft_of bodies.now) table.now }
+    requires entries { IsEntryTable (map draft_of bodies.now) table.now }
     requires cyclic { (p : ℕ) → p < length bodies.now → has_entry table.now p ≡ false
         → ReachesCycle (map draft_of bodies.now) p }
     ensures entries { IfOk result (λ _.

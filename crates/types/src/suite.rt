@@ -3,7 +3,7 @@
 ghost use Rattle.std.specs.Prelude.{◌≡◌, ◌<◌, ℕ, [], true, map, length, Some, string_bytes, IfOk};
 ghost use Rattle.std.specs.Prelude.{IfErr, OnOk, IsTrue};
 ghost use Rattle.parser_grammar.specs.Trees.{Tree};
-ghost use Rattle.parser_trees.specs.Views.{item_of, items_of};
+ghost use Rattle.parser_grammar.specs.Views.{item_of, items_of};
 ghost use Rattle.types_sequences.specs.Entries.{has_entry};
 ghost use Rattle.types_names.specs.declared.own.Sought.{Sought};
 ghost use Rattle.types_names.specs.Scopes.{sequence_named};
@@ -11,12 +11,12 @@ ghost use Rattle.types_names.specs.Asked.{scope_for};
 ghost use Rattle.types_names.specs.Columns.{all_listed, file_signals, columns_of};
 ghost use Rattle.types_names.specs.Faults.{file_faults};
 ghost use Rattle.types_names.specs.Views.{scope_of, columns_in};
-ghost use Rattle.types_sequences.specs.Placed.{Extends};
-ghost use Rattle.types_suites.specs.Texts.{declarations_of, assertions_of, clock_of};
+ghost use Rattle.types_sequences.specs.Placed.{ExtendsPlaces};
+ghost use Rattle.types_suites.specs.Texts.{declarations_of, assertions_of, suite_clock};
 ghost use Rattle.types_suites.specs.Readings.{Where, outlines_of};
 ghost use Rattle.types_suites.specs.Faults.{Text, sides_of, consequents_of, ClearTo, IsFaultless};
 ghost use Rattle.types_suites.specs.Faults.{IsTypeFault};
-ghost use Rattle.types.specs.Sides.{AreWeighed, AreLight, AreKnown};
+ghost use Rattle.types.specs.Sides.{AreWeighed, AreLight, AreKnownEntries};
 ghost use Rattle.types_suites.specs.Suites.{IsSuite};
 ghost use Rattle.types.specs.Sides.{sides_in, consequents_in};
 ghost use Rattle.types_suites.specs.Resolved.{HasBodies};
@@ -26,7 +26,7 @@ use crate::clocks::first_clock;
 use crate::sides::written_sides;
 use crate::stages::{check_cycles, check_expressions, check_sides};
 use assertions::Suite;
-use parser_trees::{File, ItemTree};
+use parser_grammar::{File, ItemTree};
 use std::alloc::Global;
 use types_faults::{columns_of, scope_for};
 use types_names::{PathWidths, Scope, SignalPaths};
@@ -52,7 +52,7 @@ fn entries_of(
     requires declared { (t : Tree) (p : ℕ) → sequence_named (scope_of scope.now) t ≡ Some p
         → p < length (declarations_of (map item_of items.now)) }
     requires clear { ClearTo (scope_of scope.now) (map item_of items.now) 5 }
-    ensures grows { OnOk result (Extends booleans.old.items booleans.new.items) }
+    ensures grows { OnOk result (ExtendsPlaces booleans.old.items booleans.new.items) }
     ensures long { IfOk result
         (λ table. length table.items ≡ length (declarations_of (map item_of items.now))) }
     ensures entries { IfOk result (λ table.
@@ -71,7 +71,7 @@ fn entries_of(
 
 /// Looks for faults of the sides of these assertions, Y9, Y5 and Y6, in this order.
 fn check_resolved(alloc: Global, resolved: &[Resolved]) -> Result<(), TypeFault>
-    requires { AreKnown resolved.now }
+    requires { AreKnownEntries resolved.now }
     ensures light { IfOk result (λ _. AreLight (sides_in resolved.now)) }
     ensures ok { (s : Where) (items : Text) → ClearTo s items 6
         → AreWeighed (outlines_of s items) (sides_of s (assertions_of items))
@@ -126,7 +126,7 @@ fn suite_of(
 ) -> Result<Suite, TypeFault>
     requires columns { columns_in columns.now
         ≡ columns_of (scope_of scope.now) (map item_of items.now) }
-    requires clock { string_bytes clock ≡ clock_of (assertions_of (map item_of items.now)) }
+    requires clock { string_bytes clock ≡ suite_clock (assertions_of (map item_of items.now)) }
     requires declared { (t : Tree) (p : ℕ) → sequence_named (scope_of scope.now) t ≡ Some p
         → p < length (declarations_of (map item_of items.now)) }
     requires clear { ClearTo (scope_of scope.now) (map item_of items.now) 5 }

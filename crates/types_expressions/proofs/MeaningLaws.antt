@@ -20,7 +20,8 @@ use Rattle.types_names.specs.Scopes.{Scope, path_text, meaning, bits_of}
 use Rattle.types_names.specs.Width.{binary_of, unary_of, call_of, binary_width, unary_width, path_width_by}
 use Rattle.types_names.specs.Width.{high_of, low_of, own_width, chain_width, parts_width}
 use Rattle.types_names.specs.Columns.{column_of}
-use Rattle.types_expressions.specs.Meanings.{binary_term, unary_term, call_term, IsNameOf, IsRead, Means, Chains, Joins}
+use Rattle.types_expressions.specs.Meanings.{binary_term, unary_term, call_term, IsNameOf, IsReference, Means, Chains}
+use Rattle.types_expressions.specs.Meanings.{Joins}
 use Rattle.types_expressions.specs.Meanings.{JoinsMore}
 
 name-width : (means : Option Meaning) (column : Option ℕ) (n : Name) → IsNameOf means column n
@@ -30,7 +31,7 @@ name-width (Some (Signal width)) column n h = h.width_is
 name-width (Some (Declared (Counter place width))) column n h = h.width_is
 name-width (Some (Declared (Sequence place))) column n h = elim h [ ]
 
-read-width : (means : Option Meaning) (column : Option ℕ) (x : Option Select) (e : Term) → IsRead means column x e
+read-width : (means : Option Meaning) (column : Option ℕ) (x : Option Select) (e : Term) → IsReference means column x e
     → width_of e ≡ path_width_by (bits_of means) x
 read-width means column None e h = ap width_of h.is ∙ name-width means column h.name h.names
 read-width means column (Some x) e h =

@@ -26,7 +26,7 @@ use Rattle.types_names.specs.declared.operator.Call.TheVariants as calls
 use Rattle.types_names.specs.Scopes.{Scope, path_text, meaning}
 use Rattle.types_names.specs.Width.{binary_of, unary_of, call_of, ticks_of}
 use Rattle.types_names.specs.Columns.{column_of}
-use Rattle.types_expressions.specs.Meanings.{binary_term, unary_term, call_term, IsName, IsNameOf, IsRead, Means}
+use Rattle.types_expressions.specs.Meanings.{binary_term, unary_term, call_term, IsName, IsNameOf, IsReference, Means}
 use Rattle.types_expressions.specs.Meanings.{Chains, Joins, JoinsMore}
 
 -- two terms of one width and one value
@@ -152,7 +152,7 @@ module _ (x : Samples) where
   one-name (Some (Declared (Sequence place))) column m n h l = elim h [ ]
 
   same-read : (means : Option Meaning) (column : Option ℕ) (sel : Option Select) (e f : Term)
-      → IsRead means column sel e → IsRead means column sel f → AreSame x e f
+      → IsReference means column sel e → IsReference means column sel f → AreSame x e f
   same-read means column None e f h l =
       let o = one-name means column h.name l.name h.names l.names in
       same-by e f (terms.named h.name) (terms.named l.name) h.is l.is

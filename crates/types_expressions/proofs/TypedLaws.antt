@@ -14,8 +14,8 @@ use Rattle.parser_grammar.specs.Trees.{Tree, number, path, concatenation, past, 
 use Rattle.parser_grammar.specs.Trees.{link}
 use Rattle.parser_grammar.specs.Trees.{Parts, no_part, part}
 use Rattle.parser_grammar.specs.ReadExpressions.{parts_of}
-use Rattle.parser_trees.specs.declared.expression.ExprTree.{ExprTree}
-use Rattle.parser_trees.specs.Views.{tree_of}
+use Rattle.parser_grammar.specs.declared.expression.ExprTree.{ExprTree}
+use Rattle.parser_grammar.specs.Views.{tree_of}
 use Rattle.signals.specs.declared.bits.Bits.{Bits}
 use Rattle.expressions.specs.Terms as terms
 use Rattle.expressions.specs.Terms.{Term, width_of}
@@ -33,7 +33,8 @@ use Rattle.types_names.specs.Faults.{unless, has_bits, path_faults, wide_faults,
 use Rattle.types_names.specs.Faults.{IsSound}
 use Rattle.types_names.specs.Columns.{signals, link_signals, part_signals, path_signals, all_listed, column_of}
 use Rattle.types_names.specs.Columns.{HasColumns}
-use Rattle.types_expressions.specs.Meanings.{binary_term, unary_term, call_term, IsNameOf, IsRead, Means, Chains, Joins}
+use Rattle.types_expressions.specs.Meanings.{binary_term, unary_term, call_term, IsNameOf, IsReference, Means, Chains}
+use Rattle.types_expressions.specs.Meanings.{Joins}
 use Rattle.types_expressions.specs.Meanings.{JoinsMore}
 use Rattle.types_names.proofs.FaultLaws.{no_faults-parts}
 use Rattle.types_names.proofs.ColumnLaws.{listed-parts}
@@ -199,7 +200,7 @@ module _ (s : Scope) (cs : List (List ℕ)) where
       subst (λ (y : Tree). Means s cs y e) (sym is) (record { bits = bits; width = width; value = value; is = made })
 
   pub means-path : (x : Tree) (words : List Token) (sel : Option Select) (e : Term) → x ≡ path words sel
-      → IsRead (meaning s words) (column_of cs (path_text words)) sel e → Means s cs x e
+      → IsReference (meaning s words) (column_of cs (path_text words)) sel e → Means s cs x e
   unfolding Means
   means-path x words sel e is h = subst (λ (y : Tree). Means s cs y e) (sym is) h
 
@@ -291,15 +292,15 @@ has-bits means column n at sel x is names h =
     by (Some (Declared (Sequence place))) k e = elim k [ ]
 
 pub read-whole : (means : Option Meaning) (column : Option ℕ) (sel : Option Select) (n : Name) (e : Term) → sel ≡ None
-    → IsNameOf means column n → e ≡ terms.named n → IsRead means column sel e
+    → IsNameOf means column n → e ≡ terms.named n → IsReference means column sel e
 read-whole means column sel n e is names made =
-    subst (λ (y : Option Select). IsRead means column y e) (sym is) (record { name = n; names = names; is = made })
+    subst (λ (y : Option Select). IsReference means column y e) (sym is) (record { name = n; names = names; is = made })
 
 pub read-part : (means : Option Meaning) (column : Option ℕ) (sel : Option Select) (x : Select) (n : Name) (p : Slice)
     (e : Term) → sel ≡ Some x → IsNameOf means column n →
-    p.name ≡ n → p.high ≡ high_of x → p.low ≡ low_of x → e ≡ terms.slice p → IsRead means column sel e
+    p.name ≡ n → p.high ≡ high_of x → p.low ≡ low_of x → e ≡ terms.slice p → IsReference means column sel e
 read-part means column sel x n p e is names same high low made =
-    subst (λ (y : Option Select). IsRead means column y e) (sym is)
+    subst (λ (y : Option Select). IsReference means column y e) (sym is)
     (record {
       part = p;
       names = subst (λ (m : Name). IsNameOf means column m) (sym same) names;

@@ -44,7 +44,7 @@ call_term (calls.Change op) a = terms.change op a
 call_term (calls.Reduce op) a = terms.reduce op a
 
 -- the constant of a number's width and value
-pub record IsNumber (n : Number) (e : Term) : Type 0 where
+pub record IsConstantOf (n : Number) (e : Term) : Type 0 where
   pub bits : Bits
   pub width : bits.width ≡ literal_width n
   pub value : bits.value ≡ literal_value n
@@ -65,13 +65,13 @@ IsNameOf (Some (Declared (Counter place width))) column name =
 IsNameOf (Some (Declared (Sequence place))) column name = ⊥
 
 -- a whole name
-pub record IsWhole (means : Option Meaning) (column : Option ℕ) (e : Term) : Type 0 where
+pub record IsWholeName (means : Option Meaning) (column : Option ℕ) (e : Term) : Type 0 where
   pub name : Name
   pub names : IsNameOf means column name
   pub is : e ≡ terms.named name
 
 -- some bits of a name
-pub record IsPart (means : Option Meaning) (column : Option ℕ) (x : Select)
+pub record IsPartOfName (means : Option Meaning) (column : Option ℕ) (x : Select)
     (e : Term) : Type 0 where
   pub part : Slice
   pub names : IsNameOf means column part.name
@@ -79,17 +79,17 @@ pub record IsPart (means : Option Meaning) (column : Option ℕ) (x : Select)
   pub low : part.low ≡ low_of x
   pub is : e ≡ terms.slice part
 
-abbrev pub IsRead : Option Meaning → Option ℕ → Option Select → Term → Type 0
-IsRead means column None e = IsWhole means column e
-IsRead means column (Some x) e = IsPart means column x e
+abbrev pub IsReference : Option Meaning → Option ℕ → Option Select → Term → Type 0
+IsReference means column None e = IsWholeName means column e
+IsReference means column (Some x) e = IsPartOfName means column x e
 
 -- What an expression means, where signals stand in the columns. Operators of a chain and parts of a
 -- concatenation group to the left.
 unfoldable mutual
   pub Means : Scope → List (List ℕ) → Tree → Term → Type 0
-  Means s columns (number n t) e = IsNumber n e
+  Means s columns (number n t) e = IsConstantOf n e
   Means s columns (path words x) e =
-      IsRead (meaning s words) (column_of columns (path_text words)) x e
+      IsReference (meaning s words) (column_of columns (path_text words)) x e
   Means s columns (concatenation t d parts) e =
       (a : Term) × Means s columns d a × Joins s columns a parts e
   Means s columns (past t d n) e =

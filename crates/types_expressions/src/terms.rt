@@ -2,7 +2,7 @@
 
 ghost use Rattle.std.specs.Prelude.{◌≡◌, ◌≤◌, [], map, IfOk, IsTrue, is_some};
 ghost use Rattle.parser_grammar.specs.ReadExpressions.{links_of, parts_of};
-ghost use Rattle.parser_trees.specs.Views.{path_of, tree_of, link_of};
+ghost use Rattle.parser_grammar.specs.Views.{path_of, tree_of, link_of};
 ghost use Rattle.expressions.specs.declared.name.Origin.TheVariants.{Signal};
 ghost use Rattle.expressions.specs.Terms.{width_of, choose};
 ghost use Rattle.expressions.specs.Expressions.{term_of};
@@ -14,13 +14,13 @@ ghost use Rattle.types_names.specs.Faults.{IsSound, has_bits, path_faults, link_
 ghost use Rattle.types_names.specs.Faults.{part_faults};
 ghost use Rattle.types_names.specs.Columns.{HasColumns, column_of, is_listed, all_listed};
 ghost use Rattle.types_names.specs.Columns.{path_signals, link_signals, part_signals};
-ghost use Rattle.types_expressions.specs.Meanings.{IsName, IsNameOf, IsRead, Means, Chains, Joins};
+ghost use Rattle.types_expressions.specs.Meanings.{IsName, IsNameOf, IsReference, Means, Chains};
+ghost use Rattle.types_expressions.specs.Meanings.{Joins};
 ghost use Rattle.types_expressions.specs.Meanings.{binary_term, unary_term, call_term};
 ghost use Rattle.types_names.specs.Views.{scope_of, columns_in};
 
 use expressions::{Name, Origin, Slice};
-use parser_grammar::{Bound, Infix, Select};
-use parser_trees::{ExprTree, Path};
+use parser_grammar::{Bound, ExprTree, Infix, Path, Select};
 use std::alloc::{AllocError, Global};
 use types_names::{
     Binary, Call, Meaning, Own, Scope, SignalPaths, Unary, binary_of, call_of, low_of, number_bits,
@@ -188,7 +188,7 @@ fn typed_path(
     requires listed { IsTrue (all_listed (columns_in columns.now)
         (path_signals (path_text (path_of path.now))
         (meaning (scope_of scope.now) (path_of path.now)))) }
-    ensures { IfOk result (λ e. IsRead (meaning (scope_of scope.now) (path_of path.now))
+    ensures { IfOk result (λ e. IsReference (meaning (scope_of scope.now) (path_of path.now))
         (column_of (columns_in columns.now) (path_text (path_of path.now))) select (term_of e)) }
 {
     let name = path_name(alloc, scope, columns, path)?;

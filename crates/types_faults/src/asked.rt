@@ -1,13 +1,13 @@
 //! What a text asks of the paths that there are.
 
 ghost use Rattle.std.specs.Prelude.{◌≡◌, map, IfOk};
-ghost use Rattle.parser_trees.specs.Views.{item_of};
+ghost use Rattle.parser_grammar.specs.Views.{item_of};
 ghost use Rattle.types_names.specs.Scopes.{look_up};
 ghost use Rattle.types_names.specs.Asked.{widths_among, scope_for};
 ghost use Rattle.types_names.specs.Views.{names_in, scope_of, columns_in};
 
 use crate::columns::columns_of;
-use parser_trees::ItemTree;
+use parser_grammar::ItemTree;
 use std::alloc::{AllocError, Global};
 use types_names::{Names, PathWidths, Scope, SignalPaths};
 

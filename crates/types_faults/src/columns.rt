@@ -1,12 +1,12 @@
 //! The signals that a text reads.
 
 ghost use Rattle.std.specs.Prelude.{◌≡◌, map, IfOk};
-ghost use Rattle.parser_trees.specs.Views.{item_of};
+ghost use Rattle.parser_grammar.specs.Views.{item_of};
 ghost use Rattle.types_names.specs.Columns.{columns_of};
 ghost use Rattle.types_names.specs.Views.{scope_of, columns_in};
 
 use crate::listing::list_item;
-use parser_trees::ItemTree;
+use parser_grammar::ItemTree;
 use std::alloc::{AllocError, Global};
 use types_names::{Scope, SignalPaths};
 

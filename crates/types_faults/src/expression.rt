@@ -2,7 +2,7 @@
 
 ghost use Rattle.std.specs.Prelude.{◌≡◌, ◌≤◌, ◌∷◌, map, min, IfOk, ℕ, Option};
 ghost use Rattle.parser_grammar.specs.ReadExpressions.{links_of, parts_of};
-ghost use Rattle.parser_trees.specs.Views.{path_of, tree_of, link_of};
+ghost use Rattle.parser_grammar.specs.Views.{path_of, tree_of, link_of};
 ghost use Rattle.types_names.specs.Scopes.{bits_of, meaning};
 ghost use Rattle.types_names.specs.Width.{binary_width, unary_width, path_width_by};
 ghost use Rattle.types_names.specs.Width.{path_width, own_width, chain_width, parts_width};
@@ -12,8 +12,7 @@ ghost use Rattle.types_names.specs.Faults.{link_faults, part_faults, earlier, le
 ghost use Rattle.types_names.specs.Views.{scope_of};
 
 use crate::least::earlier;
-use parser_grammar::{Infix, Select};
-use parser_trees::{ExprTree, Path};
+use parser_grammar::{ExprTree, Infix, Path, Select};
 use std::alloc::{AllocError, Global};
 use types_names::{
     Binary, Scope, Sought, Unary, binary_of, bits_of, low_of, number_bits, unary_of,

@@ -1,8 +1,8 @@
 //! Faults of items.
 
 ghost use Rattle.std.specs.Prelude.{◌≡◌, map, IfOk, option_map};
-ghost use Rattle.parser_trees.specs.Views.{tree_of, boxed_of};
-ghost use Rattle.parser_trees.specs.Views.{pair_of, counter_of, assertion_of, item_of};
+ghost use Rattle.parser_grammar.specs.Views.{tree_of, boxed_of};
+ghost use Rattle.parser_grammar.specs.Views.{pair_of, counter_of, assertion_of, item_of};
 ghost use Rattle.types_names.specs.Faults.{optional_faults, clause_faults, counter_faults};
 ghost use Rattle.types_names.specs.Faults.{assertion_faults, item_faults, file_faults};
 ghost use Rattle.types_names.specs.Faults.{earlier, least};
@@ -11,7 +11,7 @@ ghost use Rattle.types_names.specs.Views.{scope_of};
 use crate::expression::see;
 use crate::least::earlier;
 use crate::sequence::{property_fault, sequence_fault};
-use parser_trees::{AssertionTree, CounterTree, ExprTree, ItemTree, Operands};
+use parser_grammar::{AssertionTree, CounterTree, ExprTree, ItemTree, Operands};
 use std::alloc::{AllocError, Global};
 use types_names::{Scope, Sought};
 

@@ -3,9 +3,10 @@
 ghost use Rattle.std.specs.Prelude.{◌≡◌, map, OnOk, option_map};
 ghost use Rattle.parser_grammar.specs.ReadExpressions.{links_of, parts_of};
 ghost use Rattle.parser_grammar.specs.ReadSequences.{steps_of, others_of};
-ghost use Rattle.parser_trees.specs.Views.{path_of, tree_of, link_of, boxed_of};
-ghost use Rattle.parser_trees.specs.Views.{sequence_of, delay_step_of};
-ghost use Rattle.parser_trees.specs.Views.{property_of, pair_of, counter_of, assertion_of, item_of};
+ghost use Rattle.parser_grammar.specs.Views.{path_of, tree_of, link_of, boxed_of};
+ghost use Rattle.parser_grammar.specs.Views.{sequence_of, delay_step_of};
+ghost use Rattle.parser_grammar.specs.Views.{property_of, pair_of, counter_of, assertion_of};
+ghost use Rattle.parser_grammar.specs.Views.{item_of};
 ghost use Rattle.types_names.specs.Scopes.{path_text, meaning};
 ghost use Rattle.types_names.specs.Columns.{path_signals, with_paths, columns_with};
 ghost use Rattle.types_names.specs.Columns.{link_signals, part_signals, sequence_listed};
@@ -14,9 +15,9 @@ ghost use Rattle.types_names.specs.Columns.{optional_signals, clause_signals};
 ghost use Rattle.types_names.specs.Columns.{counter_signals, assertion_signals, item_listed};
 ghost use Rattle.types_names.specs.Views.{scope_of, columns_in};
 
-use parser_grammar::{Infix, Range};
-use parser_trees::{
-    AssertionTree, CounterTree, ExprTree, ItemTree, Operands, Path, PropertyTree, SequenceTree,
+use parser_grammar::{
+    AssertionTree, CounterTree, ExprTree, Infix, ItemTree, Operands, Path, PropertyTree, Range,
+    SequenceTree,
 };
 use std::alloc::{AllocError, Global};
 use types_names::{Meaning, Scope, SignalPaths, path_string};

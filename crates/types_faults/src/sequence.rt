@@ -2,15 +2,14 @@
 
 ghost use Rattle.std.specs.Prelude.{◌≡◌, map, IfOk};
 ghost use Rattle.parser_grammar.specs.ReadSequences.{steps_of, others_of};
-ghost use Rattle.parser_trees.specs.Views.{tree_of, sequence_of, delay_step_of, property_of};
+ghost use Rattle.parser_grammar.specs.Views.{tree_of, sequence_of, delay_step_of, property_of};
 ghost use Rattle.types_names.specs.Faults.{boolean_faults, sequence_faults, step_faults};
 ghost use Rattle.types_names.specs.Faults.{other_faults, property_faults, earlier, least};
 ghost use Rattle.types_names.specs.Views.{scope_of};
 
 use crate::expression::see;
 use crate::least::earlier;
-use parser_grammar::Range;
-use parser_trees::{ExprTree, PropertyTree, SequenceTree};
+use parser_grammar::{ExprTree, PropertyTree, Range, SequenceTree};
 use std::alloc::{AllocError, Global};
 use types_names::{Scope, Sought};
 

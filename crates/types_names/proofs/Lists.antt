@@ -9,9 +9,9 @@ use Rattle.parser_grammar.specs.Trees.{Links, end, link, Parts, no_part, part, S
 use Rattle.parser_grammar.specs.Trees.{other}
 use Rattle.parser_grammar.specs.ReadExpressions.{links_of, parts_of}
 use Rattle.parser_grammar.specs.ReadSequences.{steps_of, others_of}
-use Rattle.parser_trees.specs.declared.expression.ExprTree.{ExprTree}
-use Rattle.parser_trees.specs.declared.sequence.SequenceTree.{SequenceTree}
-use Rattle.parser_trees.specs.Views.{tree_of, link_of, sequence_of, delay_step_of}
+use Rattle.parser_grammar.specs.declared.expression.ExprTree.{ExprTree}
+use Rattle.parser_grammar.specs.declared.sequence.SequenceTree.{SequenceTree}
+use Rattle.parser_grammar.specs.Views.{tree_of, link_of, sequence_of, delay_step_of}
 
 -- the element at a place, and those behind it
 pub at : {A : Type 0} (B : Type 0) (f : A → B) (xs : List A) (i : ℕ) (x : A) → i < length xs → x ≡ get_or xs i x

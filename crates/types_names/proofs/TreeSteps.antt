@@ -12,15 +12,15 @@ use Rattle.parser_grammar.specs.declared.operator.Prefix.{Prefix}
 use Rattle.parser_grammar.specs.Trees as trees
 use Rattle.parser_grammar.specs.ReadExpressions.{links_of, parts_of}
 use Rattle.parser_grammar.specs.ReadSequences.{steps_of, others_of}
-use Rattle.parser_trees.specs.declared.expression.Path.{Path}
-use Rattle.parser_trees.specs.declared.expression.ExprTree.{ExprTree}
-use Rattle.parser_trees.specs.declared.expression.ExprTree as expr
-use Rattle.parser_trees.specs.declared.sequence.SequenceTree.{SequenceTree}
-use Rattle.parser_trees.specs.declared.sequence.SequenceTree as seq
-use Rattle.parser_trees.specs.Views.{path_of, tree_of, link_of, sequence_of, delay_step_of}
-use Rattle.parser_trees.proofs.TreeLaws.{tree-Number, tree-Path, tree-Concatenation, tree-Past, tree-Call, tree-Unary}
-use Rattle.parser_trees.proofs.TreeLaws.{tree-Chain, tree-Choice}
-use Rattle.parser_trees.proofs.TreeLaws.{seq-Boolean, seq-Repeated, seq-Late, seq-Delayed, seq-Throughout, seq-Joined}
+use Rattle.parser_grammar.specs.declared.expression.Path.{Path}
+use Rattle.parser_grammar.specs.declared.expression.ExprTree.{ExprTree}
+use Rattle.parser_grammar.specs.declared.expression.ExprTree as expr
+use Rattle.parser_grammar.specs.declared.sequence.SequenceTree.{SequenceTree}
+use Rattle.parser_grammar.specs.declared.sequence.SequenceTree as seq
+use Rattle.parser_grammar.specs.Views.{path_of, tree_of, link_of, sequence_of, delay_step_of}
+use Rattle.parser_grammar.proofs.TreeLaws.{tree-Number, tree-Path, tree-Concatenation, tree-Past, tree-Call, tree-Unary}
+use Rattle.parser_grammar.proofs.TreeLaws.{tree-Chain, tree-Choice}
+use Rattle.parser_grammar.proofs.TreeLaws.{seq-Boolean, seq-Repeated, seq-Late, seq-Delayed, seq-Throughout, seq-Joined}
 
 pub is-Number : (x : ExprTree) (n : Number) (t : Token) → x ≡ expr.Number n t → tree_of x ≡ trees.number n t
 is-Number x n t is = ap tree_of is ∙ tree-Number n t

@@ -3,10 +3,10 @@
 ghost use Rattle.std.specs.Prelude.{◌≡◌, ◌++◌, ◌∷◌, OnOk, IfOk, string_bytes, codes};
 ghost use Rattle.std.specs.List.{flat_map};
 ghost use Rattle.types_names.specs.Scopes.{path_text, first_byte};
-ghost use Rattle.parser_trees.specs.Views.{path_of};
+ghost use Rattle.parser_grammar.specs.Views.{path_of};
 
 use lexer::Token;
-use parser_trees::Path;
+use parser_grammar::Path;
 use std::alloc::{AllocError, Global};
 
 /// Adds a dot and a word.

@@ -1,7 +1,7 @@
 //! What names stand for in a text.
 
 ghost use Rattle.std.specs.Prelude.{◌≡◌, map, option_map, IfOk, OnOk, IsTrue};
-ghost use Rattle.parser_trees.specs.Views.{path_of, tree_of, item_of};
+ghost use Rattle.parser_grammar.specs.Views.{path_of, tree_of, item_of};
 ghost use Rattle.types_names.specs.Scopes.{look_up, owns, is_narrow, bits_of, meaning};
 ghost use Rattle.types_names.specs.Scopes.{meaning_by, sequence_named};
 ghost use Rattle.types_names.specs.Asked.{scope_over_any};
@@ -16,7 +16,7 @@ use crate::path::path_string;
 use crate::paths::Paths;
 use crate::width::Width;
 use indexmap::IndexMap;
-use parser_trees::{ExprTree, ItemTree, Path};
+use parser_grammar::{ExprTree, ItemTree, Path};
 use std::alloc::{AllocError, Global};
 
 /// The names of a text, and the paths that it can read as signals. The text's own names come before

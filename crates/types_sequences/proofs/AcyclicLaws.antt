@@ -5,7 +5,7 @@ use Rattle.std.specs.Prelude.{option_map, option_and_then}
 use Rattle.assertions.specs.Written.{Written}
 use Rattle.assertions.specs.Written as written
 use Rattle.types_sequences.specs.Drafts.{Draft, boolean, name, delay, lead, repeat, or, and, intersect, throughout}
-use Rattle.types_sequences.specs.Drafts.{IsIn}
+use Rattle.types_sequences.specs.Drafts.{IsNumberIn}
 use Rattle.types_sequences.specs.Drafts.{uses, uses_of, both_there, spelling_of, named_within, reaches_by, IsCyclic}
 use Rattle.types_sequences.proofs.InLaws.{in_either}
 
@@ -25,7 +25,7 @@ map_part f (Some x) h = tt
 
 -- where a sequence is written out, each name that it uses is
 pub named_there : {B : Type 0} (f : ℕ → Option (Written B)) (d : Draft B) (q : ℕ) → IsThere (spelling_of f d)
-    → IsIn q (uses d) → IsThere (f q)
+    → IsNumberIn q (uses d) → IsThere (f q)
 named_there f (boolean b) q h i = elim i [ ]
 named_there f (name p) q h i = elim i [ inl e ↦ subst (λ (x : ℕ). IsThere (f x)) (sym e) h | inr n ↦ elim n [ ] ]
 named_there f (delay r least extra s) q h i =
@@ -47,7 +47,7 @@ named_there f (intersect r s) q h i =
 named_there f (throughout b r) q h i = named_there f r q (map_part (written.throughout b) (spelling_of f r) h) i
 
 use_there : {B : Type 0} (f : ℕ → Option (Written B)) (o : Option (Draft B)) (q : ℕ)
-    → IsThere (option_and_then (spelling_of f) o) → IsIn q (uses_of o) → IsThere (f q)
+    → IsThere (option_and_then (spelling_of f) o) → IsNumberIn q (uses_of o) → IsThere (f q)
 use_there f None q h i = elim h [ ]
 use_there f (Some d) q h i = named_there f d q h i
 

@@ -3,19 +3,21 @@ use Rattle.std.proofs.Common.{◌≡◌, ◌⊎◌, inl, inr, ℕ, zero, suc, �
 use Rattle.std.proofs.Common.{sym, subst, ◌∙◌}
 use Rattle.std.proofs.lemmas.Bool.{or_left, or_right, eq-eqb, cases_lt, false≢true}
 use Rattle.std.proofs.lemmas.Option.{slice_get_past}
-use Rattle.types_sequences.specs.Drafts.{Draft, IsIn, uses_of, uses_at, reaches_by, SomeCyclic}
-use Rattle.types_sequences.specs.Marks.{mark_at, leads}
+use Rattle.types_sequences.specs.Drafts.{Draft, IsNumberIn, uses_of, uses_at, reaches_by, SomeCyclic}
+use Rattle.types_sequences.specs.Marks.{mark_at, leads_to_goal}
 use Rattle.types_sequences.specs.Sweeps.{Covers, AreQuiet}
 use Rattle.types_sequences.specs.Cycles.{ReachesCycle}
 use Rattle.types_sequences.proofs.SweepLaws.{no_use_passes}
 
 -- what uses a name is declared
-pub declared_by_use : {B : Type 0} (bodies : List (Draft B)) (p q : ℕ) → IsIn q (uses_at bodies p) → p < length bodies
+pub declared_by_use : {B : Type 0} (bodies : List (Draft B)) (p q : ℕ) → IsNumberIn q (uses_at bodies p)
+    → p < length bodies
 declared_by_use {B} bodies p q i = by_place (cases_lt p (length bodies))
   where
     by_place : (p < length bodies) ⊎ (length bodies ≤ p) → p < length bodies
     by_place (inl h) = h
-    by_place (inr h) = elim (subst (λ (o : Option (Draft B)). IsIn q (uses_of o)) (slice_get_past bodies p h) i) [ ]
+    by_place (inr h) = elim
+        (subst (λ (o : Option (Draft B)). IsNumberIn q (uses_of o)) (slice_get_past bodies p h) i) [ ]
 
 pub declared_by_reach : {B : Type 0} (bodies : List (Draft B)) (more p q : ℕ) → reaches_by bodies more p q
     → p < length bodies
@@ -27,12 +29,15 @@ pub some_cyclic : {B : Type 0} (bodies : List (Draft B)) (p : ℕ) → ReachesCy
 some_cyclic bodies p r = (r.place, declared_by_reach bodies r.cyclic.0 r.place r.place r.cyclic.1, r.cyclic)
 
 not_quiet : {B : Type 0} (bodies : List (Draft B)) (goal : ℕ) (marks : List Bool) (left : List ℕ) (p q : ℕ) →
-    AreQuiet bodies goal marks left → IsIn q (uses_at bodies p) → leads marks goal q ≡ true → IsIn p left → ⊥
+    AreQuiet bodies goal marks left → IsNumberIn q (uses_at bodies p) → leads_to_goal marks goal q ≡ true
+    → IsNumberIn p left
+    → ⊥
 not_quiet bodies goal marks left p q quiet i l here =
-    false≢true (sym (no_use_passes (leads marks goal) (uses_at bodies p) q (quiet p here) i) ∙ l)
+    false≢true (sym (no_use_passes (leads_to_goal marks goal) (uses_at bodies p) q (quiet p here) i) ∙ l)
 
 mark_of : {B : Type 0} (bodies : List (Draft B)) (goal : ℕ) (marks : List Bool) (left : List ℕ) (p q : ℕ) →
-    AreQuiet bodies goal marks left → Covers marks left p → IsIn q (uses_at bodies p) → leads marks goal q ≡ true
+    AreQuiet bodies goal marks left → Covers marks left p → IsNumberIn q (uses_at bodies p) → leads_to_goal marks goal q
+    ≡ true
     → mark_at marks p ≡ true
 mark_of bodies goal marks left p q quiet (inl m) i l = m
 mark_of bodies goal marks left p q quiet (inr here) i l = elim (not_quiet bodies goal marks left p q quiet i l here) [ ]

@@ -9,7 +9,7 @@ use Rattle.assertions.specs.declared.sequence.Boolean.{Boolean}
 use Rattle.types_sequences.specs.declared.draft.Draft.{Draft}
 use Rattle.types_sequences.specs.declared.draft.Draft.TheVariants as form
 use Rattle.types_sequences.specs.Drafts as drafts
-use Rattle.types_sequences.specs.Drafts.{IsIn, uses, uses_of, uses_at, AllDeclared}
+use Rattle.types_sequences.specs.Drafts.{IsNumberIn, uses, uses_of, uses_at, AllDeclared}
 use Rattle.types_sequences.specs.Views.{draft_of}
 use Rattle.types_sequences.specs.Marks.{all_below}
 
@@ -24,7 +24,7 @@ all_below-append count (x ∷ xs) ys =
     ap (λ (b : Bool). nat_lt x count && b) (all_below-append count xs ys)
     ∙ sym (and-assoc (nat_lt x count) (all_below count xs) (all_below count ys))
 
-pub below_of : (count : ℕ) (xs : List ℕ) (p : ℕ) → all_below count xs ≡ true → IsIn p xs → p < count
+pub below_of : (count : ℕ) (xs : List ℕ) (p : ℕ) → all_below count xs ≡ true → IsNumberIn p xs → p < count
 below_of count [] p h i = elim i [ ]
 below_of count (x ∷ xs) p h i =
     let parts = and_parts (nat_lt x count) (all_below count xs) h in
@@ -33,7 +33,7 @@ below_of count (x ∷ xs) p h i =
       | inr there ↦ below_of count xs p parts.1 there
     ]
 
-pub all_below_of : (count : ℕ) (xs : List ℕ) → ((p : ℕ) → IsIn p xs → p < count) → all_below count xs ≡ true
+pub all_below_of : (count : ℕ) (xs : List ℕ) → ((p : ℕ) → IsNumberIn p xs → p < count) → all_below count xs ≡ true
 all_below_of count [] h = refl
 all_below_of count (x ∷ xs) h =
     and_from (nat_lt x count) (all_below count xs) (lt-ltb x count (h x (inl refl)))
@@ -46,9 +46,10 @@ each_below bodies all k d h =
     all_below_of (length bodies) (uses (draft_of (get_or bodies k d)))
     (λ q i. rw (length-map bodies draft_of) at (all k q (there q i)))
   where
-    there : (q : ℕ) → IsIn q (uses (draft_of (get_or bodies k d))) → IsIn q (uses_at (map draft_of bodies) k)
+    there : (q : ℕ) → IsNumberIn q (uses (draft_of (get_or bodies k d)))
+        → IsNumberIn q (uses_at (map draft_of bodies) k)
     there q i =
-        subst (λ (o : Option (drafts.Draft Boolean)). IsIn q (uses_of o))
+        subst (λ (o : Option (drafts.Draft Boolean)). IsNumberIn q (uses_of o))
         (sym (slice_get-map draft_of bodies k ∙ ap (option_map draft_of) (slice_get-get_or bodies k d h))) i
 
 -- where each declaration's names are below the count of declarations, all are declared
@@ -57,8 +58,8 @@ pub all_declared : (bodies : List Draft)
     ≡ true) → (p : ℕ) → AllDeclared (map draft_of bodies) p
 all_declared bodies each p q i = by_place (cases_lt p (length bodies))
   where
-    at : (o : Option (drafts.Draft Boolean)) → slice_get (map draft_of bodies) p ≡ o → IsIn q (uses_of o)
-    at o e = subst (λ (x : Option (drafts.Draft Boolean)). IsIn q (uses_of x)) e i
+    at : (o : Option (drafts.Draft Boolean)) → slice_get (map draft_of bodies) p ≡ o → IsNumberIn q (uses_of o)
+    at o e = subst (λ (x : Option (drafts.Draft Boolean)). IsNumberIn q (uses_of x)) e i
 
     by_place : (p < length bodies) ⊎ (length bodies ≤ p) → q < length (map draft_of bodies)
     by_place (inl h) =

@@ -9,8 +9,8 @@ use Rattle.assertions.specs.Emptiness.{admits_empty, bare, lasts, takes_ticks}
 use Rattle.assertions.specs.Quantifiers.{some_in}
 use Rattle.assertions.specs.Segments.{always, is_match}
 use Rattle.types_sequences.specs.Drafts.{Draft, boolean, name, delay, lead, repeat, or, and, intersect, throughout}
-use Rattle.types_sequences.specs.Drafts.{IsIn}
-use Rattle.types_sequences.specs.Drafts.{uses, uses_of, uses_at, both_there, spelling_of, named_within, Spells}
+use Rattle.types_sequences.specs.Drafts.{IsNumberIn}
+use Rattle.types_sequences.specs.Drafts.{uses, uses_of, uses_at, both_there, spelling_of, named_within, IsWrittenOut}
 use Rattle.types_sequences.specs.Drafts.{reaches_by}
 use Rattle.types_sequences.specs.Drafts.{IsCyclic}
 use Rattle.types_sequences.specs.Outlines.{map_draft, map_written}
@@ -37,15 +37,19 @@ module _ {B C : Type 0} (f : B → C) where
 
   pub reaches_map : (bodies : List (Draft B)) (more p q : ℕ) → reaches_by bodies more p q
       → reaches_by (map (map_draft f) bodies) more p q
-  reaches_map bodies zero p q r = subst (λ (us : List ℕ). IsIn q us) (sym (uses_at_map bodies p)) r
-  reaches_map bodies (suc more) p q r =
-      (r.0, subst (λ (us : List ℕ). IsIn r.0 us) (sym (uses_at_map bodies p)) r.1, reaches_map bodies more r.0 q r.2)
+  reaches_map bodies zero p q r = subst (λ (us : List ℕ). IsNumberIn q us) (sym (uses_at_map bodies p)) r
+  reaches_map bodies (suc more) p q r = (
+    r.0,
+    subst (λ (us : List ℕ). IsNumberIn r.0 us)
+        (sym (uses_at_map bodies p)) r.1,
+    reaches_map bodies more r.0 q r.2,
+  )
 
   pub map_reaches : (bodies : List (Draft B)) (more p q : ℕ) → reaches_by (map (map_draft f) bodies) more p q
       → reaches_by bodies more p q
-  map_reaches bodies zero p q r = subst (λ (us : List ℕ). IsIn q us) (uses_at_map bodies p) r
+  map_reaches bodies zero p q r = subst (λ (us : List ℕ). IsNumberIn q us) (uses_at_map bodies p) r
   map_reaches bodies (suc more) p q r =
-      (r.0, subst (λ (us : List ℕ). IsIn r.0 us) (uses_at_map bodies p) r.1, map_reaches bodies more r.0 q r.2)
+      (r.0, subst (λ (us : List ℕ). IsNumberIn r.0 us) (uses_at_map bodies p) r.1, map_reaches bodies more r.0 q r.2)
 
   pub cyclic_map : (bodies : List (Draft B)) (p : ℕ) → IsCyclic bodies p → IsCyclic (map (map_draft f) bodies) p
   cyclic_map bodies p c = (c.0, reaches_map bodies c.0 p p c.1)
@@ -160,8 +164,8 @@ module _ {B C : Type 0} (f : B → C) where
       ∙ bind_map (named_within bodies depth) (named_within (map (map_draft f) bodies) depth) (named_map bodies depth)
       (slice_get bodies p)
 
-  pub spells_map : (bodies : List (Draft B)) (d : Draft B) (w : Written B) → Spells bodies d w
-      → Spells (map (map_draft f) bodies) (map_draft f d) (map_written f w)
+  pub spells_map : (bodies : List (Draft B)) (d : Draft B) (w : Written B) → IsWrittenOut bodies d w
+      → IsWrittenOut (map (map_draft f) bodies) (map_draft f d) (map_written f w)
   spells_map bodies d w s = (
     s.0,
     spelled_map (named_within bodies s.0) (named_within (map (map_draft f) bodies) s.0) (named_map bodies
@@ -172,8 +176,8 @@ some_same : {A : Type 0} (a b : A) (o : Option A) → o ≡ Some a → o ≡ Som
 some_same a b o x y = let e : Some a ≡ Some b = sym x ∙ y in cc
 
 -- A sequence spells one thing.
-pub spells_one : {B : Type 0} (bodies : List (Draft B)) (d : Draft B) (v w : Written B) → Spells bodies d v
-    → Spells bodies d w → v ≡ w
+pub spells_one : {B : Type 0} (bodies : List (Draft B)) (d : Draft B) (v w : Written B) → IsWrittenOut bodies d v
+    → IsWrittenOut bodies d w → v ≡ w
 spells_one bodies d v w a b =
     some_same v w (spelling_of (named_within bodies (max a.0 b.0)) d)
     (spelled_deeper bodies d v a.0 (max a.0 b.0) (omega arith) a.1)

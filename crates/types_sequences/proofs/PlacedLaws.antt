@@ -16,98 +16,100 @@ use Rattle.assertions.specs.Written.{Written, boolean, delay, lead, repeat, or, 
 use Rattle.assertions.specs.Written.{after}
 use Rattle.assertions.specs.Written.{later}
 use Rattle.assertions.specs.Listed.{EachBoolean, IsUsed, IsListed}
-use Rattle.types_sequences.specs.Drafts.{IsIn}
-use Rattle.types_sequences.specs.Placed.{atom_true, IsPlaced, IsPlacedBoolean, Extends, Adds, AllListed}
+use Rattle.types_sequences.specs.Drafts.{IsNumberIn}
+use Rattle.types_sequences.specs.Placed.{atom_true, MatchesByPlaces, IsPlacedBoolean, ExtendsPlaces, AddsPlaces}
+use Rattle.types_sequences.specs.Placed.{AllListed}
 use Rattle.types_sequences.specs.Placed.{ArePlaced}
-use Rattle.types_sequences.specs.Leaves.{leaves, place_in, places_of, is_one, form_of}
+use Rattle.types_sequences.specs.Leaves.{leaves, place_listed, sequence_places, is_one, form_of}
 use Rattle.types_sequences.proofs.InLaws.{in_last}
 use Rattle.types_sequences.proofs.UsedLaws.{each_listed}
 use Rattle.types_sequences.proofs.AlikeLaws.{alike_one, alike_one_of, alike_after, alike_later, alike_times}
 use Rattle.types_sequences.proofs.AlikeLaws.{alike_either, alike_both, alike_meet, alike_during}
 
-pub placed_more : (e : List Expr) (before after more : List ℕ) (x : Extends before after) (w u : Written Boolean)
-    → IsPlaced e (before ++ (x.added ++ more)) w u → IsPlaced e (after ++ more) w u
+pub placed_more : (e : List Expr) (before after more : List ℕ) (x : ExtendsPlaces before after) (w u : Written Boolean)
+    → MatchesByPlaces e (before ++ (x.added ++ more)) w u → MatchesByPlaces e (after ++ more) w u
 placed_more e before after more x w u h =
-    subst (λ (ps : List ℕ). IsPlaced e ps w u) (sym (append_assoc before x.added more)
+    subst (λ (ps : List ℕ). MatchesByPlaces e ps w u) (sym (append_assoc before x.added more)
     ∙ sym (ap (λ (ps : List ℕ). ps ++ more) x.is)) h
 
-pub placed_boolean_more : (e : List Expr) (before after more : List ℕ) (x : Extends before after) (a b : Boolean)
+pub placed_boolean_more : (e : List Expr) (before after more : List ℕ) (x : ExtendsPlaces before after) (a b : Boolean)
     → IsPlacedBoolean e (before ++ (x.added ++ more)) a b → IsPlacedBoolean e (after ++ more) a b
 placed_boolean_more e before after more x a b h =
     subst (λ (ps : List ℕ). IsPlacedBoolean e ps a b) (sym (append_assoc before x.added more)
     ∙ sym (ap (λ (ps : List ℕ). ps ++ more) x.is)) h
 
 module _ (e : List Expr) (ps : List ℕ) where
-  pub placed_one : (a b : Boolean) → IsPlacedBoolean e ps a b → IsPlaced e ps (boolean a) (boolean b)
+  pub placed_one : (a b : Boolean) → IsPlacedBoolean e ps a b → MatchesByPlaces e ps (boolean a) (boolean b)
   placed_one a b h t n =
       alike_one (sat (atom_true e t) n) (sat (value_in e ps t) n) a b
       (λ k. ap (λ (x : Bool). nat_le n k || x) (h t k))
 
-  pub placed_delay : (w v u x : Written Boolean) (least most : ℕ) → IsPlaced e ps w u → IsPlaced e ps v x
-      → IsPlaced e ps (delay w least most v) (delay u least most x)
+  pub placed_delay : (w v u x : Written Boolean) (least most : ℕ) → MatchesByPlaces e ps w u → MatchesByPlaces e ps v x
+      → MatchesByPlaces e ps (delay w least most v) (delay u least most x)
   placed_delay w v u x least most f s t n =
       alike_one_of (sat (atom_true e t) n) (sat (value_in e ps t) n) least (most - least)
       (after One (kernel One w) (kernel One v)) (after One (kernel One u) (kernel One x))
       (alike_after (sat (atom_true e t) n) (sat (value_in e ps t) n) One One (kernel One w) (kernel One v)
       (kernel One u) (kernel One x) (λ k. refl) (f t n) (s t n))
 
-  pub placed_lead : (v x : Written Boolean) (least most : ℕ) → IsPlaced e ps v x
-      → IsPlaced e ps (lead least most v) (lead least most x)
+  pub placed_lead : (v x : Written Boolean) (least most : ℕ) → MatchesByPlaces e ps v x
+      → MatchesByPlaces e ps (lead least most v) (lead least most x)
   placed_lead v x least most s t n =
       alike_one_of (sat (atom_true e t) n) (sat (value_in e ps t) n) least (most - least) (later One (kernel One v))
       (later One (kernel One x))
       (alike_later (sat (atom_true e t) n) (sat (value_in e ps t) n) One One (kernel One v) (kernel One x) (λ k. refl)
       (s t n))
 
-  pub placed_repeat : (v x : Written Boolean) (least most : ℕ) → IsPlaced e ps v x
-      → IsPlaced e ps (repeat v least most) (repeat x least most)
+  pub placed_repeat : (v x : Written Boolean) (least most : ℕ) → MatchesByPlaces e ps v x
+      → MatchesByPlaces e ps (repeat v least most) (repeat x least most)
   placed_repeat v x least most s t n =
       alike_times (sat (atom_true e t) n) (sat (value_in e ps t) n) (kernel One v) (kernel One x) least most (s t n)
 
-  pub placed_or : (w v u x : Written Boolean) → IsPlaced e ps w u → IsPlaced e ps v x → IsPlaced e ps (or w v) (or u x)
+  pub placed_or : (w v u x : Written Boolean) → MatchesByPlaces e ps w u → MatchesByPlaces e ps v x
+      → MatchesByPlaces e ps (or w v) (or u x)
   placed_or w v u x f s t n =
       alike_either (sat (atom_true e t) n) (sat (value_in e ps t) n) (kernel One w) (kernel One v) (kernel One u)
       (kernel One x) (f t n) (s t n)
 
-  pub placed_and : (w v u x : Written Boolean) → IsPlaced e ps w u → IsPlaced e ps v x
-      → IsPlaced e ps (and w v) (and u x)
+  pub placed_and : (w v u x : Written Boolean) → MatchesByPlaces e ps w u → MatchesByPlaces e ps v x
+      → MatchesByPlaces e ps (and w v) (and u x)
   placed_and w v u x f s t n =
       alike_both (sat (atom_true e t) n) (sat (value_in e ps t) n) (kernel One w) (kernel One v) (kernel One u)
       (kernel One x) (f t n) (s t n)
 
-  pub placed_intersect : (w v u x : Written Boolean) → IsPlaced e ps w u → IsPlaced e ps v x
-      → IsPlaced e ps (intersect w v) (intersect u x)
+  pub placed_intersect : (w v u x : Written Boolean) → MatchesByPlaces e ps w u → MatchesByPlaces e ps v x
+      → MatchesByPlaces e ps (intersect w v) (intersect u x)
   placed_intersect w v u x f s t n =
       alike_meet (sat (atom_true e t) n) (sat (value_in e ps t) n) (kernel One w) (kernel One v) (kernel One u)
       (kernel One x) (f t n) (s t n)
 
-  pub placed_throughout : (a b : Boolean) (v x : Written Boolean) → IsPlacedBoolean e ps a b → IsPlaced e ps v x
-      → IsPlaced e ps (throughout a v) (throughout b x)
+  pub placed_throughout : (a b : Boolean) (v x : Written Boolean) → IsPlacedBoolean e ps a b → MatchesByPlaces e ps v x
+      → MatchesByPlaces e ps (throughout a v) (throughout b x)
   placed_throughout a b v x h s t n =
       alike_during (sat (atom_true e t) n) (sat (value_in e ps t) n) a b (kernel One v) (kernel One x)
       (λ k. ap (λ (y : Bool). nat_le n k || y) (h t k)) (s t n)
 
 -- more places
-pub longer : (before after : List ℕ) → Extends before after → length before ≤ length after
+pub longer : (before after : List ℕ) → ExtendsPlaces before after → length before ≤ length after
 longer before after x =
     let long : length after ≡ length before + length x.added =
     ap length x.is ∙ length-append before x.added in
     omega (arith, long)
 
-pub listed_on : (before after : List ℕ) (w : Written Boolean) → Extends before after →
+pub listed_on : (before after : List ℕ) (w : Written Boolean) → ExtendsPlaces before after →
     EachBoolean (IsListed (length before)) w → EachBoolean (IsListed (length after)) w
 listed_on before after w x h = each_listed (length before) (length after) w (longer before after x) h
 
 -- the places of a boolean alone, and of two parts
 pub of_pushed : (before after : List ℕ) (place : ℕ) (b : Boolean) → b ≡ Listed place →
-    after ≡ before ++ place ∷ [] → Adds (boolean b) before after
+    after ≡ before ++ place ∷ [] → AddsPlaces (boolean b) before after
 of_pushed before after place b is pushed p h =
-    elim (in_last p place before (subst (λ (ps : List ℕ). IsIn p ps) pushed h))
+    elim (in_last p place before (subst (λ (ps : List ℕ). IsNumberIn p ps) pushed h))
     [ inl x ↦ inl x | inr e ↦ inr (ap Listed e ∙ sym is) ]
 
-pub of_two : (before between after : List ℕ) (v w : Written Boolean) → Adds v before between →
-    Adds w between after → (p : ℕ) → IsIn p after →
-    IsIn p before ⊎ (IsUsed (Listed p) v ⊎ IsUsed (Listed p) w)
+pub of_two : (before between after : List ℕ) (v w : Written Boolean) → AddsPlaces v before between →
+    AddsPlaces w between after → (p : ℕ) → IsNumberIn p after →
+    IsNumberIn p before ⊎ (IsUsed (Listed p) v ⊎ IsUsed (Listed p) w)
 of_two before between after v w f g p h =
     elim (g p h) [
       | inl there ↦ elim (f p there) [ inl i ↦ inl i | inr u ↦ inr (inl u) ]
@@ -116,23 +118,24 @@ of_two before between after v w f g p h =
 
 -- the list behind a boolean, and behind two parts
 pub list_pushed : (before after : List ℕ) (place : ℕ) (b : Boolean) → b ≡ Listed place →
-    after ≡ before ++ place ∷ [] → after ≡ before ++ places_of (boolean b)
-list_pushed before after place b is pushed = pushed ∙ ap (λ (c : Boolean). before ++ places_of (boolean c)) (sym is)
+    after ≡ before ++ place ∷ [] → after ≡ before ++ sequence_places (boolean b)
+list_pushed before after place b is pushed = pushed
+    ∙ ap (λ (c : Boolean). before ++ sequence_places (boolean c)) (sym is)
 
-pub list_same : (before : List ℕ) (b : Boolean) → b ≡ One → before ≡ before ++ places_of (boolean b)
+pub list_same : (before : List ℕ) (b : Boolean) → b ≡ One → before ≡ before ++ sequence_places (boolean b)
 list_same before b is =
-    sym (append-nil before) ∙ ap (λ (c : Boolean). before ++ places_of (boolean c)) (sym is)
+    sym (append-nil before) ∙ ap (λ (c : Boolean). before ++ sequence_places (boolean c)) (sym is)
 
-list_two : (before between after : List ℕ) (xs ys : List Boolean) → between ≡ before ++ flat_map place_in xs →
-    after ≡ between ++ flat_map place_in ys → after ≡ before ++ flat_map place_in (xs ++ ys)
+list_two : (before between after : List ℕ) (xs ys : List Boolean) → between ≡ before ++ flat_map place_listed xs →
+    after ≡ between ++ flat_map place_listed ys → after ≡ before ++ flat_map place_listed (xs ++ ys)
 list_two before between after xs ys f g =
-    g ∙ ap (λ (ps : List ℕ). ps ++ flat_map place_in ys) f
-    ∙ append_assoc before (flat_map place_in xs) (flat_map place_in ys)
-    ∙ ap (λ (ps : List ℕ). before ++ ps) (sym (flat_map-append place_in xs ys))
+    g ∙ ap (λ (ps : List ℕ). ps ++ flat_map place_listed ys) f
+    ∙ append_assoc before (flat_map place_listed xs) (flat_map place_listed ys)
+    ∙ ap (λ (ps : List ℕ). before ++ ps) (sym (flat_map-append place_listed xs ys))
 
 -- what is placed of a sequence, from its parts
-extends_two : (before between after : List ℕ) → Extends before between → Extends between after
-    → Extends before after
+extends_two : (before between after : List ℕ) → ExtendsPlaces before between → ExtendsPlaces between after
+    → ExtendsPlaces before after
 extends_two before between after x y =
     record {
       added = x.added ++ y.added;
@@ -170,7 +173,7 @@ module _ (before after : List ℕ) where
 
 module _ (before between after : List ℕ) (v w a b : Written Boolean) (x : ArePlaced before between v a)
     (y : ArePlaced between after w b) where
-  first_placed : (e : List Expr) (more : List ℕ) → IsPlaced e (after ++ more) v a
+  first_placed : (e : List Expr) (more : List ℕ) → MatchesByPlaces e (after ++ more) v a
   first_placed e more = placed_more e between after more y.grows v a (x.placed e (y.grows.added ++ more))
 
   both_listed : AllListed after a × AllListed after b
@@ -236,9 +239,9 @@ module _ (before between after : List ℕ) (v w a b : Written Boolean) (x : AreP
             ∙ ap (λ (z : Written Bool). intersect (form_of v) z) y.form;
       }
 
-pub are_boolean : (before after : List ℕ) (a b : Boolean) → Extends before after
+pub are_boolean : (before after : List ℕ) (a b : Boolean) → ExtendsPlaces before after
     → ((e : List Expr) (more : List ℕ) → IsPlacedBoolean e (after ++ more) a b) → IsListed (length after) b
-    → Adds (boolean a) before after → after ≡ before ++ places_of (boolean a) → is_one b ≡ is_one a
+    → AddsPlaces (boolean a) before after → after ≡ before ++ sequence_places (boolean a) → is_one b ≡ is_one a
     → ArePlaced before after (boolean a) (boolean b)
 are_boolean before after a b grows placed listed own list form =
     record {
@@ -252,9 +255,10 @@ are_boolean before after a b grows placed listed own list form =
       form = ap (λ (z : Bool). boolean z) form;
     }
 
-pub are_throughout : (before between after : List ℕ) (a b : Boolean) (w u : Written Boolean) → Extends before between
+pub are_throughout : (before between after : List ℕ) (a b : Boolean) (w u : Written Boolean)
+    → ExtendsPlaces before between
     → ((e : List Expr) (more : List ℕ) → IsPlacedBoolean e (between ++ more) a b) → IsListed (length between) b
-    → Adds (boolean a) before between → between ≡ before ++ places_of (boolean a) → is_one b ≡ is_one a
+    → AddsPlaces (boolean a) before between → between ≡ before ++ sequence_places (boolean a) → is_one b ≡ is_one a
     → ArePlaced between after w u → ArePlaced before after (throughout a w) (throughout b u)
 are_throughout before between after a b w u grows placed listed own list form y =
     record {

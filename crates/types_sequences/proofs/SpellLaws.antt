@@ -7,9 +7,9 @@ use Rattle.assertions.specs.Written as written
 use Rattle.assertions.specs.declared.sequence.Boolean.{Boolean}
 use Rattle.types_sequences.specs.Drafts.{Draft, boolean, name, delay, lead, repeat, or, and, intersect, throughout}
 use Rattle.types_sequences.specs.Drafts.{both_there}
-use Rattle.types_sequences.specs.Drafts.{spelling_of, named_within, Spells}
+use Rattle.types_sequences.specs.Drafts.{spelling_of, named_within, IsWrittenOut}
 use Rattle.types_sequences.specs.declared.entry.Entry.{Entry}
-use Rattle.types_sequences.specs.Entries.{IsEntry, HasEntry, IsEntryOf}
+use Rattle.types_sequences.specs.Entries.{IsTheEntryOf, HasEntry, IsEntryOf}
 
 -- what the first finds, the second finds
 abbrev pub Grows : {A : Type 0} → Option A → Option A → Type 0
@@ -81,8 +81,8 @@ pub record SpellBoth {B : Type 0} (bodies : List (Draft B)) (r s : Draft B) (v w
   pub first : spelling_of (named_within bodies depth) r ≡ Some v
   pub second : spelling_of (named_within bodies depth) s ≡ Some w
 
-pub spell_both : {B : Type 0} (bodies : List (Draft B)) (r s : Draft B) (v w : Written B) → Spells bodies r v
-    → Spells bodies s w → SpellBoth bodies r s v w
+pub spell_both : {B : Type 0} (bodies : List (Draft B)) (r s : Draft B) (v w : Written B) → IsWrittenOut bodies r v
+    → IsWrittenOut bodies s w → SpellBoth bodies r s v w
 spell_both bodies r s v w a b =
     record {
       depth = max a.0 b.0;
@@ -90,17 +90,18 @@ spell_both bodies r s v w a b =
       second = spelled_deeper bodies s w b.0 (max a.0 b.0) (omega arith) b.1;
     }
 
-pub has_boolean : (bodies : List (Draft Boolean)) (b : Boolean) (e : Entry) → IsEntry (written.boolean b) e
+pub has_boolean : (bodies : List (Draft Boolean)) (b : Boolean) (e : Entry) → IsTheEntryOf (written.boolean b) e
     → HasEntry bodies (boolean b) e
 has_boolean bodies b e i = record { meant = written.boolean b; spells = (0, refl); entry = i }
 
 pub has_name : (bodies : List (Draft Boolean)) (p : ℕ) (a e : Entry) → IsEntryOf bodies p a
-    → ((w : Written Boolean) → IsEntry w a → IsEntry w e) → HasEntry bodies (name p) e
+    → ((w : Written Boolean) → IsTheEntryOf w a → IsTheEntryOf w e) → HasEntry bodies (name p) e
 has_name bodies p a e i f = record { meant = i.meant; spells = (i.depth, i.named); entry = f i.meant i.entry }
 
 pub has_delay : (bodies : List (Draft Boolean)) (r s : Draft Boolean) (least extra : ℕ) (a b e : Entry)
     → HasEntry bodies r a → HasEntry bodies s b →
-    ((v w : Written Boolean) → IsEntry v a → IsEntry w b → IsEntry (written.delay v least (least + extra) w) e)
+    ((v w : Written Boolean) → IsTheEntryOf v a → IsTheEntryOf w b
+    → IsTheEntryOf (written.delay v least (least + extra) w) e)
     → HasEntry bodies (delay r least extra s) e
 has_delay bodies r s least extra a b e x y f =
     let both = spell_both bodies r s x.meant y.meant x.spells y.spells in
@@ -112,7 +113,8 @@ has_delay bodies r s least extra a b e x y f =
 
 pub has_or : (bodies : List (Draft Boolean)) (r s : Draft Boolean) (a b e : Entry) → HasEntry bodies r a
     → HasEntry bodies s b →
-    ((v w : Written Boolean) → IsEntry v a → IsEntry w b → IsEntry (written.or v w) e) → HasEntry bodies (or r s) e
+    ((v w : Written Boolean) → IsTheEntryOf v a → IsTheEntryOf w b → IsTheEntryOf (written.or v w) e)
+    → HasEntry bodies (or r s) e
 has_or bodies r s a b e x y f =
     let both = spell_both bodies r s x.meant y.meant x.spells y.spells in
     record {
@@ -123,7 +125,8 @@ has_or bodies r s a b e x y f =
 
 pub has_and : (bodies : List (Draft Boolean)) (r s : Draft Boolean) (a b e : Entry) → HasEntry bodies r a
     → HasEntry bodies s b →
-    ((v w : Written Boolean) → IsEntry v a → IsEntry w b → IsEntry (written.and v w) e) → HasEntry bodies (and r s) e
+    ((v w : Written Boolean) → IsTheEntryOf v a → IsTheEntryOf w b → IsTheEntryOf (written.and v w) e)
+    → HasEntry bodies (and r s) e
 has_and bodies r s a b e x y f =
     let both = spell_both bodies r s x.meant y.meant x.spells y.spells in
     record {
@@ -134,7 +137,8 @@ has_and bodies r s a b e x y f =
 
 pub has_intersect : (bodies : List (Draft Boolean)) (r s : Draft Boolean) (a b e : Entry) → HasEntry bodies r a
     → HasEntry bodies s b →
-    ((v w : Written Boolean) → IsEntry v a → IsEntry w b → IsEntry (written.intersect v w) e) → HasEntry bodies
+    ((v w : Written Boolean) → IsTheEntryOf v a → IsTheEntryOf w b → IsTheEntryOf (written.intersect v w) e)
+    → HasEntry bodies
     (intersect r s) e
 has_intersect bodies r s a b e x y f =
     let both = spell_both bodies r s x.meant y.meant x.spells y.spells in
@@ -146,7 +150,7 @@ has_intersect bodies r s a b e x y f =
 
 pub has_lead : (bodies : List (Draft Boolean)) (s : Draft Boolean) (least extra : ℕ) (b e : Entry) → HasEntry bodies s b
     →
-    ((w : Written Boolean) → IsEntry w b → IsEntry (written.lead least (least + extra) w) e)
+    ((w : Written Boolean) → IsTheEntryOf w b → IsTheEntryOf (written.lead least (least + extra) w) e)
     → HasEntry bodies (lead least extra s) e
 has_lead bodies s least extra b e y f =
     record {
@@ -157,7 +161,7 @@ has_lead bodies s least extra b e y f =
 
 pub has_repeat : (bodies : List (Draft Boolean)) (s : Draft Boolean) (least extra : ℕ) (b e : Entry)
     → HasEntry bodies s b →
-    ((w : Written Boolean) → IsEntry w b → IsEntry (written.repeat w least (least + extra)) e)
+    ((w : Written Boolean) → IsTheEntryOf w b → IsTheEntryOf (written.repeat w least (least + extra)) e)
     → HasEntry bodies (repeat s least extra) e
 has_repeat bodies s least extra b e y f =
     record {
@@ -168,7 +172,8 @@ has_repeat bodies s least extra b e y f =
 
 pub has_throughout : (bodies : List (Draft Boolean)) (c : Boolean) (s : Draft Boolean) (b e : Entry)
     → HasEntry bodies s b →
-    ((w : Written Boolean) → IsEntry w b → IsEntry (written.throughout c w) e) → HasEntry bodies (throughout c s) e
+    ((w : Written Boolean) → IsTheEntryOf w b → IsTheEntryOf (written.throughout c w) e)
+    → HasEntry bodies (throughout c s) e
 has_throughout bodies c s b e y f =
     record
     { meant = written.throughout c y.meant; spells = (y.spells.0, rw y.spells.1 refl); entry = f y.meant y.entry }

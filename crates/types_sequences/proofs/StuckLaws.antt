@@ -7,7 +7,7 @@ use Rattle.std.proofs.Math.Dec.{eqb}
 use Rattle.std.proofs.lemmas.Bool.{cases_Bool, or_cases, or_parts, eqb-true, false≢true}
 use Rattle.std.proofs.lemmas.Map.Steps.{length-le_from_distinct_below}
 use Rattle.types_sequences.specs.declared.entry.Entry.{Entry}
-use Rattle.types_sequences.specs.Drafts.{IsIn, uses_at, reaches_by, AllDeclared}
+use Rattle.types_sequences.specs.Drafts.{IsNumberIn, uses_at, reaches_by, AllDeclared}
 use Rattle.types_sequences.specs.Sweeps.{Reaches}
 use Rattle.types_sequences.specs.Cycles.{ReachesCycle}
 use Rattle.types_sequences.specs.Entries.{Bodies, has_entry, Accounts, AllLack}
@@ -22,12 +22,12 @@ abbrev pub AllReach : Bodies → List ℕ → ℕ → Type 0
 AllReach bodies visited p =
     (v : ℕ) → list_any (eqb v) visited ≡ true → (v < length bodies) × ((more : ℕ) × reaches_by bodies more v p)
 
-reaches_on : (bodies : Bodies) (more v p q : ℕ) → reaches_by bodies more v p → IsIn q (uses_at bodies p)
+reaches_on : (bodies : Bodies) (more v p q : ℕ) → reaches_by bodies more v p → IsNumberIn q (uses_at bodies p)
     → reaches_by bodies (suc more) v q
 reaches_on bodies zero v p q r u = (p, r, u)
 reaches_on bodies (suc more) v p q r u = (r.0, r.1, reaches_on bodies more r.0 p q r.2 u)
 
-all_reach_on : (bodies : Bodies) (visited : List ℕ) (p q : ℕ) → p < length bodies → IsIn q (uses_at bodies p)
+all_reach_on : (bodies : Bodies) (visited : List ℕ) (p q : ℕ) → p < length bodies → IsNumberIn q (uses_at bodies p)
     → AllReach bodies visited p → AllReach bodies (p ∷ visited) q
 all_reach_on bodies visited p q h u all v here = by_place (or_cases (eqb v p) (list_any (eqb v) visited) here)
   where
@@ -48,7 +48,7 @@ below_all bodies visited p h all v here = by_place (or_cases (eqb v p) (list_any
 
 -- a use of a declaration without an entry, that has none itself
 abbrev pub StuckUse : Bodies → List (Option Entry) → ℕ → Type 0
-StuckUse bodies table p = (q : ℕ) × IsIn q (uses_at bodies p) × IsStuck bodies table q
+StuckUse bodies table p = (q : ℕ) × IsNumberIn q (uses_at bodies p) × IsStuck bodies table q
 
 none_same : (p : ℕ) (xs : List ℕ) → list_any (eqb p) xs ≡ false → AllByRecursion (λ y. eqb p y ≡ false) xs
 none_same p [] h = tt
@@ -68,9 +68,9 @@ too_many bodies visited p h all d apart =
 abbrev pub CameFrom : Bodies → ℕ → ℕ → Type 0
 CameFrom bodies origin p = (origin ≡ p) ⊎ Reaches bodies origin p
 
-came_on : (bodies : Bodies) (origin p q : ℕ) → CameFrom bodies origin p → IsIn q (uses_at bodies p)
+came_on : (bodies : Bodies) (origin p q : ℕ) → CameFrom bodies origin p → IsNumberIn q (uses_at bodies p)
     → CameFrom bodies origin q
-came_on bodies origin p q (inl e) u = inr (0, subst (λ (x : ℕ). IsIn q (uses_at bodies x)) (sym e) u)
+came_on bodies origin p q (inl e) u = inr (0, subst (λ (x : ℕ). IsNumberIn q (uses_at bodies x)) (sym e) u)
 came_on bodies origin p q (inr r) u = inr (suc r.0, reaches_on bodies r.0 origin p q r.1 u)
 
 came_back : (bodies : Bodies) (visited : List ℕ) (origin p : ℕ) → CameFrom bodies origin p → AllReach bodies visited p
@@ -115,7 +115,7 @@ pub left_are_stuck : (bodies : Bodies) (table : List (Option Entry)) (left : Lis
     ((p : ℕ) → p < length bodies → Accounts table left p) → (p : ℕ) → IsStuck bodies table p → StuckUse bodies table p
 left_are_stuck bodies table left declared lack accounts p s = by_place (accounts p s.declared)
   where
-    by_place : (has_entry table p ≡ true) ⊎ IsIn p left → StuckUse bodies table p
+    by_place : (has_entry table p ≡ true) ⊎ IsNumberIn p left → StuckUse bodies table p
     by_place (inl there) = absurd (false≢true (sym s.lacking ∙ there))
     by_place (inr here) =
         let l = lack p here in

@@ -3,8 +3,8 @@ use Rattle.std.proofs.Common.{◌≡◌, ◌⊎◌, inl, inr, ℕ, suc, ◌+◌,
 use Rattle.std.proofs.Common.{length, set, length-append, append-nil, ◌≢◌, refl, sym, ap, subst, ◌∙◌, arith}
 use Rattle.std.proofs.lemmas.List.{length-set, get_or-set_same, get_or-set_other}
 use Rattle.std.proofs.lemmas.Bool.{or_cases, or_parts, eqb-true, cases_eq, false≢true}
-use Rattle.types_sequences.specs.Drafts.{Draft, IsIn, uses_at}
-use Rattle.types_sequences.specs.Marks.{some_use, mark_at, leads}
+use Rattle.types_sequences.specs.Drafts.{Draft, IsNumberIn, uses_at}
+use Rattle.types_sequences.specs.Marks.{some_use, mark_at, leads_to_goal}
 use Rattle.types_sequences.specs.Sweeps.{Reaches, AreSound, Covers, AreQuiet}
 use Rattle.types_sequences.proofs.InLaws.{in_front, in_back, in_either, in_last}
 
@@ -20,7 +20,7 @@ pub record State {B : Type 0} (bodies : List (Draft B)) (goal : ℕ) (before : L
 
 -- one use that passes
 abbrev pub passing : (ℕ → Bool) → List ℕ → Type 0
-passing test us = (q : ℕ) × IsIn q us × (test q ≡ true)
+passing test us = (q : ℕ) × IsNumberIn q us × (test q ≡ true)
 
 passing_of : (test : ℕ → Bool) (u : ℕ) (us : List ℕ) → (test u ≡ true) ⊎ (some_use test us ≡ true)
     → (some_use test us ≡ true → passing test us) → passing test (u ∷ us)
@@ -32,7 +32,8 @@ some_use_passes test [] h = elim (false≢true h) [ ]
 some_use_passes test (u ∷ us) h =
     passing_of test u us (or_cases (test u) (some_use test us) h) (some_use_passes test us)
 
-pub no_use_passes : (test : ℕ → Bool) (us : List ℕ) (q : ℕ) → some_use test us ≡ false → IsIn q us → test q ≡ false
+pub no_use_passes : (test : ℕ → Bool) (us : List ℕ) (q : ℕ) → some_use test us ≡ false → IsNumberIn q us → test q
+    ≡ false
 no_use_passes test [] q h i = elim i [ ]
 no_use_passes test (u ∷ us) q h (inl e) =
     subst (λ (x : ℕ). test x ≡ false) (sym e) ((or_parts (test u) (some_use test us) h).0)
@@ -40,16 +41,16 @@ no_use_passes test (u ∷ us) q h (inr i) = no_use_passes test us q ((or_parts (
 
 -- a use that leads on reaches the goal
 reaches_goal : {B : Type 0} (bodies : List (Draft B)) (goal : ℕ) (marks : List Bool) (p q : ℕ) →
-    AreSound bodies goal marks → IsIn q (uses_at bodies p) → ((q == goal) ≡ true) ⊎ (mark_at marks q ≡ true)
+    AreSound bodies goal marks → IsNumberIn q (uses_at bodies p) → ((q == goal) ≡ true) ⊎ (mark_at marks q ≡ true)
     → Reaches bodies p goal
 reaches_goal bodies goal marks p q sound i (inl e) =
-    (0, subst (λ (x : ℕ). IsIn x (uses_at bodies p)) (eqb-true q goal e) i)
+    (0, subst (λ (x : ℕ). IsNumberIn x (uses_at bodies p)) (eqb-true q goal e) i)
 reaches_goal bodies goal marks p q sound i (inr m) = (let r = sound q m in (suc r.0, (q, i, r.1)))
 
 leads_reaches : {B : Type 0} (bodies : List (Draft B)) (goal : ℕ) (marks : List Bool) (p : ℕ) →
-    AreSound bodies goal marks → some_use (leads marks goal) (uses_at bodies p) ≡ true → Reaches bodies p goal
+    AreSound bodies goal marks → some_use (leads_to_goal marks goal) (uses_at bodies p) ≡ true → Reaches bodies p goal
 leads_reaches bodies goal marks p sound h =
-    let f = some_use_passes (leads marks goal) (uses_at bodies p) h in
+    let f = some_use_passes (leads_to_goal marks goal) (uses_at bodies p) h in
     reaches_goal bodies goal marks p f.0 sound f.1 (or_cases (f.0 == goal) (mark_at marks f.0) f.2)
 
 -- a mark more
@@ -94,17 +95,17 @@ covered_after : (marks more : List Bool) (rest still : List ℕ) (p q : ℕ)
 covered_after marks more rest still p q keeps last (inl m) = inl (keeps m)
 covered_after marks more rest still p q keeps last (inr i) = by_part (in_either p (rest ++ q ∷ []) still i)
   where
-    by_last : IsIn p rest ⊎ (p ≡ q) → Covers more (rest ++ still) p
+    by_last : IsNumberIn p rest ⊎ (p ≡ q) → Covers more (rest ++ still) p
     by_last (inl r) = inr (in_front p rest still r)
     by_last (inr e) = last e
 
-    by_part : IsIn p (rest ++ q ∷ []) ⊎ IsIn p still → Covers more (rest ++ still) p
+    by_part : IsNumberIn p (rest ++ q ∷ []) ⊎ IsNumberIn p still → Covers more (rest ++ still) p
     by_part (inl f) = by_last (in_last p q rest f)
     by_part (inr s) = inr (in_back p rest still s)
 
 pub mark : {B : Type 0} (bodies : List (Draft B)) (goal : ℕ) (before : List Bool) (places : List ℕ) (marks : List Bool)
     (left rest still : List ℕ) (q : ℕ) →
-    left ≡ rest ++ q ∷ [] → q < length marks → some_use (leads marks goal) (uses_at bodies q) ≡ true →
+    left ≡ rest ++ q ∷ [] → q < length marks → some_use (leads_to_goal marks goal) (uses_at bodies q) ≡ true →
     State bodies goal before places marks left still → State bodies goal before places (set marks q true) rest still
 mark {B} bodies goal before places marks left rest still q e h leads_on s =
     record {
@@ -127,7 +128,7 @@ mark {B} bodies goal before places marks left rest still q e h leads_on s =
 
 pub keep : {B : Type 0} (bodies : List (Draft B)) (goal : ℕ) (before : List Bool) (places : List ℕ) (marks : List Bool)
     (left rest still : List ℕ) (q : ℕ) →
-    left ≡ rest ++ q ∷ [] → some_use (leads marks goal) (uses_at bodies q) ≡ false →
+    left ≡ rest ++ q ∷ [] → some_use (leads_to_goal marks goal) (uses_at bodies q) ≡ false →
     State bodies goal before places marks left still → State bodies goal before places marks rest (still ++ q ∷ [])
 keep {B} bodies goal before places marks left rest still q e quiet s =
     record {
@@ -145,24 +146,24 @@ keep {B} bodies goal before places marks left rest still q e quiet s =
     longer : length (still ++ q ∷ []) ≡ length still + 1
     longer = length-append still (q ∷ [])
 
-    by_last : (p : ℕ) → IsIn p rest ⊎ (p ≡ q) → IsIn p (rest ++ (still ++ q ∷ []))
+    by_last : (p : ℕ) → IsNumberIn p rest ⊎ (p ≡ q) → IsNumberIn p (rest ++ (still ++ q ∷ []))
     by_last p (inl r) = in_front p rest (still ++ q ∷ []) r
     by_last p (inr same) = in_back p rest (still ++ q ∷ []) (in_back p still (q ∷ []) (inl same))
 
-    by_part : (p : ℕ) → IsIn p (rest ++ q ∷ []) ⊎ IsIn p still → IsIn p (rest ++ (still ++ q ∷ []))
+    by_part : (p : ℕ) → IsNumberIn p (rest ++ q ∷ []) ⊎ IsNumberIn p still → IsNumberIn p (rest ++ (still ++ q ∷ []))
     by_part p (inl f) = by_last p (in_last p q rest f)
     by_part p (inr i) = in_back p rest (still ++ q ∷ []) (in_front p still (q ∷ []) i)
 
     kept : (p : ℕ) → Covers marks (left ++ still) p → Covers marks (rest ++ (still ++ q ∷ [])) p
     kept p (inl m) = inl m
     kept p (inr i) =
-        inr (by_part p (in_either p (rest ++ q ∷ []) still (subst (λ (xs : List ℕ). IsIn p (xs ++ still)) e i)))
+        inr (by_part p (in_either p (rest ++ q ∷ []) still (subst (λ (xs : List ℕ). IsNumberIn p (xs ++ still)) e i)))
 
-    still_quiet : (p : ℕ) → AreQuiet bodies goal marks still → IsIn p still ⊎ (p ≡ q)
-        → some_use (leads marks goal) (uses_at bodies p) ≡ false
+    still_quiet : (p : ℕ) → AreQuiet bodies goal marks still → IsNumberIn p still ⊎ (p ≡ q)
+        → some_use (leads_to_goal marks goal) (uses_at bodies p) ≡ false
     still_quiet p all (inl i) = all p i
     still_quiet p all (inr same) =
-        subst (λ (x : ℕ). some_use (leads marks goal) (uses_at bodies x) ≡ false) (sym same) quiet
+        subst (λ (x : ℕ). some_use (leads_to_goal marks goal) (uses_at bodies x) ≡ false) (sym same) quiet
 
 pub skip : {B : Type 0} (bodies : List (Draft B)) (goal : ℕ) (before : List Bool) (places : List ℕ) (marks : List Bool)
     (left rest still : List ℕ) (q : ℕ) →

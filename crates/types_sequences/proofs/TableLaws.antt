@@ -6,15 +6,16 @@ use Rattle.std.proofs.lemmas.Option.{slice_get-get_or, slice_get_past}
 use Rattle.std.proofs.lemmas.Bool.{cases_eq, cases_lt}
 use Rattle.assertions.specs.declared.sequence.Boolean.{Boolean}
 use Rattle.types_sequences.specs.declared.entry.Entry.{Entry}
-use Rattle.types_sequences.specs.Drafts.{Draft, IsIn, uses_at}
-use Rattle.types_sequences.specs.Entries.{Bodies, HasEntry, IsEntryOf, IsTable, is_entry, has_entry, LacksOne, Accounts}
+use Rattle.types_sequences.specs.Drafts.{Draft, IsNumberIn, uses_at}
+use Rattle.types_sequences.specs.Entries.{Bodies, HasEntry, IsEntryOf, IsEntryTable, is_entry, has_entry, LacksOne}
+use Rattle.types_sequences.specs.Entries.{Accounts}
 use Rattle.types_sequences.specs.Entries.{AllLack}
 use Rattle.types_sequences.proofs.InLaws.{in_front, in_back, in_either, in_last}
 
 pub record State (bodies : Bodies) (before : List (Option Entry)) (places : List ℕ) (table : List (Option Entry))
     (left still : List ℕ) : Type 0 where
   pub long : length table ≡ length before
-  pub entries : IsTable bodies before → IsTable bodies table
+  pub entries : IsEntryTable bodies before → IsEntryTable bodies table
   pub accounts : (p : ℕ) → p < length before → Accounts before places p → Accounts table (left ++ still) p
   pub fewer : length left + length still ≤ length places
   pub same : length left + length still ≡ length places → table ≡ before
@@ -44,7 +45,7 @@ got_other {A} xs p q y n = by_place (cases_lt p (length xs))
     by_place (inr h) = slice_get_past (set xs q y) p (rw (length-set xs q y) h) ∙ sym (slice_get_past xs p h)
 
 table_more : (bodies : Bodies) (table : List (Option Entry)) (q : ℕ) (e : Entry) → q < length table
-    → IsTable bodies table → IsEntryOf bodies q e → IsTable bodies (set table q (Some e))
+    → IsEntryTable bodies table → IsEntryOf bodies q e → IsEntryTable bodies (set table q (Some e))
 table_more bodies table q e h t made p f found = by_place (cases_eq p q)
   where
     by_place : (p ≡ q) ⊎ (p ≢ q) → IsEntryOf bodies p f
@@ -86,17 +87,17 @@ accounted_after : (table more : List (Option Entry)) (rest still : List ℕ) (p 
 accounted_after table more rest still p q keeps last (inl m) = inl (keeps m)
 accounted_after table more rest still p q keeps last (inr i) = by_part (in_either p (rest ++ q ∷ []) still i)
   where
-    by_last : IsIn p rest ⊎ (p ≡ q) → Accounts more (rest ++ still) p
+    by_last : IsNumberIn p rest ⊎ (p ≡ q) → Accounts more (rest ++ still) p
     by_last (inl r) = inr (in_front p rest still r)
     by_last (inr e) = last e
 
-    by_part : IsIn p (rest ++ q ∷ []) ⊎ IsIn p still → Accounts more (rest ++ still) p
+    by_part : IsNumberIn p (rest ++ q ∷ []) ⊎ IsNumberIn p still → Accounts more (rest ++ still) p
     by_part (inl f) = by_last (in_last p q rest f)
     by_part (inr s) = inr (in_back p rest still s)
 
 pub make : (bodies : Bodies) (before : List (Option Entry)) (places : List ℕ) (table : List (Option Entry))
     (left rest still : List ℕ) (q : ℕ) (e : Entry) →
-    left ≡ rest ++ q ∷ [] → q < length table → (IsTable bodies table → IsEntryOf bodies q e) →
+    left ≡ rest ++ q ∷ [] → q < length table → (IsEntryTable bodies table → IsEntryOf bodies q e) →
     State bodies before places table left still → State bodies before places (set table q (Some e)) rest still
 make bodies before places table left rest still q e cut h made s =
     record {
@@ -138,20 +139,21 @@ keep bodies before places table left rest still q cut lacks s =
     longer : length (still ++ q ∷ []) ≡ length still + 1
     longer = length-append still (q ∷ [])
 
-    by_last : (p : ℕ) → IsIn p rest ⊎ (p ≡ q) → IsIn p (rest ++ (still ++ q ∷ []))
+    by_last : (p : ℕ) → IsNumberIn p rest ⊎ (p ≡ q) → IsNumberIn p (rest ++ (still ++ q ∷ []))
     by_last p (inl r) = in_front p rest (still ++ q ∷ []) r
     by_last p (inr same) = in_back p rest (still ++ q ∷ []) (in_back p still (q ∷ []) (inl same))
 
-    by_part : (p : ℕ) → IsIn p (rest ++ q ∷ []) ⊎ IsIn p still → IsIn p (rest ++ (still ++ q ∷ []))
+    by_part : (p : ℕ) → IsNumberIn p (rest ++ q ∷ []) ⊎ IsNumberIn p still → IsNumberIn p (rest ++ (still ++ q ∷ []))
     by_part p (inl f) = by_last p (in_last p q rest f)
     by_part p (inr i) = in_back p rest (still ++ q ∷ []) (in_front p still (q ∷ []) i)
 
     kept : (p : ℕ) → Accounts table (left ++ still) p → Accounts table (rest ++ (still ++ q ∷ [])) p
     kept p (inl m) = inl m
     kept p (inr i) =
-        inr (by_part p (in_either p (rest ++ q ∷ []) still (subst (λ (xs : List ℕ). IsIn p (xs ++ still)) cut i)))
+        inr (by_part p (in_either p (rest ++ q ∷ []) still (subst (λ (xs : List ℕ). IsNumberIn p (xs ++ still)) cut i)))
 
-    still_lacks : (p : ℕ) → AllLack bodies table still → IsIn p still ⊎ (p ≡ q) → LacksOne table (uses_at bodies p)
+    still_lacks : (p : ℕ) → AllLack bodies table still → IsNumberIn p still ⊎ (p ≡ q)
+        → LacksOne table (uses_at bodies p)
     still_lacks p all (inl i) = all p i
     still_lacks p all (inr same) = subst (λ (x : ℕ). LacksOne table (uses_at bodies x)) (sym same) lacks
 

@@ -21,9 +21,9 @@ pub data Draft (B : Type 0) : Type 0 where
   throughout : (b : B) (r : Draft B) → Draft B
 
 -- one of the numbers
-abbrev pub IsIn : ℕ → List ℕ → Type 0
-IsIn p [] = ⊥
-IsIn p (q ∷ qs) = (p ≡ q) ⊎ IsIn p qs
+abbrev pub IsNumberIn : ℕ → List ℕ → Type 0
+IsNumberIn p [] = ⊥
+IsNumberIn p (q ∷ qs) = (p ≡ q) ⊎ IsNumberIn p qs
 
 -- the places of the names in it, as they are written
 abbrev pub uses : {B : Type 0} → Draft B → List ℕ
@@ -66,8 +66,8 @@ named_within bodies (suc depth) p =
     option_and_then (spelling_of (named_within bodies depth)) (slice_get bodies p)
 
 -- It is what is written, with the names written out.
-abbrev pub Spells : {B : Type 0} → List (Draft B) → Draft B → Written B → Type 0
-Spells bodies d w = (depth : ℕ) × (spelling_of (named_within bodies depth) d ≡ Some w)
+abbrev pub IsWrittenOut : {B : Type 0} → List (Draft B) → Draft B → Written B → Type 0
+IsWrittenOut bodies d w = (depth : ℕ) × (spelling_of (named_within bodies depth) d ≡ Some w)
 
 abbrev pub uses_of : {B : Type 0} → Option (Draft B) → List ℕ
 uses_of None = []
@@ -79,8 +79,9 @@ uses_at bodies p = uses_of (slice_get bodies p)
 
 -- The declaration at p reaches the one at q by so many more uses of names than one.
 abbrev pub reaches_by : {B : Type 0} → List (Draft B) → ℕ → ℕ → ℕ → Type 0
-reaches_by bodies zero p q = IsIn q (uses_at bodies p)
-reaches_by bodies (suc more) p q = (m : ℕ) × IsIn m (uses_at bodies p) × reaches_by bodies more m q
+reaches_by bodies zero p q = IsNumberIn q (uses_at bodies p)
+reaches_by bodies (suc more) p q = (m : ℕ) × IsNumberIn m (uses_at bodies p)
+    × reaches_by bodies more m q
 
 -- It reaches itself: written out it would have no end.
 abbrev pub IsCyclic : {B : Type 0} → List (Draft B) → ℕ → Type 0
@@ -92,4 +93,4 @@ SomeCyclic bodies = (p : ℕ) × (p < length bodies) × IsCyclic bodies p
 
 -- each name that the declaration at p uses is declared
 abbrev pub AllDeclared : {B : Type 0} → List (Draft B) → ℕ → Type 0
-AllDeclared bodies p = (q : ℕ) → IsIn q (uses_at bodies p) → q < length bodies
+AllDeclared bodies p = (q : ℕ) → IsNumberIn q (uses_at bodies p) → q < length bodies

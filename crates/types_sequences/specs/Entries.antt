@@ -12,7 +12,7 @@ use Rattle.assertions.specs.Shapes.{written_form}
 use Rattle.assertions.specs.Listed.{EachBoolean, IsUsed}
 use Rattle.types_sequences.specs.declared.facts.Facts.{Facts}
 use Rattle.types_sequences.specs.declared.entry.Entry.{Entry}
-use Rattle.types_sequences.specs.Drafts.{Draft, IsIn, named_within, Spells, uses_at}
+use Rattle.types_sequences.specs.Drafts.{Draft, IsNumberIn, named_within, IsWrittenOut, uses_at}
 use Rattle.types_sequences.specs.Trimmed.{IsTrimmed}
 
 -- the bodies of the named sequences, in the order of their declarations
@@ -47,7 +47,7 @@ HasSame w None = ⊥
 HasSame w (Some s) = SaysSame w (written_form s.value)
 
 -- The entry is that of what is written.
-pub record IsEntry (w : Written Boolean) (e : Entry) : Type 0 where
+pub record IsTheEntryOf (w : Written Boolean) (e : Entry) : Type 0 where
   pub ordered : IsOrdered w
   pub facts : IsFacts w e.facts
   pub same : weight w ≤ 127 → HasSame w e.sequence
@@ -57,17 +57,17 @@ pub record IsEntryOf (bodies : Bodies) (p : ℕ) (e : Entry) : Type 0 where
   pub meant : Written Boolean
   pub depth : ℕ
   pub named : named_within bodies depth p ≡ Some meant
-  pub entry : IsEntry meant e
+  pub entry : IsTheEntryOf meant e
 
 -- It stands for something, with the names written out, of which this is the entry.
 pub record HasEntry (bodies : Bodies) (d : Draft Boolean) (e : Entry) : Type 0 where
   pub meant : Written Boolean
-  pub spells : Spells bodies d meant
-  pub entry : IsEntry meant e
+  pub spells : IsWrittenOut bodies d meant
+  pub entry : IsTheEntryOf meant e
 
 -- Each entry of a table is that of the declaration at its place.
-abbrev pub IsTable : Bodies → List (Option Entry) → Type 0
-IsTable bodies table =
+abbrev pub IsEntryTable : Bodies → List (Option Entry) → Type 0
+IsEntryTable bodies table =
     (p : ℕ) (e : Entry) → slice_get table p ≡ Some (Some e) → IsEntryOf bodies p e
 
 -- whether there is an entry
@@ -82,13 +82,13 @@ has_entry table p = is_entry (slice_get table p)
 -- one of the names has no entry
 pub record LacksOne (table : List (Option Entry)) (names : List ℕ) : Type 0 where
   pub place : ℕ
-  pub used : IsIn place names
+  pub used : IsNumberIn place names
   pub lacking : has_entry table place ≡ false
 
 -- each of these has an entry or is left
 abbrev pub Accounts : List (Option Entry) → List ℕ → ℕ → Type 0
-Accounts table left p = (has_entry table p ≡ true) ⊎ IsIn p left
+Accounts table left p = (has_entry table p ≡ true) ⊎ IsNumberIn p left
 
 -- each of these lacks an entry of a name that it uses
 abbrev pub AllLack : Bodies → List (Option Entry) → List ℕ → Type 0
-AllLack bodies table left = (p : ℕ) → IsIn p left → LacksOne table (uses_at bodies p)
+AllLack bodies table left = (p : ℕ) → IsNumberIn p left → LacksOne table (uses_at bodies p)

@@ -19,13 +19,13 @@ leaves (intersect r s) = leaves r ++ leaves s
 leaves (throughout b r) = b ∷ leaves r
 
 -- the place of a boolean; the constant 1 has none
-abbrev pub place_in : Boolean → List ℕ
-place_in One = []
-place_in (Listed p) = p ∷ []
+abbrev pub place_listed : Boolean → List ℕ
+place_listed One = []
+place_listed (Listed p) = p ∷ []
 
 -- the places of a sequence's booleans, one for each that is written
-abbrev pub places_of : Written Boolean → List ℕ
-places_of w = flat_map place_in (leaves w)
+abbrev pub sequence_places : Written Boolean → List ℕ
+sequence_places w = flat_map place_listed (leaves w)
 
 abbrev pub is_one : Boolean → Bool
 is_one One = true

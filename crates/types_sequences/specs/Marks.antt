@@ -12,8 +12,8 @@ abbrev pub mark_at : List Bool → ℕ → Bool
 mark_at marks p = slice_index_or marks p false
 
 -- the goal, or a place with a mark
-abbrev pub leads : List Bool → ℕ → ℕ → Bool
-leads marks goal p = (p == goal) || mark_at marks p
+abbrev pub leads_to_goal : List Bool → ℕ → ℕ → Bool
+leads_to_goal marks goal p = (p == goal) || mark_at marks p
 
 -- whether each of the numbers is below the count
 abbrev pub all_below : ℕ → List ℕ → Bool

@@ -8,9 +8,9 @@ use Rattle.assertions.specs.Segments.{sat}
 use Rattle.assertions.specs.Written.{Written, kernel, weight, IsOrdered}
 use Rattle.assertions.specs.Shapes.{is_true_at, value_in}
 use Rattle.assertions.specs.Listed.{EachBoolean, IsUsed, IsListed}
-use Rattle.types_sequences.specs.Drafts.{IsIn}
+use Rattle.types_sequences.specs.Drafts.{IsNumberIn}
 use Rattle.types_sequences.specs.Entries.{Alike}
-use Rattle.types_sequences.specs.Leaves.{places_of, form_of}
+use Rattle.types_sequences.specs.Leaves.{sequence_places, form_of}
 
 -- whether a boolean that has its place among a suite's expressions is true at a tick
 abbrev pub atom_true : List Expr → Samples → Boolean → ℕ → Bool
@@ -19,8 +19,8 @@ atom_true booleans t (Listed p) k = is_true_at t (slice_get booleans p) k
 
 -- The second matches by an assertion's list of places what the first matches by the places among
 -- the suite's expressions, however much was seen.
-abbrev pub IsPlaced : List Expr → List ℕ → Written Boolean → Written Boolean → Type 0
-IsPlaced booleans places w u =
+abbrev pub MatchesByPlaces : List Expr → List ℕ → Written Boolean → Written Boolean → Type 0
+MatchesByPlaces booleans places w u =
     (t : Samples) (n : ℕ) → Alike (sat (atom_true booleans t) n)
     (sat (value_in booleans places t) n) (kernel One w) (kernel One u)
 
@@ -30,7 +30,7 @@ IsPlacedBoolean booleans places a b =
     (t : Samples) (k : ℕ) → atom_true booleans t a k ≡ value_in booleans places t b k
 
 -- more behind what was there
-pub record Extends {A : Type 0} (before after : List A) : Type 0 where
+pub record ExtendsPlaces {A : Type 0} (before after : List A) : Type 0 where
   pub added : List A
   pub is : after ≡ before ++ added
 
@@ -39,17 +39,17 @@ abbrev pub AllListed : List ℕ → Written Boolean → Type 0
 AllListed places w = EachBoolean (IsListed (length places)) w
 
 -- Each place behind was there before, or one of the sequence's booleans stands at it.
-abbrev pub Adds : Written Boolean → List ℕ → List ℕ → Type 0
-Adds w before after = (p : ℕ) → IsIn p after → IsIn p before ⊎ IsUsed (Listed p) w
+abbrev pub AddsPlaces : Written Boolean → List ℕ → List ℕ → Type 0
+AddsPlaces w before after = (p : ℕ) → IsNumberIn p after → IsNumberIn p before ⊎ IsUsed (Listed p) w
 
 -- Behind the places that there were, each boolean of the first sequence has one of its own, by
 -- which the second says the same, in the same form, and weighs as much.
 pub record ArePlaced (before after : List ℕ) (w u : Written Boolean) : Type 0 where
-  pub grows : Extends before after
-  pub placed : (booleans : List Expr) (more : List ℕ) → IsPlaced booleans (after ++ more) w u
+  pub grows : ExtendsPlaces before after
+  pub placed : (booleans : List Expr) (more : List ℕ) → MatchesByPlaces booleans (after ++ more) w u
   pub weighs : weight u ≡ weight w
   pub ordered : IsOrdered w → IsOrdered u
   pub listed : AllListed after u
-  pub own : Adds w before after
-  pub list : after ≡ before ++ places_of w
+  pub own : AddsPlaces w before after
+  pub list : after ≡ before ++ sequence_places w
   pub form : form_of u ≡ form_of w

@@ -1,7 +1,7 @@
 -- Marks on declarations that reach a goal.
 use Rattle.std.specs.Prelude.{◌≡◌, ◌⊎◌, ℕ, List, Bool, true, false}
-use Rattle.types_sequences.specs.Drafts.{Draft, IsIn, uses_at, reaches_by}
-use Rattle.types_sequences.specs.Marks.{some_use, mark_at, leads}
+use Rattle.types_sequences.specs.Drafts.{Draft, IsNumberIn, uses_at, reaches_by}
+use Rattle.types_sequences.specs.Marks.{some_use, mark_at, leads_to_goal}
 
 -- the declaration at p reaches the goal
 abbrev pub Reaches : {B : Type 0} → List (Draft B) → ℕ → ℕ → Type 0
@@ -13,9 +13,9 @@ AreSound bodies goal marks = (p : ℕ) → mark_at marks p ≡ true → Reaches 
 
 -- each of these has a mark or is left
 abbrev pub Covers : List Bool → List ℕ → ℕ → Type 0
-Covers marks left p = (mark_at marks p ≡ true) ⊎ IsIn p left
+Covers marks left p = (mark_at marks p ≡ true) ⊎ IsNumberIn p left
 
 -- none of these uses the goal or a mark
 abbrev pub AreQuiet : {B : Type 0} → List (Draft B) → ℕ → List Bool → List ℕ → Type 0
 AreQuiet bodies goal marks left =
-    (p : ℕ) → IsIn p left → some_use (leads marks goal) (uses_at bodies p) ≡ false
+    (p : ℕ) → IsNumberIn p left → some_use (leads_to_goal marks goal) (uses_at bodies p) ≡ false

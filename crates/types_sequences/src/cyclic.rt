@@ -2,9 +2,9 @@
 
 ghost use Rattle.std.specs.Prelude.{◌≡◌, ◌<◌, ◌≤◌, ◌↔◌, ◌⊎◌, ℕ, true, false, map, length, IsTrue};
 ghost use Rattle.std.specs.Prelude.{IfOk, OnOk};
-ghost use Rattle.types_sequences.specs.Drafts.{IsIn, uses, uses_at, IsCyclic};
+ghost use Rattle.types_sequences.specs.Drafts.{IsNumberIn, uses, uses_at, IsCyclic};
 ghost use Rattle.types_sequences.specs.Views.{draft_of};
-ghost use Rattle.types_sequences.specs.Marks.{some_use, mark_at, leads};
+ghost use Rattle.types_sequences.specs.Marks.{some_use, mark_at, leads_to_goal};
 ghost use Rattle.types_sequences.specs.Sweeps.{AreSound, Covers, AreQuiet};
 
 use crate::draft::Draft;
@@ -12,7 +12,7 @@ use std::alloc::{AllocError, Global};
 
 /// Whether the draft uses the goal's name, or one with a mark.
 fn leads_on(draft: &Draft, marks: &[bool], goal: usize) -> bool
-    ensures { result ≡ some_use (leads marks.now goal) (uses (draft_of draft.now)) }
+    ensures { result ≡ some_use (leads_to_goal marks.now goal) (uses (draft_of draft.now)) }
 {
     match draft {
         Draft::One => false,
@@ -34,7 +34,8 @@ fn leads_on(draft: &Draft, marks: &[bool], goal: usize) -> bool
 
 /// Whether the declaration at a place uses the goal's name, or one with a mark.
 fn place_leads(bodies: &[Draft], place: usize, marks: &[bool], goal: usize) -> bool
-    ensures { result ≡ some_use (leads marks.now goal) (uses_at (map draft_of bodies.now) place) }
+    ensures { result
+        ≡ some_use (leads_to_goal marks.now goal) (uses_at (map draft_of bodies.now) place) }
 {
     match bodies.get(place) {
         None => false,
@@ -87,7 +88,7 @@ fn no_marks(alloc: Global, count: usize) -> Result<Vec<bool>, AllocError>
 
 /// The places below the count.
 pub(crate) fn all_places(alloc: Global, count: usize) -> Result<Vec<usize>, AllocError>
-    ensures { IfOk result (λ places. (p : ℕ) → p < count → IsIn p places.items) }
+    ensures { IfOk result (λ places. (p : ℕ) → p < count → IsNumberIn p places.items) }
 {
     let mut places = Vec::with_capacity(alloc, count)?;
     for place in 0..count {

@@ -1,7 +1,7 @@
 //! Whether names are declared.
 
 ghost use Rattle.std.specs.Prelude.{◌≡◌, ◌<◌, ◌↔◌, ℕ, map, length, IsTrue};
-ghost use Rattle.types_sequences.specs.Drafts.{IsIn, uses, AllDeclared};
+ghost use Rattle.types_sequences.specs.Drafts.{IsNumberIn, uses, AllDeclared};
 ghost use Rattle.types_sequences.specs.Views.{draft_of};
 ghost use Rattle.types_sequences.specs.Marks.{all_below};
 

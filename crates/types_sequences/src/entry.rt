@@ -6,7 +6,7 @@ ghost use Rattle.assertions.specs.declared.sequence.Boolean.TheVariants.{Listed}
 ghost use Rattle.assertions.specs.Written.{Written, boolean, delay, lead, repeat, or, and};
 ghost use Rattle.assertions.specs.Written.{intersect};
 ghost use Rattle.assertions.specs.Written.{throughout, weight, IsOrdered};
-ghost use Rattle.types_sequences.specs.Entries.{IsFacts, HasSame, IsEntry};
+ghost use Rattle.types_sequences.specs.Entries.{IsFacts, HasSame, IsTheEntryOf};
 
 use crate::facts::Facts;
 use crate::make::{
@@ -31,7 +31,7 @@ fn entry_with(
     sequence: Option<Box<Sequence>>,
 ) -> Result<Entry, AllocError>
     ensures { IfOk result (λ e. (w : Written Boolean) → IsOrdered w → IsFacts w facts
-        → (1 ≤ weight w → weight w ≤ 127 → HasSame w sequence) → IsEntry w e) }
+        → (1 ≤ weight w → weight w ≤ 127 → HasSame w sequence) → IsTheEntryOf w e) }
 {
     if facts.weight == 0 {
         let sequence = Some(weightless(alloc, facts.empty)?);
@@ -49,7 +49,7 @@ fn entry_with(
 impl Entry {
     /// Of a boolean.
     pub(crate) fn boolean(alloc: Global, which: Boolean) -> Result<Entry, AllocError>
-        ensures { IfOk result (IsEntry (boolean which)) }
+        ensures { IfOk result (IsTheEntryOf (boolean which)) }
     {
         let leaf = Box::new(alloc, Sequence::Boolean(which))?;
         Ok(Entry {
@@ -60,7 +60,8 @@ impl Entry {
 
     /// A copy.
     pub(crate) fn copy(&self, alloc: Global) -> Result<Entry, AllocError>
-        ensures { IfOk result (λ e. (w : Written Boolean) → IsEntry w self.now → IsEntry w e) }
+        ensures { IfOk result
+            (λ e. (w : Written Boolean) → IsTheEntryOf w self.now → IsTheEntryOf w e) }
     {
         let facts = self.facts;
         let Some(sequence) = &self.sequence else {
@@ -81,8 +82,9 @@ impl Entry {
         extra: u8,
         second: Entry,
     ) -> Result<Entry, AllocError>
-        ensures { IfOk result (λ e. (v w : Written Boolean) → IsEntry v self → IsEntry w second
-            → IsEntry (delay v least (least + extra) w) e) }
+        ensures { IfOk result
+            (λ e. (v w : Written Boolean) → IsTheEntryOf v self → IsTheEntryOf w second
+            → IsTheEntryOf (delay v least (least + extra) w) e) }
     {
         let facts = self.facts.delay(least, extra, second.facts);
         let most = least as usize + extra as usize;
@@ -92,8 +94,8 @@ impl Entry {
 
     /// Of `##[least:least + extra] self`, with nothing before it.
     pub(crate) fn lead(self, alloc: Global, least: u8, extra: u8) -> Result<Entry, AllocError>
-        ensures { IfOk result (λ e. (w : Written Boolean) → IsEntry w self
-            → IsEntry (lead least (least + extra) w) e) }
+        ensures { IfOk result (λ e. (w : Written Boolean) → IsTheEntryOf w self
+            → IsTheEntryOf (lead least (least + extra) w) e) }
     {
         let facts = self.facts.lead(least, extra);
         let most = least as usize + extra as usize;
@@ -103,8 +105,8 @@ impl Entry {
 
     /// Of `self[*least:least + extra]`.
     pub(crate) fn repeat(self, alloc: Global, least: u8, extra: u8) -> Result<Entry, AllocError>
-        ensures { IfOk result (λ e. (w : Written Boolean) → IsEntry w self
-            → IsEntry (repeat w least (least + extra)) e) }
+        ensures { IfOk result (λ e. (w : Written Boolean) → IsTheEntryOf w self
+            → IsTheEntryOf (repeat w least (least + extra)) e) }
     {
         let facts = self.facts.repeat(least, extra);
         let most = least as usize + extra as usize;
@@ -114,8 +116,9 @@ impl Entry {
 
     /// Of `self or second`.
     pub(crate) fn or(self, alloc: Global, second: Entry) -> Result<Entry, AllocError>
-        ensures { IfOk result (λ e. (v w : Written Boolean) → IsEntry v self → IsEntry w second
-            → IsEntry (or v w) e) }
+        ensures { IfOk result
+            (λ e. (v w : Written Boolean) → IsTheEntryOf v self → IsTheEntryOf w second
+            → IsTheEntryOf (or v w) e) }
     {
         let facts = self.facts.or(second.facts);
         let sequence = either(alloc, self.sequence, second.sequence)?;
@@ -124,8 +127,9 @@ impl Entry {
 
     /// Of `self and second`.
     pub(crate) fn and(self, alloc: Global, second: Entry) -> Result<Entry, AllocError>
-        ensures { IfOk result (λ e. (v w : Written Boolean) → IsEntry v self → IsEntry w second
-            → IsEntry (and v w) e) }
+        ensures { IfOk result
+            (λ e. (v w : Written Boolean) → IsTheEntryOf v self → IsTheEntryOf w second
+            → IsTheEntryOf (and v w) e) }
     {
         let facts = self.facts.and(second.facts);
         let sequence = both(alloc, self.sequence, second.sequence)?;
@@ -134,8 +138,9 @@ impl Entry {
 
     /// Of `self intersect second`.
     pub(crate) fn intersect(self, alloc: Global, second: Entry) -> Result<Entry, AllocError>
-        ensures { IfOk result (λ e. (v w : Written Boolean) → IsEntry v self → IsEntry w second
-            → IsEntry (intersect v w) e) }
+        ensures { IfOk result
+            (λ e. (v w : Written Boolean) → IsTheEntryOf v self → IsTheEntryOf w second
+            → IsTheEntryOf (intersect v w) e) }
     {
         let facts = self.facts.intersect(second.facts);
         let sequence = meet(alloc, self.sequence, second.sequence)?;
@@ -144,8 +149,8 @@ impl Entry {
 
     /// Of a boolean throughout `self`.
     pub(crate) fn throughout(self, alloc: Global, place: usize) -> Result<Entry, AllocError>
-        ensures { IfOk result (λ e. (w : Written Boolean) → IsEntry w self
-            → IsEntry (throughout (Listed place) w) e) }
+        ensures { IfOk result (λ e. (w : Written Boolean) → IsTheEntryOf w self
+            → IsTheEntryOf (throughout (Listed place) w) e) }
     {
         let facts = self.facts;
         let sequence = throughout(alloc, Boolean::Listed(place), self.sequence)?;

@@ -6,9 +6,10 @@ ghost use Rattle.assertions.specs.Shapes.{written_form};
 ghost use Rattle.assertions.specs.Listed.{IsListed};
 ghost use Rattle.assertions.specs.Written as written;
 ghost use Rattle.assertions.specs.Written.{weight, IsOrdered};
-ghost use Rattle.types_sequences.specs.Placed.{IsPlaced, IsPlacedBoolean, Extends, AllListed, Adds};
+ghost use Rattle.types_sequences.specs.Placed.{MatchesByPlaces, IsPlacedBoolean, ExtendsPlaces};
+ghost use Rattle.types_sequences.specs.Placed.{AllListed, AddsPlaces};
 ghost use Rattle.types_sequences.specs.Placed.{ArePlaced};
-ghost use Rattle.types_sequences.specs.Leaves.{places_of, is_one, form_of};
+ghost use Rattle.types_sequences.specs.Leaves.{sequence_places, is_one, form_of};
 
 use crate::make::boxed;
 use assertions::{Boolean, Sequence};
@@ -17,13 +18,14 @@ use std::alloc::{AllocError, Global};
 /// A boolean with a place of its own in an assertion's list.
 #[tactic(auto, using(crate::proofs::PlacedLaws::of_pushed))]
 pub fn place_boolean(boolean: Boolean, places: &mut Vec<usize>) -> Result<Boolean, AllocError>
-    ensures grows { OnOk result (Extends places.old.items places.new.items) }
+    ensures grows { OnOk result (ExtendsPlaces places.old.items places.new.items) }
     ensures placed { (booleans : List Expr) (more : List ℕ)
         → IfOk result (λ b. IsPlacedBoolean booleans (places.new.items ++ more) boolean b) }
     ensures listed { IfOk result (IsListed (length places.new.items)) }
-    ensures own { OnOk result (Adds (written.boolean boolean) places.old.items places.new.items) }
+    ensures own { OnOk result
+        (AddsPlaces (written.boolean boolean) places.old.items places.new.items) }
     ensures list { OnOk result (places.new.items
-        ≡ places.old.items ++ places_of (written.boolean boolean)) }
+        ≡ places.old.items ++ sequence_places (written.boolean boolean)) }
     ensures form { IfOk result (λ b. is_one b ≡ is_one boolean) }
 {
     match boolean {
@@ -93,18 +95,19 @@ pub fn place_sequence(
     sequence: &Sequence,
     places: &mut Vec<usize>,
 ) -> Result<Box<Sequence>, AllocError>
-    ensures grows { OnOk result (Extends places.old.items places.new.items) }
+    ensures grows { OnOk result (ExtendsPlaces places.old.items places.new.items) }
     ensures placed { (booleans : List Expr) (more : List ℕ)
-        → IfOk result (λ b. IsPlaced booleans
+        → IfOk result (λ b. MatchesByPlaces booleans
         (places.new.items ++ more) (written_form sequence.now) (written_form b.value)) }
     ensures weighs { IfOk result (λ b. weight (written_form b.value)
         ≡ weight (written_form sequence.now)) }
     ensures ordered { IfOk result (λ b. IsOrdered (written_form sequence.now)
         → IsOrdered (written_form b.value)) }
     ensures listed { IfOk result (λ b. AllListed places.new.items (written_form b.value)) }
-    ensures own { OnOk result (Adds (written_form sequence.now) places.old.items places.new.items) }
+    ensures own { OnOk result
+        (AddsPlaces (written_form sequence.now) places.old.items places.new.items) }
     ensures list { OnOk result (places.new.items
-        ≡ places.old.items ++ places_of (written_form sequence.now)) }
+        ≡ places.old.items ++ sequence_places (written_form sequence.now)) }
     ensures form { IfOk result (λ b. form_of (written_form b.value)
         ≡ form_of (written_form sequence.now)) }
 {

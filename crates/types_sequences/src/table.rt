@@ -5,7 +5,8 @@ ghost use Rattle.std.specs.Prelude.{OnOk, IfNone, IfSome, Some, slice_set};
 ghost use Rattle.types_sequences.specs.Drafts.{name, uses, uses_at, AllDeclared};
 ghost use Rattle.types_sequences.specs.Cycles.{ReachesCycle};
 ghost use Rattle.types_sequences.specs.Views.{draft_of};
-ghost use Rattle.types_sequences.specs.Entries.{Bodies, HasEntry, IsEntryOf, IsTable, LacksOne};
+ghost use Rattle.types_sequences.specs.Entries.{Bodies, HasEntry, IsEntryOf, IsEntryTable};
+ghost use Rattle.types_sequences.specs.Entries.{LacksOne};
 ghost use Rattle.types_sequences.specs.Entries.{Accounts, AllLack, has_entry};
 
 use crate::cyclic::all_places;
@@ -21,7 +22,8 @@ fn entry_at(
     place: usize,
 ) -> Result<Option<Entry>, AllocError>
     ensures lacking { IfOk result (λ o. IfNone o (has_entry table.now place ≡ false)) }
-    ensures entry { IfOk result (λ o. IfSome o (λ e. (bodies : Bodies) → IsTable bodies table.now
+    ensures entry { IfOk result
+        (λ o. IfSome o (λ e. (bodies : Bodies) → IsEntryTable bodies table.now
         → HasEntry bodies (name place) e)) }
 {
     match table.get(place) {
@@ -38,7 +40,8 @@ pub fn entry_of(
     table: &[Option<Entry>],
 ) -> Result<Option<Entry>, AllocError>
     ensures lacking { IfOk result (λ o. IfNone o (LacksOne table.now (uses (draft_of draft.now)))) }
-    ensures entry { IfOk result (λ o. IfSome o (λ e. (bodies : Bodies) → IsTable bodies table.now
+    ensures entry { IfOk result
+        (λ o. IfSome o (λ e. (bodies : Bodies) → IsEntryTable bodies table.now
         → HasEntry bodies (draft_of draft.now) e)) }
 {
     match draft {
@@ -113,7 +116,8 @@ fn body_entry(
     requires { place < length bodies.now }
     ensures lacking { IfOk result (λ o. IfNone o
         (LacksOne table.now (uses_at (map draft_of bodies.now) place))) }
-    ensures entry { IfOk result (λ o. IfSome o (λ e. IsTable (map draft_of bodies.now) table.now
+    ensures entry { IfOk result
+        (λ o. IfSome o (λ e. IsEntryTable (map draft_of bodies.now) table.now
         → IsEntryOf (map draft_of bodies.now) place e)) }
 {
     entry_of(alloc, &bodies[place], table)
@@ -137,8 +141,8 @@ fn sweep(
 ) -> Result<Vec<usize>, AllocError>
     requires long { length table.old.items ≡ length bodies.now }
     ensures long { length table.new.items ≡ length table.old.items }
-    ensures entries { IsTable (map draft_of bodies.now) table.old.items
-        → IsTable (map draft_of bodies.now) table.new.items }
+    ensures entries { IsEntryTable (map draft_of bodies.now) table.old.items
+        → IsEntryTable (map draft_of bodies.now) table.new.items }
     ensures accounts { IfOk result (λ still. (p : ℕ) → p < length bodies.now
         → Accounts table.old.items places.items p → Accounts table.new.items still.items p) }
     ensures fewer { IfOk result (λ still. length still.items ≤ length places.items) }
@@ -178,7 +182,7 @@ fn no_entries(alloc: Global, count: usize) -> Result<Vec<Option<Entry>>, AllocEr
 pub fn resolve(alloc: Global, bodies: &[Draft]) -> Result<Vec<Option<Entry>>, AllocError>
     requires { (p : ℕ) → AllDeclared (map draft_of bodies.now) p }
     ensures long { IfOk result (λ table. length table.items ≡ length bodies.now) }
-    ensures entries { IfOk result (λ table. IsTable (map draft_of bodies.now) table.items) }
+    ensures entries { IfOk result (λ table. IsEntryTable (map draft_of bodies.now) table.items) }
     ensures cyclic { IfOk result (λ table. (p : ℕ) → p < length bodies.now
         → has_entry table.items p ≡ false → ReachesCycle (map draft_of bodies.now) p) }
 {

@@ -8,7 +8,7 @@ use Rattle.types_sequences.specs.declared.draft.Draft.{Draft as Tree}
 use Rattle.types_sequences.specs.Drafts.{Draft}
 use Rattle.types_sequences.specs.Views.{draft_of}
 use Rattle.types_names.specs.Scopes.{Scope}
-use Rattle.types_sequences.specs.Placed.{Extends}
+use Rattle.types_sequences.specs.Placed.{ExtendsPlaces}
 use Rattle.types_suites.specs.Readings.{Dot, outline, Reads, AllRead}
 use Rattle.types_suites.specs.Texts.{declarations_of}
 use Rattle.types_suites.specs.Readings.{outlines_of}
@@ -19,7 +19,7 @@ use Rattle.types_suites.proofs.OutlineLaws.{dotted, all_grow_on, all_long, all_o
 abbrev pub bodies_in : List DeclarationForm → List SequenceForm
 bodies_in ds = map (λ d. d.body) ds
 
-module _ (s : Scope) (cs : List (List ℕ)) (now next : List Expr) (more : Extends now next) where
+module _ (s : Scope) (cs : List (List ℕ)) (now next : List Expr) (more : ExtendsPlaces now next) where
   read_more : (ds : List DeclarationForm) (made : List (Draft Boolean)) (x : DeclarationForm) (d : Draft Boolean)
       → AllRead s cs now (bodies_in ds) made → Reads s cs next x.body d →
       AllRead s cs next (bodies_in (ds ++ x ∷ [])) (made ++ d ∷ [])

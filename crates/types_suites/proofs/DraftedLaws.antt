@@ -6,7 +6,7 @@ use Rattle.assertions.specs.declared.sequence.Boolean.{Boolean}
 use Rattle.assertions.specs.declared.sequence.Boolean.TheVariants.{Listed}
 use Rattle.types_sequences.specs.Drafts.{Draft}
 use Rattle.types_names.specs.Scopes.{Scope}
-use Rattle.types_sequences.specs.Placed.{Extends}
+use Rattle.types_sequences.specs.Placed.{ExtendsPlaces}
 use Rattle.types_suites.specs.Suites.{ReadsAntecedent, ReadsConsequent}
 use Rattle.types_suites.specs.Suites.{IsDisabledBy}
 use Rattle.types_suites.specs.Drafted.{IsDraftedAssertion}
@@ -14,7 +14,7 @@ use Rattle.types_suites.specs.declared.drafted_assertion.DraftedAssertion.{Draft
 use Rattle.types_suites.proofs.ReadingLaws.{reads_grows, atom_grows}
 use Rattle.parser_grammar.specs.Trees as trees
 
-module _ (s : Scope) (cs : List (List ℕ)) (now next : List Expr) (more : Extends now next) where
+module _ (s : Scope) (cs : List (List ℕ)) (now next : List Expr) (more : ExtendsPlaces now next) where
   pub antecedent_grows : (p : PropertyForm) (d : Draft Boolean) → ReadsAntecedent s cs now p d
       → ReadsAntecedent s cs next p d
   antecedent_grows (plain q) d h = h

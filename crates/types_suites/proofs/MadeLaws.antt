@@ -17,9 +17,10 @@ use Rattle.assertions.specs.Written.{Written, boolean, weight, IsOrdered}
 use Rattle.assertions.specs.Shapes.{written_form}
 use Rattle.types_sequences.specs.declared.entry.Entry.{Entry}
 use Rattle.assertions.specs.Listed.{IsUsed, IsListed, IsListedOption}
-use Rattle.types_sequences.specs.Drafts.{Draft, IsIn}
-use Rattle.types_sequences.specs.Entries.{HasEntry, HasSame, SaysSame, IsUsedOrOne, IsEntry}
-use Rattle.types_sequences.specs.Placed.{IsPlaced, IsPlacedBoolean, atom_true, Extends, AllListed, Adds}
+use Rattle.types_sequences.specs.Drafts.{Draft, IsNumberIn}
+use Rattle.types_sequences.specs.Entries.{HasEntry, HasSame, SaysSame, IsUsedOrOne, IsTheEntryOf}
+use Rattle.types_sequences.specs.Placed.{MatchesByPlaces, IsPlacedBoolean, atom_true, ExtendsPlaces, AllListed}
+use Rattle.types_sequences.specs.Placed.{AddsPlaces}
 use Rattle.types_sequences.proofs.UsedLaws.{each_used}
 use Rattle.types_sequences.proofs.PlacedLaws.{listed_on}
 use Rattle.types_names.specs.Scopes.{Scope}
@@ -28,7 +29,7 @@ use Rattle.types_suites.specs.Suites.{IsMeant, IsDisabling, IsDisablingPlace, Is
 use Rattle.types_suites.specs.Suites.{IsDisabledBy, off_places}
 use Rattle.types_suites.specs.Resolved.{IsResolved, AreResolved}
 use Rattle.types_suites.specs.Made.{IsFitting, IsSide, IsPlacedAt, AreAt, kept_by, kept_of}
-use Rattle.types_sequences.specs.Leaves.{places_of, form_of}
+use Rattle.types_sequences.specs.Leaves.{sequence_places, form_of}
 use Rattle.types_sequences.specs.Trimmed.{IsTrimmed}
 
 -- two things of what a call gives, and what follows from one that isn't of it
@@ -48,7 +49,7 @@ fits_none e f none =
     subst (λ (o : Option (Box Sequence Global)). HasSame f.meant o) none (f.entry.same light)
 
 -- and it says what is meant
-pub fits_says : (e : Entry) (x : Box Sequence Global) (w : Written Boolean) → e.facts.weight ≤ 127 → IsEntry w e
+pub fits_says : (e : Entry) (x : Box Sequence Global) (w : Written Boolean) → e.facts.weight ≤ 127 → IsTheEntryOf w e
     → e.sequence ≡ Some x → SaysSame w (written_form x.value)
 fits_says e x w low h is =
     let light : weight w ≤ 127 = omega (arith, h.facts.weighs, low) in
@@ -62,8 +63,8 @@ fits_light e x f is =
 
 -- What is placed of what an entry says is what is meant, by booleans of the list.
 pub side_of : (booleans : List Expr) (places more : List ℕ) (e : Entry) (x : Box Sequence Global)
-    (w made : Written Boolean) → e.facts.weight ≤ 127 → e.sequence ≡ Some x → IsEntry w e →
-    IsPlaced booleans (places ++ more) (written_form x.value) made →
+    (w made : Written Boolean) → e.facts.weight ≤ 127 → e.sequence ≡ Some x → IsTheEntryOf w e →
+    MatchesByPlaces booleans (places ++ more) (written_form x.value) made →
     AllListed places made → form_of made ≡ form_of (written_form x.value) →
     IsSide booleans (places ++ more) w (kept_of e) made
 side_of booleans places more e x w made low is h p listed form =
@@ -81,9 +82,9 @@ side_of booleans places more e x w made low is h p listed form =
 
 -- and the list behind it
 pub list_by : (before after : List ℕ) (e : Entry) (x : Box Sequence Global) → e.sequence ≡ Some x →
-    after ≡ before ++ places_of (written_form x.value) → after ≡ before ++ places_of (kept_of e)
+    after ≡ before ++ sequence_places (written_form x.value) → after ≡ before ++ sequence_places (kept_of e)
 list_by before after e x is h =
-    h ∙ ap (λ (u : Written Boolean). before ++ places_of u) (sym (ap kept_by is))
+    h ∙ ap (λ (u : Written Boolean). before ++ sequence_places u) (sym (ap kept_by is))
 
 -- Only its booleans have places.
 meant_too : (w : Written Boolean) (p : ℕ) → IsUsedOrOne w (Listed p) → IsUsed (Listed p) w
@@ -91,8 +92,8 @@ meant_too w p (inl u) = u
 meant_too w p (inr is) = absurd cc
 
 pub used_by : (before after : List ℕ) (e : Entry) (x : Box Sequence Global) (w : Written Boolean) →
-    e.facts.weight ≤ 127 → e.sequence ≡ Some x → IsEntry w e →
-    Adds (written_form x.value) before after → Adds w before after
+    e.facts.weight ≤ 127 → e.sequence ≡ Some x → IsTheEntryOf w e →
+    AddsPlaces (written_form x.value) before after → AddsPlaces w before after
 used_by before after e x w low is h f p i =
     let says = fits_says e x w low h is in
     elim (f p i) [
@@ -102,13 +103,13 @@ used_by before after e x w low is h f p i =
 
 -- It stays so behind more places.
 pub side_here : (e : List Expr) (w kept made : Written Boolean) (first second : List ℕ) →
-    Extends first second → ((more : List ℕ) → IsSide e (first ++ more) w kept made) →
+    ExtendsPlaces first second → ((more : List ℕ) → IsSide e (first ++ more) w kept made) →
     IsSide e second w kept made
 side_here e w kept made first second x f =
     subst (λ (ps : List ℕ). IsSide e ps w kept made) (sym x.is) (f x.added)
 
 pub side_on : (e : List Expr) (w kept made : Written Boolean) (first second third : List ℕ) →
-    Extends first second → Extends second third →
+    ExtendsPlaces first second → ExtendsPlaces second third →
     ((more : List ℕ) → IsSide e (first ++ more) w kept made) → IsSide e third w kept made
 side_on e w kept made first second third x y f =
     let is : first ++ (x.added ++ y.added) ≡ third =
@@ -125,15 +126,15 @@ listed_too places place n One same h =
     absurd cc
 listed_too places place n (Listed i) same h = h
 
-pub at_own : (place : ℕ) (before after : List ℕ) → Adds (boolean (Listed place)) before after →
+pub at_own : (place : ℕ) (before after : List ℕ) → AddsPlaces (boolean (Listed place)) before after →
     AreAt (Some place) before after
 at_own place before after f p i =
     elim (f p i) [ inl there ↦ inl there | inr is ↦ inr (let e : p ≡ place = cc in ap Some (sym e)) ]
 
 -- Each place is one of the two sides' or the disabling one, where none was there at first.
 pub places_used : (start first second third : List ℕ) (v w : Written Boolean) (o : Option ℕ) →
-    start ≡ [] → Adds v start first → Adds w first second → AreAt o second third →
-    (p : ℕ) → IsIn p third → IsUsed (Listed p) v ⊎ (IsUsed (Listed p) w ⊎ (o ≡ Some p))
+    start ≡ [] → AddsPlaces v start first → AddsPlaces w first second → AreAt o second third →
+    (p : ℕ) → IsNumberIn p third → IsUsed (Listed p) v ⊎ (IsUsed (Listed p) w ⊎ (o ≡ Some p))
 places_used start first second third v w o none f g h p i =
     elim (h p i) [
       | inr off ↦ inr (inr off)
@@ -141,20 +142,20 @@ places_used start first second third v w o none f g h p i =
         | inr u ↦ inr (inl u)
         | inl k ↦ elim (f p k) [
           | inr u ↦ inl u
-          | inl l ↦ absurd (subst (λ (ps : List ℕ). IsIn p ps) none l)
+          | inl l ↦ absurd (subst (λ (ps : List ℕ). IsNumberIn p ps) none l)
         ]
       ]
     ]
 
 -- the list behind both sides and the disabling place, where none was there at first
 pub list_whole : (start first second third : List ℕ) (v w : Written Boolean) (o : Option ℕ) →
-    start ≡ [] → first ≡ start ++ places_of v → second ≡ first ++ places_of w →
-    third ≡ second ++ off_places o → third ≡ places_of v ++ (places_of w ++ off_places o)
+    start ≡ [] → first ≡ start ++ sequence_places v → second ≡ first ++ sequence_places w →
+    third ≡ second ++ off_places o → third ≡ sequence_places v ++ (sequence_places w ++ off_places o)
 list_whole start first second third v w o none f g h =
     h ∙ ap (λ (ps : List ℕ). ps ++ off_places o) g
-    ∙ ap (λ (ps : List ℕ). (ps ++ places_of w) ++ off_places o)
-    (f ∙ ap (λ (ps : List ℕ). ps ++ places_of v) none)
-    ∙ append_assoc (places_of v) (places_of w) (off_places o)
+    ∙ ap (λ (ps : List ℕ). (ps ++ sequence_places w) ++ off_places o)
+    (f ∙ ap (λ (ps : List ℕ). ps ++ sequence_places v) none)
+    ∙ append_assoc (sequence_places v) (sequence_places w) (off_places o)
 
 module _ (s : Scope) (cs : List (List ℕ)) (e : List Expr) where
   disabling_made : (places : List ℕ) (t : Option Tree) (p : Option ℕ) (b : Option Boolean) → IsDisabledBy s cs e t p
@@ -183,8 +184,8 @@ module _ (s : Scope) (cs : List (List ℕ)) (e : List Expr) where
           meant = h.meant;
           spells = h.spells;
           placed =
-              subst (λ (u : Written Boolean). IsPlaced e spots h.meant u) (sym is)
-              (subst (λ (ps : List ℕ). IsPlaced e ps h.meant w) (sym list) side.placed);
+              subst (λ (u : Written Boolean). MatchesByPlaces e spots h.meant u) (sym is)
+              (subst (λ (ps : List ℕ). MatchesByPlaces e ps h.meant w) (sym list) side.placed);
           listed =
               subst (λ (u : Written Boolean). AllListed spots u) (sym is)
               (subst (λ (ps : List ℕ). AllListed ps w) (sym list) side.listed);
@@ -203,9 +204,9 @@ module _ (s : Scope) (cs : List (List ℕ)) (e : List Expr) where
         IsSide e places r.antecedent_entry.meant before_kept first →
         IsSide e places r.consequent_entry.meant behind_kept second →
         IsPlacedAt e places m.disabling b →
-        ((p : ℕ) → IsIn p places → IsUsed (Listed p) r.antecedent_entry.meant
+        ((p : ℕ) → IsNumberIn p places → IsUsed (Listed p) r.antecedent_entry.meant
         ⊎ (IsUsed (Listed p) r.consequent_entry.meant ⊎ (m.disabling ≡ Some p))) →
-        places ≡ places_of before_kept ++ (places_of behind_kept ++ off_places m.disabling) →
+        places ≡ sequence_places before_kept ++ (sequence_places behind_kept ++ off_places m.disabling) →
         IsAssertion s cs e bodies before a made
     unfolding meant_of
     assertion_made before a m r made first second before_kept behind_kept b places name led one two off list h g d used
@@ -228,7 +229,7 @@ module _ (s : Scope) (cs : List (List ℕ)) (e : List Expr) where
               (subst (λ (qs : List ℕ). IsDisabling s cs e qs a.disable b) (sym list)
               (disabling_made places a.disable m.disabling b r.disabling d));
           used = λ p i.
-              elim (used p (subst (λ (qs : List ℕ). IsIn p qs) list i)) [
+              elim (used p (subst (λ (qs : List ℕ). IsNumberIn p qs) list i)) [
                 | inl u ↦ inl u
                 | inr x ↦ elim x [
                   | inl u ↦ inr (inl u)

@@ -11,7 +11,7 @@ use Rattle.parser_grammar.specs.Trees.{assertion}
 use Rattle.expressions.specs.declared.expr.Expr.{Expr}
 use Rattle.assertions.specs.declared.sequence.Boolean.{Boolean}
 use Rattle.types_sequences.specs.Drafts as drafts
-use Rattle.types_sequences.specs.Drafts.{Draft, IsIn, uses, uses_at, AllDeclared}
+use Rattle.types_sequences.specs.Drafts.{Draft, IsNumberIn, uses, uses_at, AllDeclared}
 use Rattle.types_sequences.specs.Outlines.{map_draft}
 use Rattle.types_sequences.proofs.InLaws.{in_either, in_only}
 use Rattle.types_names.specs.declared.own.Own.{Own}
@@ -19,7 +19,7 @@ use Rattle.types_names.specs.declared.own.Own.TheVariants as own
 use Rattle.types_names.specs.Scopes.{Scope, sequence_named, meaning_place, meaning_by, path_text, owns_from, owns}
 use Rattle.types_names.specs.Scopes.{look_up, width_in}
 use Rattle.types_names.specs.Asked.{scope_for}
-use Rattle.types_sequences.specs.Placed.{Extends}
+use Rattle.types_sequences.specs.Placed.{ExtendsPlaces}
 use Rattle.types_suites.specs.Texts.{declarations_of}
 use Rattle.types_suites.specs.Readings.{least_of, extra_of, joined_by, Reads, ReadsBoolean, ReadsSteps, ReadsOthers}
 use Rattle.types_suites.specs.Readings.{AllRead, Dot, dot, outline_by, outline, outline_steps, outline_others}
@@ -89,45 +89,48 @@ module _ (s : Scope) (cs : List (List ℕ)) (e : List Expr) where
 
   -- Names are below a bound, where the scope gives no other.
   module _ (n : ℕ) (below : (t : Tree) (p : ℕ) → sequence_named s t ≡ Some p → p < n) where
-    either_below : (p : ℕ) (a b : Draft Boolean) → (IsIn p (uses a) → p < n) → (IsIn p (uses b) → p < n)
-        → IsIn p (uses a) ⊎ IsIn p (uses b) → p < n
+    either_below : (p : ℕ) (a b : Draft Boolean) → (IsNumberIn p (uses a) → p < n) → (IsNumberIn p (uses b) → p < n)
+        → IsNumberIn p (uses a) ⊎ IsNumberIn p (uses b) → p < n
     either_below p a b f g (inl h) = f h
     either_below p a b f g (inr h) = g h
 
     boolean_below : (o : Option ℕ) (t : Tree) (d : Draft Boolean) → sequence_named s t ≡ o → ReadsBoolean s cs e o t d
-        → (p : ℕ) → IsIn p (uses d) → p < n
+        → (p : ℕ) → IsNumberIn p (uses d) → p < n
     boolean_below (Some q) t d is h p i =
-        let at : p ≡ q = in_only p q (subst (λ (x : Draft Boolean). IsIn p (uses x)) h i) in
+        let at : p ≡ q = in_only p q (subst (λ (x : Draft Boolean). IsNumberIn p (uses x)) h i) in
         below t p (is ∙ ap Some (sym at))
-    boolean_below None t d is h p i = let none = subst (λ (x : Draft Boolean). IsIn p (uses x)) h.2 i in elim none [ ]
+    boolean_below None t d is h p i = let none = subst
+        (λ (x : Draft Boolean). IsNumberIn p (uses x)) h.2 i in elim none [ ]
 
     mutual
       unfolding Reads
 
-      pub reads_below : (q : SequenceForm) (d : Draft Boolean) → Reads s cs e q d → (p : ℕ) → IsIn p (uses d) → p < n
+      pub reads_below : (q : SequenceForm) (d : Draft Boolean) → Reads s cs e q d → (p : ℕ) → IsNumberIn p (uses d)
+          → p < n
       reads_below (boolean t) d h p i = boolean_below (sequence_named s t) t d refl h p i
       reads_below (repeated q r) d h p i =
-          reads_below q h.0 h.1 p (subst (λ (x : Draft Boolean). IsIn p (uses x)) h.2 i)
-      reads_below (late t r q) d h p i = reads_below q h.0 h.1 p (subst (λ (x : Draft Boolean). IsIn p (uses x)) h.2 i)
+          reads_below q h.0 h.1 p (subst (λ (x : Draft Boolean). IsNumberIn p (uses x)) h.2 i)
+      reads_below (late t r q) d h p i = reads_below q h.0 h.1 p
+          (subst (λ (x : Draft Boolean). IsNumberIn p (uses x)) h.2 i)
       reads_below (delayed q steps) d h p i = steps_below h.0 steps d h.2 p (reads_below q h.0 h.1 p) i
       reads_below (throughout t q) d h p i =
-          reads_below q h.1 h.3 p (subst (λ (x : Draft Boolean). IsIn p (uses x)) h.4 i)
+          reads_below q h.1 h.3 p (subst (λ (x : Draft Boolean). IsNumberIn p (uses x)) h.4 i)
       reads_below (joined j q others) d h p i = others_below j h.0 others d h.2 p (reads_below q h.0 h.1 p) i
 
       steps_below : (a : Draft Boolean) (steps : Steps) (d : Draft Boolean) → ReadsSteps s cs e a steps d → (p : ℕ)
-          → (IsIn p (uses a) → p < n) → IsIn p (uses d) → p < n
-      steps_below a no_step d h p f i = f (subst (λ (x : Draft Boolean). IsIn p (uses x)) h i)
+          → (IsNumberIn p (uses a) → p < n) → IsNumberIn p (uses d) → p < n
+      steps_below a no_step d h p f i = f (subst (λ (x : Draft Boolean). IsNumberIn p (uses x)) h i)
       steps_below a (step r q steps) d h p f i =
           steps_below (drafts.delay a (least_of r) (extra_of r) h.0) steps d h.2 p
           (λ k. either_below p a h.0 f (reads_below q h.0 h.1 p) (in_either p (uses a) (uses h.0) k)) i
 
       others_below : (j : Junction) (a : Draft Boolean) (others : Others) (d : Draft Boolean)
-          → ReadsOthers s cs e j a others d → (p : ℕ) → (IsIn p (uses a) → p < n) → IsIn p (uses d) → p < n
-      others_below j a no_other d h p f i = f (subst (λ (x : Draft Boolean). IsIn p (uses x)) h i)
+          → ReadsOthers s cs e j a others d → (p : ℕ) → (IsNumberIn p (uses a) → p < n) → IsNumberIn p (uses d) → p < n
+      others_below j a no_other d h p f i = f (subst (λ (x : Draft Boolean). IsNumberIn p (uses x)) h i)
       others_below j a (other q others) d h p f i =
           others_below j (joined_by j a h.0) others d h.2 p
           (λ k. either_below p a h.0 f (reads_below q h.0 h.1 p)
-          (in_either p (uses a) (uses h.0) (subst (IsIn p) (joined_uses j a h.0) k))) i
+          (in_either p (uses a) (uses h.0) (subst (IsNumberIn p) (joined_uses j a h.0) k))) i
 
 -- the places of named sequences are below their number
 entry_below : (b : Bool) (o : Own) (rest : Option Own) (p n : ℕ) → (o ≡ own.Sequence p → p < n)
@@ -184,7 +187,7 @@ all_long s cs e (q ∷ qs) (d ∷ ds) h = ap suc (all_long s cs e qs ds h.1)
 pub all_below_at : (s : Scope) (cs : List (List ℕ)) (e : List Expr) (n : ℕ)
     (below : (t : Tree) (p : ℕ) → sequence_named s t ≡ Some p → p < n) (qs : List SequenceForm)
     (ds : List (Draft Boolean)) → AllRead s cs e qs ds →
-    (p q : ℕ) → IsIn q (uses_at ds p) → q < n
+    (p q : ℕ) → IsNumberIn q (uses_at ds p) → q < n
 all_below_at s cs e n below [] [] h p q i = elim i [ ]
 all_below_at s cs e n below [] (d ∷ ds) h p q i = elim h [ ]
 all_below_at s cs e n below (x ∷ qs) [] h p q i = elim h [ ]
@@ -200,7 +203,7 @@ all_declared s cs e n below qs ds long h p q i =
     omega (arith, all_below_at s cs e n below qs ds h p q i, all_long s cs e qs ds h, long)
 
 -- All that is read stays read while the expressions grow.
-pub all_grow_on : (s : Scope) (cs : List (List ℕ)) (now next : List Expr) (more : Extends now next)
+pub all_grow_on : (s : Scope) (cs : List (List ℕ)) (now next : List Expr) (more : ExtendsPlaces now next)
     (qs : List SequenceForm) (ds : List (Draft Boolean)) → AllRead s cs now qs ds → AllRead s cs next qs ds
 all_grow_on s cs now next more [] [] h = h
 all_grow_on s cs now next more [] (d ∷ ds) h = elim h [ ]

@@ -22,8 +22,8 @@ use Rattle.types_expressions.specs.Meanings.{Means}
 use Rattle.types_names.proofs.FaultLaws.{no_faults-parts}
 use Rattle.types_names.proofs.ColumnLaws.{listed-parts}
 use Rattle.types_expressions.proofs.TypedLaws.{IsReady}
-use Rattle.types_sequences.specs.Placed.{Extends}
-use Rattle.types_suites.specs.Readings.{least_of, extra_of, IsAtom, ReadsBoolean, joined_by, Reads, ReadsSteps}
+use Rattle.types_sequences.specs.Placed.{ExtendsPlaces}
+use Rattle.types_suites.specs.Readings.{least_of, extra_of, IsBooleanOf, ReadsBoolean, joined_by, Reads, ReadsSteps}
 use Rattle.types_suites.specs.Readings.{ReadsOthers}
 
 -- what stood in a list stands in a longer one
@@ -36,13 +36,13 @@ pub at_end : {A : Type 0} (xs : List A) (x : A) → slice_get (xs ++ x ∷ []) (
 at_end [] x = refl
 at_end (y ∷ xs) x = at_end xs x
 
-found_on : {A : Type 0} (xs ys : List A) (p : ℕ) (x : A) → Extends xs ys → slice_get xs p ≡ Some x
+found_on : {A : Type 0} (xs ys : List A) (p : ℕ) (x : A) → ExtendsPlaces xs ys → slice_get xs p ≡ Some x
     → slice_get ys p ≡ Some x
 found_on xs ys p x e h = ap (λ zs. slice_get zs p) e.is ∙ in_longer xs e.added p x h
 
 module _ (s : Scope) (cs : List (List ℕ)) where
   pub new_atom : (before after : List Expr) (t : Tree) (e : Expr) (p : ℕ) → p ≡ length before → after ≡ before ++ e ∷ []
-      → Means s cs t (term_of e) → IsAtom s cs after t (Listed p)
+      → Means s cs t (term_of e) → IsBooleanOf s cs after t (Listed p)
   new_atom before after t e p at is m =
       record {
         place = p;
@@ -52,8 +52,8 @@ module _ (s : Scope) (cs : List (List ℕ)) where
         means = m;
       }
 
-  module _ (now next : List Expr) (more : Extends now next) where
-    pub atom_grows : (t : Tree) (b : Boolean) → IsAtom s cs now t b → IsAtom s cs next t b
+  module _ (now next : List Expr) (more : ExtendsPlaces now next) where
+    pub atom_grows : (t : Tree) (b : Boolean) → IsBooleanOf s cs now t b → IsBooleanOf s cs next t b
     atom_grows t b a =
         record {
           place = a.place;
@@ -212,13 +212,13 @@ module _ (s : Scope) (cs : List (List ℕ)) where
     reads-late x t r q a d is m made = subst (λ (y : SequenceForm). Reads s cs e y d) (sym is) (a, m, made)
 
     pub reads-throughout : (x : SequenceForm) (t : Tree) (q : SequenceForm) (b : Boolean) (a d : Draft Boolean)
-        → x ≡ throughout t q → IsAtom s cs e t b → Reads s cs e q a → d ≡ drafts.throughout b a → Reads s cs e x d
+        → x ≡ throughout t q → IsBooleanOf s cs e t b → Reads s cs e q a → d ≡ drafts.throughout b a → Reads s cs e x d
     unfolding Reads
     reads-throughout x t q b a d is i m made =
         subst (λ (y : SequenceForm). Reads s cs e y d) (sym is) (b, a, i, m, made)
 
   -- behind a first one that was read before
-  module _ (now next : List Expr) (more : Extends now next) where
+  module _ (now next : List Expr) (more : ExtendsPlaces now next) where
     pub reads-delayed : (x q : SequenceForm) (steps : Steps) (a d : Draft Boolean) → x ≡ delayed q steps
         → Reads s cs now q a → ReadsSteps s cs next a steps d → Reads s cs next x d
     unfolding Reads
@@ -260,10 +260,10 @@ module _ (s : Scope) (cs : List (List ℕ)) where
   unfolding Reads
   others-end e j left a is = subst (λ (y : Others). ReadsOthers s cs e j a y a) (sym is) refl
 
-pub extends_same : {A : Type 0} (xs : List A) → Extends xs xs
+pub extends_same : {A : Type 0} (xs : List A) → ExtendsPlaces xs xs
 extends_same xs = record { added = []; is = sym (append-nil xs) }
 
-pub extends_on : {A : Type 0} (xs ys zs : List A) → Extends xs ys → Extends ys zs → Extends xs zs
+pub extends_on : {A : Type 0} (xs ys zs : List A) → ExtendsPlaces xs ys → ExtendsPlaces ys zs → ExtendsPlaces xs zs
 extends_on {A = A} xs ys zs e f =
     record {
       added = e.added ++ f.added;

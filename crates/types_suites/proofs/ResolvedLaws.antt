@@ -7,36 +7,40 @@ use Rattle.expressions.specs.declared.expr.Expr.{Expr}
 use Rattle.parser_grammar.specs.declared.operator.Implication.{Implication}
 use Rattle.parser_grammar.specs.declared.operator.Implication.TheVariants.{Overlapped, NonOverlapped}
 use Rattle.assertions.specs.declared.sequence.Boolean.{Boolean}
-use Rattle.types_sequences.specs.Drafts.{Draft, IsIn, uses}
+use Rattle.types_sequences.specs.Drafts.{Draft, IsNumberIn, uses}
 use Rattle.types_names.specs.Scopes.{Scope, sequence_named}
 use Rattle.types_suites.specs.declared.resolved.Resolved.{Resolved}
-use Rattle.types_sequences.specs.Placed.{Extends}
+use Rattle.types_sequences.specs.Placed.{ExtendsPlaces}
 use Rattle.types_suites.specs.Suites.{before_by, ReadsAntecedent, ReadsConsequent}
 use Rattle.types_suites.specs.Resolved.{IsResolved, AreResolved}
 use Rattle.types_suites.proofs.OutlineLaws.{reads_below}
 use Rattle.types_suites.proofs.DraftedLaws.{antecedent_grows, consequent_grows, disabled_grows}
 
 -- the names in a side are those of named sequences
-before_uses : (k : Implication) (r : Draft Boolean) (q : ℕ) → IsIn q (uses (before_by k r)) → IsIn q (uses r)
+before_uses : (k : Implication) (r : Draft Boolean) (q : ℕ) → IsNumberIn q (uses (before_by k r))
+    → IsNumberIn q (uses r)
 before_uses Overlapped r q i = i
-before_uses NonOverlapped r q i = subst (λ (ps : List ℕ). IsIn q ps) (append-nil (uses r)) i
+before_uses NonOverlapped r q i = subst (λ (ps : List ℕ). IsNumberIn q ps) (append-nil (uses r)) i
 
 module _ (s : Scope) (cs : List (List ℕ)) (e : List Expr) (n : ℕ)
     (below : (t : Tree) (p : ℕ) → sequence_named s t ≡ Some p → p < n) where
-  pub antecedent_below : (p : PropertyForm) (d : Draft Boolean) → ReadsAntecedent s cs e p d → (q : ℕ) → IsIn q (uses d)
+  pub antecedent_below : (p : PropertyForm) (d : Draft Boolean) → ReadsAntecedent s cs e p d → (q : ℕ)
+      → IsNumberIn q (uses d)
       → q < n
-  antecedent_below (plain x) d h q i = let none = subst (λ (y : Draft Boolean). IsIn q (uses y)) h i in elim none [ ]
+  antecedent_below (plain x) d h q i = let none = subst
+      (λ (y : Draft Boolean). IsNumberIn q (uses y)) h i in elim none [ ]
   antecedent_below (implication word a k c) d h q i =
       reads_below s cs e n below a h.0 h.1 q
-      (before_uses k h.0 q (subst (λ (y : Draft Boolean). IsIn q (uses y)) h.2 i))
+      (before_uses k h.0 q (subst (λ (y : Draft Boolean). IsNumberIn q (uses y)) h.2 i))
 
-  pub consequent_below : (p : PropertyForm) (d : Draft Boolean) → ReadsConsequent s cs e p d → (q : ℕ) → IsIn q (uses d)
+  pub consequent_below : (p : PropertyForm) (d : Draft Boolean) → ReadsConsequent s cs e p d → (q : ℕ)
+      → IsNumberIn q (uses d)
       → q < n
   consequent_below (plain x) d h q i = reads_below s cs e n below x d h q i
   consequent_below (implication word a t c) d h q i = reads_below s cs e n below c d h q i
 
 module _ (s : Scope) (cs : List (List ℕ)) (bodies : List (Draft Boolean)) (now next : List Expr)
-    (more : Extends now next) where
+    (more : ExtendsPlaces now next) where
   resolved_grows : (before : ℕ) (a : trees.AssertionForm) (m : Resolved) → IsResolved s cs now bodies before a m
       → IsResolved s cs next bodies before a m
   resolved_grows before a m h =

@@ -16,12 +16,12 @@ use Rattle.types_names.specs.Columns.{path_signals, signals, link_signals, part_
 use Rattle.types_names.specs.Columns.{step_signals, other_signals, property_signals, optional_signals}
 use Rattle.types_names.specs.Columns.{clause_signals, item_signals, file_signals, is_listed, with_path}
 use Rattle.types_names.specs.Columns.{with_paths, columns_of}
-use Rattle.types_suites.specs.Signals.{IsKnown, AreKnown}
+use Rattle.types_suites.specs.Signals.{DumpHasPath, DumpHasPaths}
 use Rattle.types_suites.specs.Suites.{AreSignals}
 
 module _ (s : Scope) where
   abbrev Known : List (List ℕ) → Type 0
-  Known ps = AreKnown s ps
+  Known ps = DumpHasPaths s ps
 
   both : (ps qs : List (List ℕ)) → Known ps → Known qs → Known (ps ++ qs)
   both [] qs h g = g
@@ -107,7 +107,7 @@ module _ (s : Scope) where
   file_known [] = tt
   file_known (i ∷ items) = both (item_signals s i) (file_signals s items) (item_known i) (file_known items)
 
-  path_kept : (known : List (List ℕ)) (p : List ℕ) → Known known → IsKnown s p → Known (with_path known p)
+  path_kept : (known : List (List ℕ)) (p : List ℕ) → Known known → DumpHasPath s p → Known (with_path known p)
   path_kept known p h one =
       elim (cases_Bool (is_listed known p)) [
         | inl e ↦ rw e h
@@ -118,7 +118,7 @@ module _ (s : Scope) where
   paths_kept [] known h g = h
   paths_kept (p ∷ ps) known h g = paths_kept ps (with_path known p) (path_kept known p h g.0) g.1
 
-  pub columns_known : (items : List ItemForm) → AreKnown s (columns_of s items)
+  pub columns_known : (items : List ItemForm) → DumpHasPaths s (columns_of s items)
   columns_known items = paths_kept (file_signals s items) [] tt (file_known items)
 
   -- one more signal, behind those that were made

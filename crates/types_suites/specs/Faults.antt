@@ -7,7 +7,7 @@ use Rattle.parser_grammar.specs.Trees.{ItemForm}
 use Rattle.assertions.specs.Segments.{AdmitsEmpty}
 use Rattle.assertions.specs.Attempts.{IsDegenerateBy}
 use Rattle.assertions.specs.Written.{Written, kernel, weight}
-use Rattle.types_sequences.specs.Drafts.{Draft, IsIn, Spells, IsCyclic}
+use Rattle.types_sequences.specs.Drafts.{Draft, IsNumberIn, IsWrittenOut, IsCyclic}
 use Rattle.types_sequences.specs.Implications.{rewritten_antecedent}
 use Rattle.types_names.specs.declared.own.Sought.TheVariants.{Unknown, Wide, OutOfRange}
 use Rattle.types_names.specs.Scopes.{Scope}
@@ -83,7 +83,7 @@ pub record SideAt (bodies : List (Draft Dot)) (sides : List Side)
   pub side : Side
   pub one : IsSide side sides
   pub meant : Written Dot
-  pub spells : Spells bodies side.outline meant
+  pub spells : IsWrittenOut bodies side.outline meant
   pub so : IsSo side.first meant
   pub byte : at ≡ side.byte
 
@@ -106,11 +106,11 @@ EmptyAt s items =
 -- The fault stands in the text; of several the first by kind, in the order Y1, Y2, Y3, Y4, Y7, Y8,
 -- Y9, Y5, Y6, then the lowest byte.
 abbrev pub FaultStands : Scope → List ItemForm → TypeFault → Type 0
-FaultStands s items (UnknownName at) = IsIn at (file_faults s Unknown items)
-FaultStands s items (Duplicate at) = IsIn at (duplicates items)
-FaultStands s items (WiderThan128 at) = IsIn at (file_faults s Wide items)
-FaultStands s items (SliceRange at) = IsIn at (file_faults s OutOfRange items)
-FaultStands s items (OtherClock at) = IsIn at (other_clocks (assertions_of items))
+FaultStands s items (UnknownName at) = IsNumberIn at (file_faults s Unknown items)
+FaultStands s items (Duplicate at) = IsNumberIn at (duplicates items)
+FaultStands s items (WiderThan128 at) = IsNumberIn at (file_faults s Wide items)
+FaultStands s items (SliceRange at) = IsNumberIn at (file_faults s OutOfRange items)
+FaultStands s items (OtherClock at) = IsNumberIn at (other_clocks (assertions_of items))
 FaultStands s items (CyclicSequence at) = CycleAt s items at
 FaultStands s items (TooWide at) = WideAt s items at
 FaultStands s items (Degenerate at) = DegenerateAt s items at

@@ -11,9 +11,9 @@ use Rattle.assertions.specs.Written.{Written, boolean}
 use Rattle.assertions.specs.Shapes.{written_form}
 use Rattle.assertions.specs.Listed.{IsListedOption}
 use Rattle.types_sequences.specs.declared.entry.Entry.{Entry}
-use Rattle.types_sequences.specs.Drafts.{Draft, IsIn}
-use Rattle.types_sequences.specs.Entries.{IsEntry}
-use Rattle.types_sequences.specs.Placed.{IsPlaced, IsPlacedBoolean, AllListed}
+use Rattle.types_sequences.specs.Drafts.{Draft, IsNumberIn}
+use Rattle.types_sequences.specs.Entries.{IsTheEntryOf}
+use Rattle.types_sequences.specs.Placed.{MatchesByPlaces, IsPlacedBoolean, AllListed}
 use Rattle.types_sequences.specs.Leaves.{form_of}
 use Rattle.types_sequences.specs.Trimmed.{IsTrimmed}
 use Rattle.types_suites.specs.declared.resolved.Resolved.{Resolved}
@@ -38,7 +38,7 @@ Statements = List trees.AssertionForm
 -- It is the entry of something, which weighs at most 127.
 pub record IsFitting (e : Entry) : Type 0 where
   pub meant : Written Boolean
-  pub entry : IsEntry meant e
+  pub entry : IsTheEntryOf meant e
   pub light : e.facts.weight ≤ 127
 
 -- Both sides fit.
@@ -61,14 +61,14 @@ kept_of e = kept_by e.sequence
 -- is what is kept of that, with other places.
 pub record IsSide (booleans : List Expr) (places : List ℕ) (meant kept made : Written Boolean) :
     Type 0 where
-  pub placed : IsPlaced booleans places meant made
+  pub placed : MatchesByPlaces booleans places meant made
   pub listed : AllListed places made
   pub trimmed : IsTrimmed One meant kept
   pub form : form_of made ≡ form_of kept
 
 -- Each place behind was there before, or it is that of the disabling expression.
 abbrev pub AreAt : Option ℕ → List ℕ → List ℕ → Type 0
-AreAt place before after = (p : ℕ) → IsIn p after → IsIn p before ⊎ (place ≡ Some p)
+AreAt place before after = (p : ℕ) → IsNumberIn p after → IsNumberIn p before ⊎ (place ≡ Some p)
 
 -- a boolean in an assertion's list, for one at a place of the suite's, if there is one
 abbrev pub IsPlacedAt : List Expr → List ℕ → Option ℕ → Option Boolean → Type 0

@@ -33,7 +33,7 @@ abbrev pub extra_of : Range → ℕ
 extra_of r = extra_or r.low.value r.high
 
 -- The expression is the boolean: its place has what the expression means.
-pub record IsAtom (s : Scope) (columns : List (List ℕ)) (booleans : List Expr) (tree : Tree)
+pub record IsBooleanOf (s : Scope) (columns : List (List ℕ)) (booleans : List Expr) (tree : Tree)
     (b : Boolean) : Type 0 where
   pub place : ℕ
   pub expression : Expr
@@ -47,7 +47,7 @@ abbrev pub ReadsBoolean : Scope → List (List ℕ) → List Expr → Option ℕ
     → Type 0
 ReadsBoolean s columns booleans (Some p) tree d = d ≡ drafts.name p
 ReadsBoolean s columns booleans None tree d =
-    (b : Boolean) × IsAtom s columns booleans tree b × (d ≡ drafts.boolean b)
+    (b : Boolean) × IsBooleanOf s columns booleans tree b × (d ≡ drafts.boolean b)
 
 -- two sides, joined
 abbrev pub joined_by : {B : Type 0} → Junction → Draft B → Draft B → Draft B
@@ -70,7 +70,7 @@ unfoldable mutual
   Reads s columns booleans (delayed q steps) d =
       (a : Draft Boolean) × Reads s columns booleans q a × ReadsSteps s columns booleans a steps d
   Reads s columns booleans (throughout tree q) d =
-      (b : Boolean) × (a : Draft Boolean) × IsAtom s columns booleans tree b
+      (b : Boolean) × (a : Draft Boolean) × IsBooleanOf s columns booleans tree b
       × Reads s columns booleans q a × (d ≡ drafts.throughout b a)
   Reads s columns booleans (joined j q others) d =
       (a : Draft Boolean) × Reads s columns booleans q a

@@ -6,7 +6,7 @@ use Rattle.expressions.specs.declared.expr.Expr.{Expr}
 use Rattle.assertions.specs.declared.sequence.Boolean.{Boolean}
 use Rattle.types_sequences.specs.declared.entry.Entry.{Entry}
 use Rattle.types_sequences.specs.Drafts.{Draft}
-use Rattle.types_sequences.specs.Entries.{HasEntry, IsTable}
+use Rattle.types_sequences.specs.Entries.{HasEntry, IsEntryTable}
 use Rattle.types_names.specs.Scopes.{Scope}
 use Rattle.types_suites.specs.declared.resolved.Resolved.{Resolved}
 use Rattle.types_suites.specs.Readings.{AllRead}
@@ -19,7 +19,7 @@ pub record HasBodies (s : Scope) (columns : List (List ℕ)) (booleans : List Ex
     (items : List trees.ItemForm) (table : List (Option Entry)) : Type 0 where
   pub bodies : List (Draft Boolean)
   pub read : AllRead s columns booleans (map (λ d. d.body) (declarations_of items)) bodies
-  pub entries : IsTable bodies table
+  pub entries : IsEntryTable bodies table
 
 -- The entries of what an assertion's sides say, before which so many assertions stand.
 pub record IsResolved (s : Scope) (columns : List (List ℕ)) (booleans : List Expr)

@@ -3,10 +3,10 @@ use Rattle.std.specs.Prelude.{◌≡◌, ℕ, List, [], ◌∷◌, Some}
 use Rattle.types_names.specs.Scopes.{Scope}
 
 -- the dump has the path, with a width
-abbrev pub IsKnown : Scope → List ℕ → Type 0
-IsKnown s path = (width : ℕ) × (s.dump path ≡ Some width)
+abbrev pub DumpHasPath : Scope → List ℕ → Type 0
+DumpHasPath s path = (width : ℕ) × (s.dump path ≡ Some width)
 
 -- each of the paths
-abbrev pub AreKnown : Scope → List (List ℕ) → Type 0
-AreKnown s [] = Unit {0}
-AreKnown s (p ∷ ps) = IsKnown s p × AreKnown s ps
+abbrev pub DumpHasPaths : Scope → List (List ℕ) → Type 0
+DumpHasPaths s [] = Unit {0}
+DumpHasPaths s (p ∷ ps) = DumpHasPath s p × DumpHasPaths s ps

@@ -20,16 +20,16 @@ use Rattle.assertions.specs.Shapes.{written_form}
 use Rattle.assertions.specs.Listed.{IsUsed, IsListedOption}
 use Rattle.types_sequences.specs.Drafts as drafts
 use Rattle.types_sequences.specs.Implications.{rewritten_antecedent}
-use Rattle.types_sequences.specs.Drafts.{Draft, Spells, IsIn}
-use Rattle.types_sequences.specs.Placed.{IsPlaced, IsPlacedBoolean, AllListed}
-use Rattle.types_sequences.specs.Leaves.{places_of, form_of}
+use Rattle.types_sequences.specs.Drafts.{Draft, IsWrittenOut, IsNumberIn}
+use Rattle.types_sequences.specs.Placed.{MatchesByPlaces, IsPlacedBoolean, AllListed}
+use Rattle.types_sequences.specs.Leaves.{sequence_places, form_of}
 use Rattle.types_sequences.specs.Trimmed.{IsTrimmed}
 use Rattle.types_names.specs.Scopes.{Scope, width_in}
 use Rattle.types_names.specs.Columns.{columns_of}
 use Rattle.types_expressions.specs.Meanings.{Means}
 use Rattle.types_suites.specs.Options.{OptionZip}
-use Rattle.types_suites.specs.Readings.{IsAtom, Reads, AllRead}
-use Rattle.types_suites.specs.Texts.{declarations_of, counters_of, assertions_of, clock_of}
+use Rattle.types_suites.specs.Readings.{IsBooleanOf, Reads, AllRead}
+use Rattle.types_suites.specs.Texts.{declarations_of, counters_of, assertions_of, suite_clock}
 use Rattle.types_suites.specs.Texts.{label_text, is_led}
 
 -- A signal that the text reads at the path, with its width.
@@ -86,8 +86,8 @@ ReadsConsequent s columns booleans (implication word a i c) d = Reads s columns 
 pub record IsMeant (bodies : List (Draft Boolean)) (booleans : List Expr) (places : List ℕ)
     (d : Draft Boolean) (made : Written Boolean) : Type 0 where
   pub meant : Written Boolean
-  pub spells : Spells bodies d meant
-  pub placed : IsPlaced booleans places meant made
+  pub spells : IsWrittenOut bodies d meant
+  pub placed : MatchesByPlaces booleans places meant made
   pub listed : AllListed places made
   pub ordered : IsOrdered meant
   pub kept : Written Boolean
@@ -97,7 +97,7 @@ pub record IsMeant (bodies : List (Draft Boolean)) (booleans : List Expr) (place
 -- The boolean of an assertion's list that an expression is.
 abbrev pub IsListedAtom : Scope → List (List ℕ) → List Expr → List ℕ → Tree → Boolean → Type 0
 IsListedAtom s columns booleans places t b =
-    (a : Boolean) × IsAtom s columns booleans t a × IsPlacedBoolean booleans places a b
+    (a : Boolean) × IsBooleanOf s columns booleans t a × IsPlacedBoolean booleans places a b
     × IsListedOption (length places) (Some b)
 
 abbrev pub IsDisabling : Scope → List (List ℕ) → List Expr → List ℕ → Option Tree → Option Boolean
@@ -106,7 +106,7 @@ IsDisabling s columns booleans places = OptionZip (IsListedAtom s columns boolea
 
 -- the place of the disabling expression among the suite's, if there is one
 abbrev pub IsDisabledBy : Scope → List (List ℕ) → List Expr → Option Tree → Option ℕ → Type 0
-IsDisabledBy s columns booleans = OptionZip (λ t p. IsAtom s columns booleans t (Listed p))
+IsDisabledBy s columns booleans = OptionZip (λ t p. IsBooleanOf s columns booleans t (Listed p))
 
 abbrev pub off_places : Option ℕ → List ℕ
 off_places None = []
@@ -115,7 +115,7 @@ off_places (Some p) = p ∷ []
 -- The disabling expression stands at the place among the suite's.
 abbrev pub IsDisablingPlace : Scope → List (List ℕ) → List Expr → Option Tree → ℕ → Type 0
 IsDisablingPlace s columns booleans None p = ⊥
-IsDisablingPlace s columns booleans (Some t) p = IsAtom s columns booleans t (Listed p)
+IsDisablingPlace s columns booleans (Some t) p = IsBooleanOf s columns booleans t (Listed p)
 
 -- A boolean of one of the two sides stands at the place, or the disabling expression does.
 abbrev pub IsUsedPlace :
@@ -140,12 +140,13 @@ pub record IsAssertion (s : Scope) (columns : List (List ℕ)) (booleans : List 
       (written_form made.consequent)
   pub disabling : IsDisabling s columns booleans made.booleans.items a.disable made.disabling
   pub used :
-      (p : ℕ) → IsIn p made.booleans.items →
+      (p : ℕ) → IsNumberIn p made.booleans.items →
       IsUsedPlace s columns booleans a.disable antecedent_meant.meant consequent_meant.meant p
   pub off : Option ℕ
   pub disabled : IsDisabledBy s columns booleans a.disable off
   pub list : made.booleans.items
-      ≡ places_of antecedent_meant.kept ++ (places_of consequent_meant.kept ++ off_places off)
+      ≡ sequence_places antecedent_meant.kept
+      ++ (sequence_places consequent_meant.kept ++ off_places off)
 
 -- Several, in their order, before which so many stand.
 abbrev pub AreAssertions : Scope → List (List ℕ) → List Expr → List (Draft Boolean) → ℕ
@@ -157,7 +158,7 @@ AreAssertions s columns booleans bodies before forms made =
 -- The suite says what the text says.
 pub record IsSuite (s : Scope) (items : List ItemForm) (suite : Suite) : Type 0 where
   pub bodies : List (Draft Boolean)
-  pub clock : string_bytes suite.clock ≡ clock_of (assertions_of items)
+  pub clock : string_bytes suite.clock ≡ suite_clock (assertions_of items)
   pub signals : AreSignals s (columns_of s items) suite.names.items
   pub counters : AreCounters s (columns_of s items) (counters_of items) suite.counters.items
   pub read : AllRead s (columns_of s items) suite.booleans.items

@@ -83,12 +83,12 @@ clocks_unlike clock (a ∷ more) =
     else first_byte a.clock ∷ clocks_unlike clock more
 
 -- the clock of the first assertion
-abbrev pub clock_of : List AssertionForm → List ℕ
-clock_of [] = []
-clock_of (a ∷ more) = path_text a.clock
+abbrev pub suite_clock : List AssertionForm → List ℕ
+suite_clock [] = []
+suite_clock (a ∷ more) = path_text a.clock
 
 abbrev pub other_clocks : List AssertionForm → List ℕ
-other_clocks some = clocks_unlike (clock_of some) some
+other_clocks some = clocks_unlike (suite_clock some) some
 
 -- the first byte of an expression, and of a sequence, but for brackets
 abbrev pub tree_byte : Tree → ℕ

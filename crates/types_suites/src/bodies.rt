@@ -1,18 +1,18 @@
 //! The named sequences of a text.
 
 ghost use Rattle.std.specs.Prelude.{◌≡◌, [], map, length, IfOk, OnOk, IsTrue};
-ghost use Rattle.parser_trees.specs.Views.{item_of};
+ghost use Rattle.parser_grammar.specs.Views.{item_of};
 ghost use Rattle.types_sequences.specs.Views.{draft_of};
 ghost use Rattle.types_names.specs.declared.own.Sought.{Sought};
 ghost use Rattle.types_names.specs.Faults.{file_faults};
 ghost use Rattle.types_names.specs.Columns.{all_listed, file_signals};
 ghost use Rattle.types_names.specs.Views.{scope_of, columns_in};
-ghost use Rattle.types_sequences.specs.Placed.{Extends};
+ghost use Rattle.types_sequences.specs.Placed.{ExtendsPlaces};
 ghost use Rattle.types_suites.specs.Readings.{AllRead};
 ghost use Rattle.types_suites.specs.Texts.{declarations_of};
 
 use crate::drafts::draft_of;
-use parser_trees::ItemTree;
+use parser_grammar::ItemTree;
 use std::alloc::{AllocError, Global};
 use types_names::{Scope, SignalPaths};
 use types_sequences::Draft;
@@ -30,7 +30,7 @@ pub fn bodies_of(
         → file_faults (scope_of scope.now) k (map item_of items.now) ≡ [] }
     requires listed { IsTrue (all_listed (columns_in columns.now)
         (file_signals (scope_of scope.now) (map item_of items.now))) }
-    ensures grows { OnOk result (Extends booleans.old.items booleans.new.items) }
+    ensures grows { OnOk result (ExtendsPlaces booleans.old.items booleans.new.items) }
     ensures read { IfOk result (λ v.
         AllRead (scope_of scope.now) (columns_in columns.now) booleans.new.items
         (map (λ d. d.body) (declarations_of (map item_of items.now))) (map draft_of v.items)) }

@@ -1,10 +1,10 @@
 //! Where expressions and sequences begin, but for brackets.
 
 ghost use Rattle.std.specs.Prelude.{◌≡◌};
-ghost use Rattle.parser_trees.specs.Views.{tree_of, sequence_of};
+ghost use Rattle.parser_grammar.specs.Views.{tree_of, sequence_of};
 ghost use Rattle.types_suites.specs.Texts.{tree_byte, sequence_byte};
 
-use parser_trees::{ExprTree, SequenceTree};
+use parser_grammar::{ExprTree, SequenceTree};
 
 /// The first byte of an expression.
 pub(crate) fn expression_at(expr: &ExprTree) -> usize

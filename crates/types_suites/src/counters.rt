@@ -1,7 +1,7 @@
 //! Counters of the text with their expressions typed.
 
 ghost use Rattle.std.specs.Prelude.{◌≡◌, ◌≤◌, [], map, option_map, IfOk, IsTrue};
-ghost use Rattle.parser_trees.specs.Views.{boxed_of, pair_of, counter_of, item_of};
+ghost use Rattle.parser_grammar.specs.Views.{boxed_of, pair_of, counter_of, item_of};
 ghost use Rattle.types_names.specs.declared.own.Sought.{Sought};
 ghost use Rattle.types_names.specs.Scopes.{width_in};
 ghost use Rattle.types_names.specs.Faults.{optional_faults, clause_faults, counter_faults};
@@ -13,7 +13,7 @@ ghost use Rattle.types_suites.specs.Texts.{counters_of};
 ghost use Rattle.types_suites.specs.Suites.{IsCondition, IsRule, IsCounter, AreCounters};
 
 use expressions::Rule;
-use parser_trees::{CounterTree, ExprTree, ItemTree, Operands};
+use parser_grammar::{CounterTree, ExprTree, ItemTree, Operands};
 use std::alloc::{AllocError, Global};
 use types_expressions::typed_expression;
 use types_names::{Scope, SignalPaths};

@@ -1,7 +1,7 @@
 //! Assertions with their sides as drafts.
 
 ghost use Rattle.std.specs.Prelude.{◌≡◌, ◌<◌, [], IfOk, OnOk, IsTrue, option_map};
-ghost use Rattle.parser_trees.specs.Views.{boxed_of, property_of, assertion_of};
+ghost use Rattle.parser_grammar.specs.Views.{boxed_of, property_of, assertion_of};
 ghost use Rattle.types_sequences.specs.Views.{draft_of};
 ghost use Rattle.types_names.specs.declared.own.Sought.{Sought};
 ghost use Rattle.types_names.specs.Columns.{all_listed, property_signals, optional_signals};
@@ -9,7 +9,7 @@ ghost use Rattle.types_names.specs.Columns.{assertion_signals};
 ghost use Rattle.types_names.specs.Faults.{property_faults, optional_faults};
 ghost use Rattle.types_names.specs.Faults.{assertion_faults};
 ghost use Rattle.types_names.specs.Views.{scope_of, columns_in};
-ghost use Rattle.types_sequences.specs.Placed.{Extends};
+ghost use Rattle.types_sequences.specs.Placed.{ExtendsPlaces};
 ghost use Rattle.types_suites.specs.Suites.{first_by, ReadsAntecedent, ReadsConsequent};
 ghost use Rattle.types_suites.specs.Suites.{IsDisabledBy};
 ghost use Rattle.types_suites.specs.Drafted.{antecedent_byte, consequent_byte, IsDraftedAssertion};
@@ -17,7 +17,7 @@ ghost use Rattle.types_suites.specs.Drafted.{antecedent_byte, consequent_byte, I
 use crate::bytes::sequence_at;
 use crate::drafts::{atom, draft_of};
 use crate::label::label_string;
-use parser_trees::{AssertionTree, ExprTree, PropertyTree};
+use parser_grammar::{AssertionTree, ExprTree, PropertyTree};
 use std::alloc::{AllocError, Global};
 use types_names::{Scope, SignalPaths};
 use types_sequences::{Draft, rewrite_antecedent};
@@ -82,7 +82,7 @@ fn antecedent_of(
         → property_faults (scope_of scope.now) k (property_of property.now) ≡ [] }
     requires listed { IsTrue (all_listed (columns_in columns.now)
         (property_signals (scope_of scope.now) (property_of property.now))) }
-    ensures grows { OnOk result (Extends booleans.old.items booleans.new.items) }
+    ensures grows { OnOk result (ExtendsPlaces booleans.old.items booleans.new.items) }
     ensures reads { IfOk result (λ d. ReadsAntecedent (scope_of scope.now)
         (columns_in columns.now) booleans.new.items (property_of property.now) (draft_of d.value)) }
 {
@@ -107,7 +107,7 @@ fn consequent_of(
         → property_faults (scope_of scope.now) k (property_of property.now) ≡ [] }
     requires listed { IsTrue (all_listed (columns_in columns.now)
         (property_signals (scope_of scope.now) (property_of property.now))) }
-    ensures grows { OnOk result (Extends booleans.old.items booleans.new.items) }
+    ensures grows { OnOk result (ExtendsPlaces booleans.old.items booleans.new.items) }
     ensures reads { IfOk result (λ d. ReadsConsequent (scope_of scope.now)
         (columns_in columns.now) booleans.new.items (property_of property.now) (draft_of d.value)) }
 {
@@ -131,7 +131,7 @@ fn disabling_of(
         → optional_faults (scope_of scope.now) k (option_map boxed_of disable.now) ≡ [] }
     requires listed { IsTrue (all_listed (columns_in columns.now)
         (optional_signals (scope_of scope.now) (option_map boxed_of disable.now))) }
-    ensures grows { OnOk result (Extends booleans.old.items booleans.new.items) }
+    ensures grows { OnOk result (ExtendsPlaces booleans.old.items booleans.new.items) }
     ensures disabled { IfOk result (IsDisabledBy (scope_of scope.now)
         (columns_in columns.now) booleans.new.items (option_map boxed_of disable.now)) }
 {
@@ -155,7 +155,7 @@ pub(crate) fn drafted_of(
         → assertion_faults (scope_of scope.now) k (assertion_of assertion.now) ≡ [] }
     requires listed { IsTrue (all_listed (columns_in columns.now)
         (assertion_signals (scope_of scope.now) (assertion_of assertion.now))) }
-    ensures grows { OnOk result (Extends booleans.old.items booleans.new.items) }
+    ensures grows { OnOk result (ExtendsPlaces booleans.old.items booleans.new.items) }
     ensures drafted { IfOk result (IsDraftedAssertion (scope_of scope.now)
         (columns_in columns.now) booleans.new.items before (assertion_of assertion.now)) }
 {

@@ -2,7 +2,7 @@
 
 ghost use Rattle.std.specs.Prelude.{◌≡◌, [], map, length, IfOk, OnOk, IsTrue};
 ghost use Rattle.parser_grammar.specs.ReadSequences.{steps_of, others_of};
-ghost use Rattle.parser_trees.specs.Views.{tree_of, sequence_of, delay_step_of};
+ghost use Rattle.parser_grammar.specs.Views.{tree_of, sequence_of, delay_step_of};
 ghost use Rattle.assertions.specs.declared.sequence.Boolean.TheVariants.{Listed};
 ghost use Rattle.types_sequences.specs.Drafts.{name, delay, lead, repeat, throughout};
 ghost use Rattle.types_sequences.specs.Views.{draft_of};
@@ -13,12 +13,11 @@ ghost use Rattle.types_names.specs.Faults.{step_faults, other_faults};
 ghost use Rattle.types_names.specs.Columns.{HasColumns, all_listed, sequence_signals};
 ghost use Rattle.types_names.specs.Columns.{step_signals, other_signals};
 ghost use Rattle.types_names.specs.Views.{scope_of, columns_in};
-ghost use Rattle.types_suites.specs.Readings.{least_of, extra_of, IsAtom, ReadsBoolean, Reads};
+ghost use Rattle.types_suites.specs.Readings.{least_of, extra_of, IsBooleanOf, ReadsBoolean, Reads};
 ghost use Rattle.types_suites.specs.Readings.{joined_by, ReadsSteps, ReadsOthers};
-ghost use Rattle.types_sequences.specs.Placed.{Extends};
+ghost use Rattle.types_sequences.specs.Placed.{ExtendsPlaces};
 
-use parser_grammar::{Junction, Range};
-use parser_trees::{ExprTree, SequenceTree};
+use parser_grammar::{ExprTree, Junction, Range, SequenceTree};
 use std::alloc::{AllocError, Global};
 use types_expressions::typed_expression;
 use types_names::{Scope, SignalPaths};
@@ -103,8 +102,8 @@ pub(crate) fn atom(
 ) -> Result<usize, AllocError>
     requires sound { IsSound (scope_of scope.now) (tree_of expr.now) }
     requires listed { HasColumns (scope_of scope.now) (columns_in columns.now) (tree_of expr.now) }
-    ensures grows { OnOk result (Extends booleans.old.items booleans.new.items) }
-    ensures atom { IfOk result (λ p. IsAtom (scope_of scope.now)
+    ensures grows { OnOk result (ExtendsPlaces booleans.old.items booleans.new.items) }
+    ensures atom { IfOk result (λ p. IsBooleanOf (scope_of scope.now)
         (columns_in columns.now) booleans.new.items (tree_of expr.now) (Listed p)) }
 {
     let place = booleans.len();
@@ -123,7 +122,7 @@ fn boolean(
 ) -> Result<Box<Draft>, AllocError>
     requires sound { (k : Sought) → boolean_faults (scope_of scope.now) k (tree_of expr.now) ≡ [] }
     requires listed { HasColumns (scope_of scope.now) (columns_in columns.now) (tree_of expr.now) }
-    ensures grows { OnOk result (Extends booleans.old.items booleans.new.items) }
+    ensures grows { OnOk result (ExtendsPlaces booleans.old.items booleans.new.items) }
     ensures reads { IfOk result (λ d. ReadsBoolean (scope_of scope.now) (columns_in columns.now)
         booleans.new.items (sequence_named (scope_of scope.now) (tree_of expr.now))
         (tree_of expr.now) (draft_of d.value)) }
@@ -150,7 +149,7 @@ pub(crate) fn draft_of(
         → sequence_faults (scope_of scope.now) k (sequence_of sequence.now) ≡ [] }
     requires listed { IsTrue (all_listed (columns_in columns.now)
         (sequence_signals (scope_of scope.now) (sequence_of sequence.now))) }
-    ensures grows { OnOk result (Extends booleans.old.items booleans.new.items) }
+    ensures grows { OnOk result (ExtendsPlaces booleans.old.items booleans.new.items) }
     ensures reads { IfOk result (λ d. Reads (scope_of scope.now)
         (columns_in columns.now) booleans.new.items (sequence_of sequence.now) (draft_of d.value)) }
 {
@@ -194,7 +193,7 @@ fn with_steps(
         → step_faults (scope_of scope.now) k (steps_of (map delay_step_of steps.now)) ≡ [] }
     requires listed { IsTrue (all_listed (columns_in columns.now)
         (step_signals (scope_of scope.now) (steps_of (map delay_step_of steps.now)))) }
-    ensures grows { OnOk result (Extends booleans.old.items booleans.new.items) }
+    ensures grows { OnOk result (ExtendsPlaces booleans.old.items booleans.new.items) }
     ensures reads { IfOk result (λ d.
         ReadsSteps (scope_of scope.now) (columns_in columns.now) booleans.new.items
         (draft_of first.value) (steps_of (map delay_step_of steps.now)) (draft_of d.value)) }
@@ -222,7 +221,7 @@ fn with_others(
         → other_faults (scope_of scope.now) k (others_of (map sequence_of others.now)) ≡ [] }
     requires listed { IsTrue (all_listed (columns_in columns.now)
         (other_signals (scope_of scope.now) (others_of (map sequence_of others.now)))) }
-    ensures grows { OnOk result (Extends booleans.old.items booleans.new.items) }
+    ensures grows { OnOk result (ExtendsPlaces booleans.old.items booleans.new.items) }
     ensures reads { IfOk result (λ d.
         ReadsOthers (scope_of scope.now) (columns_in columns.now) booleans.new.items junction
         (draft_of first.value) (others_of (map sequence_of others.now)) (draft_of d.value)) }

@@ -2,21 +2,21 @@
 
 ghost use Rattle.std.specs.Prelude.{◌≡◌, ◌<◌, ℕ, [], true, map, length, Some, IfOk, OnOk, IsTrue};
 ghost use Rattle.parser_grammar.specs.Trees.{Tree};
-ghost use Rattle.parser_trees.specs.Views.{assertion_of, item_of};
-ghost use Rattle.types_sequences.specs.Drafts.{IsIn, uses};
-ghost use Rattle.types_sequences.specs.Entries.{Bodies, HasEntry, IsTable, has_entry};
+ghost use Rattle.parser_grammar.specs.Views.{assertion_of, item_of};
+ghost use Rattle.types_sequences.specs.Drafts.{IsNumberIn, uses};
+ghost use Rattle.types_sequences.specs.Entries.{Bodies, HasEntry, IsEntryTable, has_entry};
 ghost use Rattle.types_sequences.specs.Views.{draft_of};
 ghost use Rattle.types_names.specs.declared.own.Sought.{Sought};
 ghost use Rattle.types_names.specs.Scopes.{sequence_named};
 ghost use Rattle.types_names.specs.Columns.{all_listed, assertion_signals, file_signals};
 ghost use Rattle.types_names.specs.Faults.{assertion_faults, file_faults};
 ghost use Rattle.types_names.specs.Views.{scope_of, columns_in};
-ghost use Rattle.types_sequences.specs.Placed.{Extends};
+ghost use Rattle.types_sequences.specs.Placed.{ExtendsPlaces};
 ghost use Rattle.types_suites.specs.Texts.{assertions_of};
 ghost use Rattle.types_suites.specs.Resolved.{IsResolved, AreResolved};
 
 use crate::drafted_assertion::drafted_of;
-use parser_trees::{AssertionTree, ItemTree};
+use parser_grammar::{AssertionTree, ItemTree};
 use std::alloc::{AllocError, Global};
 use types_names::{Scope, SignalPaths};
 use types_sequences::{Draft, Entry, entry_of};
@@ -38,8 +38,8 @@ pub struct Resolved {
 
 /// The entry of a sequence whose names all have entries.
 fn entry_in(alloc: Global, draft: &Draft, table: &[Option<Entry>]) -> Result<Entry, AllocError>
-    requires { (p : ℕ) → IsIn p (uses (draft_of draft.now)) → has_entry table.now p ≡ true }
-    ensures { (bodies : Bodies) → IsTable bodies table.now
+    requires { (p : ℕ) → IsNumberIn p (uses (draft_of draft.now)) → has_entry table.now p ≡ true }
+    ensures { (bodies : Bodies) → IsEntryTable bodies table.now
         → IfOk result (HasEntry bodies (draft_of draft.now)) }
 {
     match entry_of(alloc, draft, table)? {
@@ -66,8 +66,8 @@ fn resolved_of(
     requires declared { (t : Tree) (p : ℕ) → sequence_named (scope_of scope.now) t ≡ Some p
         → p < length table.now }
     requires entries { (p : ℕ) → p < length table.now → has_entry table.now p ≡ true }
-    ensures grows { OnOk result (Extends booleans.old.items booleans.new.items) }
-    ensures resolved { (bodies : Bodies) → IsTable bodies table.now
+    ensures grows { OnOk result (ExtendsPlaces booleans.old.items booleans.new.items) }
+    ensures resolved { (bodies : Bodies) → IsEntryTable bodies table.now
         → IfOk result (IsResolved (scope_of scope.now) (columns_in columns.now) booleans.new.items
         bodies before (assertion_of assertion.now)) }
 {
@@ -102,8 +102,8 @@ pub fn all_resolved(
     requires declared { (t : Tree) (p : ℕ) → sequence_named (scope_of scope.now) t ≡ Some p
         → p < length table.now }
     requires entries { (p : ℕ) → p < length table.now → has_entry table.now p ≡ true }
-    ensures grows { OnOk result (Extends booleans.old.items booleans.new.items) }
-    ensures resolved { (bodies : Bodies) → IsTable bodies table.now → IfOk result (λ v.
+    ensures grows { OnOk result (ExtendsPlaces booleans.old.items booleans.new.items) }
+    ensures resolved { (bodies : Bodies) → IsEntryTable bodies table.now → IfOk result (λ v.
         AreResolved (scope_of scope.now) (columns_in columns.now) booleans.new.items bodies 0
         (assertions_of (map item_of items.now)) v.items) }
 {

@@ -2,7 +2,7 @@
 
 ghost use Rattle.std.specs.Prelude.{IfOk};
 ghost use Rattle.types_names.specs.Views.{scope_of, columns_in};
-ghost use Rattle.types_suites.specs.Signals.{AreKnown};
+ghost use Rattle.types_suites.specs.Signals.{DumpHasPaths};
 ghost use Rattle.types_suites.specs.Suites.{AreSignals};
 
 use assertions::Signal;
@@ -15,7 +15,7 @@ pub fn signals_of(
     scope: &Scope,
     columns: &SignalPaths,
 ) -> Result<Vec<Signal>, AllocError>
-    requires { AreKnown (scope_of scope.now) (columns_in columns.now) }
+    requires { DumpHasPaths (scope_of scope.now) (columns_in columns.now) }
     ensures { IfOk result (λ v. AreSignals (scope_of scope.now) (columns_in columns.now) v.items) }
 {
     let mut signals = Vec::with_capacity(alloc, columns.len())?;

@@ -3,9 +3,9 @@
 ghost use Rattle.std.specs.Prelude.{◌≡◌, ◌≤◌, ℕ, List, ◌++◌, IfOk, OnOk};
 ghost use Rattle.assertions.specs.Shapes.{written_form};
 ghost use Rattle.assertions.specs.Written.{weight, IsOrdered};
-ghost use Rattle.types_sequences.specs.Entries.{Bodies, IsEntry};
-ghost use Rattle.types_sequences.specs.Placed.{Extends, Adds};
-ghost use Rattle.types_sequences.specs.Leaves.{places_of};
+ghost use Rattle.types_sequences.specs.Entries.{Bodies, IsTheEntryOf};
+ghost use Rattle.types_sequences.specs.Placed.{ExtendsPlaces, AddsPlaces};
+ghost use Rattle.types_sequences.specs.Leaves.{sequence_places};
 ghost use Rattle.types_suites.specs.Readings.{Where};
 ghost use Rattle.types_suites.specs.Suites.{IsAssertion, AreAssertions, off_places};
 ghost use Rattle.types_suites.specs.Resolved.{IsResolved, AreResolved};
@@ -24,16 +24,16 @@ fn side_of(
     places: &mut Vec<usize>,
 ) -> Result<Box<Sequence>, AllocError>
     requires { IsFitting entry.now }
-    ensures grows { OnOk result (Extends places.old.items places.new.items) }
+    ensures grows { OnOk result (ExtendsPlaces places.old.items places.new.items) }
     ensures light { IfOk result (λ b. weight (written_form b.value) ≤ 127) }
     ensures ordered { IfOk result (λ b. IsOrdered (written_form b.value)) }
-    ensures meant { (booleans : Expressions) (more : List ℕ) (w : Side) → IsEntry w entry.now →
+    ensures meant { (booleans : Expressions) (more : List ℕ) (w : Side) → IsTheEntryOf w entry.now →
         IfOk result (λ b. IsSide booleans (places.new.items ++ more) w (kept_of entry.now)
         (written_form b.value)) }
-    ensures used { (w : Side) → IsEntry w entry.now →
-        OnOk result (Adds w places.old.items places.new.items) }
+    ensures used { (w : Side) → IsTheEntryOf w entry.now →
+        OnOk result (AddsPlaces w places.old.items places.new.items) }
     ensures list { OnOk result (places.new.items
-        ≡ places.old.items ++ places_of (kept_of entry.now)) }
+        ≡ places.old.items ++ sequence_places (kept_of entry.now)) }
 {
     match &entry.sequence {
         Some(sequence) => place_sequence(alloc, sequence, places),
@@ -46,7 +46,7 @@ fn disabling_of(
     place: Option<usize>,
     places: &mut Vec<usize>,
 ) -> Result<Option<Boolean>, AllocError>
-    ensures grows { OnOk result (Extends places.old.items places.new.items) }
+    ensures grows { OnOk result (ExtendsPlaces places.old.items places.new.items) }
     ensures placed { (booleans : Expressions)
         → IfOk result (IsPlacedAt booleans places.new.items place) }
     ensures used { OnOk result (AreAt place places.old.items places.new.items) }

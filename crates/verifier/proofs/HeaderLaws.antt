@@ -11,9 +11,9 @@ use Rattle.verifier_inference.specs.declared.pool.Pool.TheVariants as pools
 use Rattle.verifier_inference.specs.declared.refusal.Refusal.TheVariants.{SlotRange, PoolTooSmall}
 use Rattle.verifier_inference.specs.declared.refusal.Refusal.TheVariants.{LimitTooLarge}
 use Rattle.verifier_inference.specs.Inference.{Found, found}
-use Rattle.verifier_inference.specs.Order.{number_of, part_of, field_place, IsUpTo, place_of, IsIn, IsFirst}
-use Rattle.verifier_inference.specs.Scans.{IsHead}
-use Rattle.verifier_inference.specs.Sections.{size_of}
+use Rattle.verifier_inference.specs.Order.{number_of, fault_part, field_place, IsUpTo, found_place, IsIn, IsFirstFound}
+use Rattle.verifier_inference.specs.Scans.{IsHeadRefusal}
+use Rattle.verifier_inference.specs.Sections.{instructions_in}
 use Rattle.bytecode.specs.Instructions.{frame_of}
 use Rattle.bytecode.specs.Values.{ProgramData}
 use Rattle.verifier.specs.Programs.{HasRoom, disable_faults, over, header_refusals}
@@ -51,17 +51,17 @@ abbrev pub front_9 : ProgramData → List Refusal
 front_9 p = front_8 p ++ over 127 (length p.antecedent.blocks) fields.AntecedentPositions
 
 abbrev pub front_10 : ProgramData → List Refusal
-front_10 p = front_9 p ++ over 4096 (size_of p.antecedent.blocks) fields.AntecedentCode
+front_10 p = front_9 p ++ over 4096 (instructions_in p.antecedent.blocks) fields.AntecedentCode
 
 abbrev pub front_11 : ProgramData → List Refusal
 front_11 p = front_10 p ++ over 127 (length p.consequent.blocks) fields.ConsequentPositions
 
 abbrev pub front_12 : ProgramData → List Refusal
-front_12 p = front_11 p ++ over 4096 (size_of p.consequent.blocks) fields.ConsequentCode
+front_12 p = front_11 p ++ over 4096 (instructions_in p.consequent.blocks) fields.ConsequentCode
 
 -- numbers and parts that rise
 abbrev pub rank_of : Refusal → ℕ
-rank_of r = 16 * number_of r + part_of r
+rank_of r = 16 * number_of r + fault_part r
 
 abbrev pub Climbs : ℕ → ℕ → List Refusal → Type 0
 Climbs low high [] = low ≤ high
@@ -147,8 +147,9 @@ header_climbs p = climbs_12
 
     climbs_10 : Climbs 0 249 (front_10 p)
     climbs_10 =
-        climbs_join 0 248 249 (front_9 p) (over 4096 (size_of p.antecedent.blocks) fields.AntecedentCode) climbs_9
-        (climbs_over (nat_lt 4096 (size_of p.antecedent.blocks)) fields.AntecedentCode 248 249 (omega arith)
+        climbs_join 0 248 249 (front_9 p)
+        (over 4096 (instructions_in p.antecedent.blocks) fields.AntecedentCode) climbs_9
+        (climbs_over (nat_lt 4096 (instructions_in p.antecedent.blocks)) fields.AntecedentCode 248 249 (omega arith)
         (omega arith))
 
     climbs_11 : Climbs 0 250 (front_11 p)
@@ -160,8 +161,9 @@ header_climbs p = climbs_12
 
     climbs_12 : Climbs 0 251 (front_12 p)
     climbs_12 =
-        climbs_join 0 250 251 (front_11 p) (over 4096 (size_of p.consequent.blocks) fields.ConsequentCode) climbs_11
-        (climbs_over (nat_lt 4096 (size_of p.consequent.blocks)) fields.ConsequentCode 250 251 (omega arith)
+        climbs_join 0 250 251 (front_11 p)
+        (over 4096 (instructions_in p.consequent.blocks) fields.ConsequentCode) climbs_11
+        (climbs_over (nat_lt 4096 (instructions_in p.consequent.blocks)) fields.ConsequentCode 250 251 (omega arith)
         (omega arith))
 
 -- what rises begins with its first
@@ -198,12 +200,12 @@ by_rank section pc m n a b ha hb le =
 
 -- no part is larger
 abbrev pub AreSmall : List Refusal → Type 0
-AreSmall rs = (x : Refusal) → IsIn x rs → part_of x < 16
+AreSmall rs = (x : Refusal) → IsIn x rs → fault_part x < 16
 
 pub head_first : (section low high : ℕ) (rs : List Refusal) (e : Refusal) → Climbs low high rs → AreSmall rs
-    → IsHead e rs → IsFirst (found section 0 e) (map (found section 0) rs)
+    → IsHeadRefusal e rs → IsFirstFound (found section 0 e) (map (found section 0) rs)
 head_first section low high rs e climbs small h =
-    subst (λ (xs : List Refusal). IsFirst (found section 0 e) (map (found section 0) xs)) (sym h.1)
+    subst (λ (xs : List Refusal). IsFirstFound (found section 0 e) (map (found section 0) xs)) (sym h.1)
     (record { stands = inl refl; first = λ y i. by_part y i })
   where
     climbs_e : Climbs low high (e ∷ h.0)
@@ -223,14 +225,14 @@ head_first section low high rs e climbs small h =
     at_least x (inr i) = (let l = above x (rank_of e) high h.0 climbs_e.1 i in omega (arith, l))
 
     by_part : (y : Found) → IsIn y (map (found section 0) (e ∷ h.0))
-        → IsUpTo (place_of (found section 0 e)) (place_of y)
+        → IsUpTo (found_place (found section 0 e)) (found_place y)
     by_part y i =
         let x = in_found y (e ∷ h.0) i in
-        subst (λ (f : Found). IsUpTo (place_of (found section 0 e)) (place_of f)) (sym x.2)
-        (by_rank section 0 (number_of e) (number_of x.0) (part_of e) (part_of x.0) (small_e e (inl refl))
+        subst (λ (f : Found). IsUpTo (found_place (found section 0 e)) (found_place f)) (sym x.2)
+        (by_rank section 0 (number_of e) (number_of x.0) (fault_part e) (fault_part x.0) (small_e e (inl refl))
         (small_e x.0 x.1) (at_least x.0 x.1))
 
-pub part_small : (r : Refusal) → part_of r < 16
+pub part_small : (r : Refusal) → fault_part r < 16
 part_small (LimitTooLarge field) = field_small field
 part_small (PoolTooSmall pools.Attempts least) = omega arith
 part_small (PoolTooSmall pools.Obligations least) = omega arith
@@ -247,9 +249,10 @@ over_none most n f h = by_test (cases_Bool (nat_lt most n))
 pub header_clear : (p : ProgramData) → header_refusals p ≡ [] → HasRoom p
     × (disable_faults p.header.disable p.header.atoms ≡ [])
 header_clear p h =
-    let part_12 = nil_parts (front_11 p) (over 4096 (size_of p.consequent.blocks) fields.ConsequentCode) h in
+    let part_12 = nil_parts (front_11 p) (over 4096 (instructions_in p.consequent.blocks) fields.ConsequentCode) h in
     let part_11 = nil_parts (front_10 p) (over 127 (length p.consequent.blocks) fields.ConsequentPositions) part_12.0 in
-    let part_10 = nil_parts (front_9 p) (over 4096 (size_of p.antecedent.blocks) fields.AntecedentCode) part_11.0 in
+    let part_10 = nil_parts (front_9 p)
+    (over 4096 (instructions_in p.antecedent.blocks) fields.AntecedentCode) part_11.0 in
     let part_9 = nil_parts (front_8 p) (over 127 (length p.antecedent.blocks) fields.AntecedentPositions) part_10.0 in
     let part_8 = nil_parts (front_7 p) (over 4096 (length p.sample) fields.Sample) part_9.0 in
     let part_7 = nil_parts (front_6 p) (over 256 (length (frame_of p).slots) fields.Slots) part_8.0 in
@@ -269,9 +272,9 @@ header_clear p h =
         slots = over_none 256 (length (frame_of p).slots) fields.Slots part_7.1;
         sample = over_none 4096 (length p.sample) fields.Sample part_8.1;
         antecedent_positions = over_none 127 (length p.antecedent.blocks) fields.AntecedentPositions part_9.1;
-        antecedent_code = over_none 4096 (size_of p.antecedent.blocks) fields.AntecedentCode part_10.1;
+        antecedent_code = over_none 4096 (instructions_in p.antecedent.blocks) fields.AntecedentCode part_10.1;
         consequent_positions = over_none 127 (length p.consequent.blocks) fields.ConsequentPositions part_11.1;
-        consequent_code = over_none 4096 (size_of p.consequent.blocks) fields.ConsequentCode part_12.1;
+        consequent_code = over_none 4096 (instructions_in p.consequent.blocks) fields.ConsequentCode part_12.1;
       },
       part_1.0,
     )
@@ -336,8 +339,8 @@ header_none p room none = none_12
 
     none_10 : front_10 p ≡ []
     none_10 =
-        nil_join (front_9 p) (over 4096 (size_of p.antecedent.blocks) fields.AntecedentCode) none_9
-        (over_some 4096 (size_of p.antecedent.blocks) fields.AntecedentCode room.antecedent_code)
+        nil_join (front_9 p) (over 4096 (instructions_in p.antecedent.blocks) fields.AntecedentCode) none_9
+        (over_some 4096 (instructions_in p.antecedent.blocks) fields.AntecedentCode room.antecedent_code)
 
     none_11 : front_11 p ≡ []
     none_11 =
@@ -346,5 +349,5 @@ header_none p room none = none_12
 
     none_12 : front_12 p ≡ []
     none_12 =
-        nil_join (front_11 p) (over 4096 (size_of p.consequent.blocks) fields.ConsequentCode) none_11
-        (over_some 4096 (size_of p.consequent.blocks) fields.ConsequentCode room.consequent_code)
+        nil_join (front_11 p) (over 4096 (instructions_in p.consequent.blocks) fields.ConsequentCode) none_11
+        (over_some 4096 (instructions_in p.consequent.blocks) fields.ConsequentCode room.consequent_code)

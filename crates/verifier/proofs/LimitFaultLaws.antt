@@ -7,7 +7,7 @@ use Rattle.verifier_inference.specs.declared.pool.Pool.TheVariants as pools
 use Rattle.verifier_inference.specs.declared.refusal.Refusal.TheVariants.{HistoryTooShort, StackTooShort}
 use Rattle.verifier_inference.specs.declared.refusal.Refusal.TheVariants.{PoolTooSmall, BudgetTooSmall}
 use Rattle.verifier_inference.specs.Inference.{Found, found}
-use Rattle.verifier_inference.specs.Order.{IsFirstRefusal, first_of}
+use Rattle.verifier_inference.specs.Order.{IsFirstRefusal, first_refusal}
 use Rattle.verifier.specs.Limits.{farthest}
 use Rattle.bytecode.specs.Values.{ProgramData}
 use Rattle.bytecode.specs.declared.limits.Limits.{Limits}
@@ -65,7 +65,7 @@ limit_climbs p =
     (omega arith))
 
 pub refused_limit : (p : ProgramData) (r : Refusal) → part_faults p ≡ []
-    → Some r ≡ first_of (limit_refusals p.header.limits (least_limits p)) → IsFirstRefusal r (all_faults p)
+    → Some r ≡ first_refusal (limit_refusals p.header.limits (least_limits p)) → IsFirstRefusal r (all_faults p)
 refused_limit p r none h =
     subst (λ (fs : List Found). IsFirstRefusal r
     (fs ++ map (found 4 0) (limit_refusals p.header.limits (least_limits p)))) (sym none)
@@ -78,7 +78,7 @@ refused_limit p r none h =
     })
 
 pub no_fault : (p : ProgramData) → part_faults p ≡ []
-    → None ≡ first_of (limit_refusals p.header.limits (least_limits p)) → all_faults p ≡ []
+    → None ≡ first_refusal (limit_refusals p.header.limits (least_limits p)) → all_faults p ≡ []
 no_fault p none h =
     ap (λ fs. fs ++ map (found 4 0) (limit_refusals p.header.limits (least_limits p))) none
     ∙ ap (map (found 4 0)) (none_first (limit_refusals p.header.limits (least_limits p)) h)
@@ -147,14 +147,14 @@ acceptable_faultless p a =
 
 -- as the code finds them
 found_limits : (p : ProgramData) (least : LeastLimits) (first : Option Refusal) → least ≡ least_limits p
-    → first ≡ first_of (limit_refusals p.header.limits least)
-    → first ≡ first_of (limit_refusals p.header.limits (least_limits p))
-found_limits p least first is h = h ∙ ap (λ (l : LeastLimits). first_of (limit_refusals p.header.limits l)) is
+    → first ≡ first_refusal (limit_refusals p.header.limits least)
+    → first ≡ first_refusal (limit_refusals p.header.limits (least_limits p))
+found_limits p least first is h = h ∙ ap (λ (l : LeastLimits). first_refusal (limit_refusals p.header.limits l)) is
 
 pub refused_by : (p : ProgramData) (least : LeastLimits) (r : Refusal) → part_faults p ≡ [] → least ≡ least_limits p
-    → Some r ≡ first_of (limit_refusals p.header.limits least) → IsFirstRefusal r (all_faults p)
+    → Some r ≡ first_refusal (limit_refusals p.header.limits least) → IsFirstRefusal r (all_faults p)
 refused_by p least r none is h = refused_limit p r none (found_limits p least (Some r) is h)
 
 pub acceptable_by : (p : ProgramData) (least : LeastLimits) → part_faults p ≡ [] → least ≡ least_limits p
-    → None ≡ first_of (limit_refusals p.header.limits least) → IsAcceptable p
+    → None ≡ first_refusal (limit_refusals p.header.limits least) → IsAcceptable p
 acceptable_by p least none is h = acceptable p (no_fault p none (found_limits p least None is h))

@@ -6,7 +6,7 @@ use Rattle.std.proofs.lemmas.Bool.{lt-ltb, ltb-true, cases_Bool}
 use Rattle.verifier_inference.specs.declared.refusal.Refusal.TheVariants.{SlotRange}
 use Rattle.verifier_inference.specs.Rules.{sample_rules}
 use Rattle.verifier_inference.specs.Inference.{Found, found, code_faults, entry}
-use Rattle.verifier_inference.specs.Typing.{IsTyped, AreShort, longest_list}
+use Rattle.verifier_inference.specs.Typing.{IsCodeTyped, AreShort, longest_list}
 use Rattle.verifier_inference.specs.Sections.{section_faults}
 use Rattle.bytecode.specs.Instructions.{frame_of}
 use Rattle.verifier_inference.proofs.CodeLaws.{typed_code, faultless_code, typed_section, faultless_section}
@@ -14,7 +14,7 @@ use Rattle.bytecode.specs.Values.{ProgramData}
 use Rattle.verifier.specs.Programs.{disable_faults, header_refusals, part_faults, least_stack}
 use Rattle.verifier.specs.Programs.{HasRoom, IsAtom, IsWellFormed}
 use Rattle.verifier_inference.proofs.TypingLaws.{nil_parts, nil_map, longest_typed}
-use Rattle.verifier_inference.specs.Scans.{longest_from}
+use Rattle.verifier_inference.specs.Scans.{longest_agreed}
 use Rattle.verifier.proofs.HeaderLaws.{header_clear, header_none}
 
 atom_there : (disable : Option ℕ) (atoms : ℕ) → disable_faults disable atoms ≡ [] → IsAtom disable atoms
@@ -68,9 +68,9 @@ faultless p w room =
     (faultless_section 2 p.header.atoms p.antecedent w.antecedent))
     (faultless_section 3 p.header.atoms p.consequent w.consequent)
 
-pub longest_is_least : (p : ProgramData) (table : ℕ → List ℕ) → IsTyped (sample_rules (frame_of p)) 0 p.sample table
+pub longest_is_least : (p : ProgramData) (table : ℕ → List ℕ) → IsCodeTyped (sample_rules (frame_of p)) 0 p.sample table
     → AreShort (sample_rules (frame_of p)) 0 p.sample table → least_stack p ≡ longest_list table 0 p.sample
 longest_is_least p table typed short =
     (let e : length p.sample ≡ 0 + length p.sample =
-    omega arith in ap (λ n. longest_from (sample_rules (frame_of p)) n 0 p.sample (entry 0)) e)
+    omega arith in ap (λ n. longest_agreed (sample_rules (frame_of p)) n 0 p.sample (entry 0)) e)
     ∙ longest_typed (sample_rules (frame_of p)) 0 p.sample table typed short

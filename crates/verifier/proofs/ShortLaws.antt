@@ -16,7 +16,7 @@ use Rattle.bytecode.specs.Instructions.{leaves}
 use Rattle.bytecode.specs.Instructions.{FrameData, sample_flow, sample_effect}
 use Rattle.verifier_inference.specs.Rules.{sample_rules}
 use Rattle.bytecode.specs.Instructions.{LeadsTo}
-use Rattle.verifier_inference.specs.Typing.{IsFine, IsTyped, AreShort, longest_list}
+use Rattle.verifier_inference.specs.Typing.{IsFine, IsCodeTyped, AreShort, longest_list}
 use Rattle.bytecode.specs.Instructions.{frame_of}
 use Rattle.bytecode.specs.Values.{ProgramData}
 use Rattle.verifier.specs.Programs.{all_faults, IsAcceptable, IsAccepted}
@@ -57,7 +57,8 @@ longest_at table pc (i ∷ is) (suc k) h =
 same_leaves : (a b : List ℕ) → leaves a ≡ leaves b → a ≡ b
 same_leaves a b h = cc
 
-module _ (f : FrameData) (code : List SampleInstr) (table : ℕ → List ℕ) (typed : IsTyped (sample_rules f) 0 code table)
+module _ (f : FrameData) (code : List SampleInstr) (table : ℕ → List ℕ)
+    (typed : IsCodeTyped (sample_rules f) 0 code table)
   where
     at_most : (to : ℕ) → to < length code → length (table to) ≤ longest_list table 0 code
     at_most to h =

@@ -5,7 +5,7 @@ use Rattle.verifier_inference.specs.declared.refusal.Refusal.{Refusal}
 use Rattle.verifier_inference.specs.declared.refusal.Refusal.TheVariants.{Memory}
 use Rattle.verifier_inference.specs.Rules.{sample_rules}
 use Rattle.verifier_inference.specs.Inference.{Found, found, code_faults}
-use Rattle.verifier_inference.specs.Order.{IsIn, IsFirst, IsFirstRefusal, first_of}
+use Rattle.verifier_inference.specs.Order.{IsIn, IsFirstFound, IsFirstRefusal, first_refusal}
 use Rattle.verifier_inference.specs.Scans.{IsFirstOf}
 use Rattle.verifier_inference.specs.Sections.{section_faults}
 use Rattle.bytecode.specs.Instructions.{frame_of}
@@ -19,7 +19,8 @@ use Rattle.verifier.proofs.HeaderLaws.{header_climbs, header_clear, head_first, 
 use Rattle.verifier_inference.proofs.CodeLaws.{AllIn, AllFrom, all_found, all_code, all_section, from_in}
 use Rattle.verifier_inference.proofs.CodeLaws.{from_weaker}
 
-first_below : (x : Found) (xs ys : List Found) → AllFrom (x.section + 1) ys → IsFirst x xs → IsFirst x (xs ++ ys)
+first_below : (x : Found) (xs ys : List Found) → AllFrom (x.section + 1) ys → IsFirstFound x xs
+    → IsFirstFound x (xs ++ ys)
 first_below x xs ys later f =
     record {
       stands = in_left x xs ys f.stands;
@@ -29,8 +30,8 @@ first_below x xs ys later f =
       ];
     }
 
-behind : (x : Found) (xs ys : List Found) → xs ≡ [] → IsFirst x ys → IsFirst x (xs ++ ys)
-behind x xs ys none f = subst (λ (zs : List Found). IsFirst x (zs ++ ys)) (sym none) f
+behind : (x : Found) (xs ys : List Found) → xs ≡ [] → IsFirstFound x ys → IsFirstFound x (xs ++ ys)
+behind x xs ys none f = subst (λ (zs : List Found). IsFirstFound x (zs ++ ys)) (sym none) f
 
 module _ (p : ProgramData) where
   abbrev header : List Found
@@ -49,7 +50,7 @@ module _ (p : ProgramData) where
   later_than n section fs all le = from_weaker n section fs le (from_in section fs all)
 
   -- a first fault of a part is the first of all
-  of_header : (x : Found) → x.section ≡ 0 → IsFirst x header → IsFirst x (part_faults p)
+  of_header : (x : Found) → x.section ≡ 0 → IsFirstFound x header → IsFirstFound x (part_faults p)
   of_header x at f =
       first_below x (header ++ sample ++ antecedent) consequent
       (later_than (x.section + 1) 3 consequent (all_section 3 p.header.atoms p.consequent) (omega (arith, at)))
@@ -59,7 +60,7 @@ module _ (p : ProgramData) where
       (later_than (x.section + 1) 1 sample (all_code (sample_rules (frame_of p)) 0 p.sample) (omega (arith, at)))
       f))
 
-  of_sample : (x : Found) → x.section ≡ 1 → header ≡ [] → IsFirst x sample → IsFirst x (part_faults p)
+  of_sample : (x : Found) → x.section ≡ 1 → header ≡ [] → IsFirstFound x sample → IsFirstFound x (part_faults p)
   of_sample x at none f =
       first_below x (header ++ sample ++ antecedent) consequent
       (later_than (x.section + 1) 3 consequent (all_section 3 p.header.atoms p.consequent) (omega (arith, at)))
@@ -70,21 +71,21 @@ module _ (p : ProgramData) where
   both_none : (xs ys : List Found) → xs ≡ [] → ys ≡ [] → xs ++ ys ≡ []
   both_none xs ys a b = ap (λ zs. zs ++ ys) a ∙ b
 
-  of_antecedent : (x : Found) → x.section ≡ 2 → header ≡ [] → sample ≡ [] → IsFirst x antecedent
-      → IsFirst x (part_faults p)
+  of_antecedent : (x : Found) → x.section ≡ 2 → header ≡ [] → sample ≡ [] → IsFirstFound x antecedent
+      → IsFirstFound x (part_faults p)
   of_antecedent x at none_h none_s f =
       first_below x (header ++ sample ++ antecedent) consequent
       (later_than (x.section + 1) 3 consequent (all_section 3 p.header.atoms p.consequent) (omega (arith, at)))
       (behind x (header ++ sample) antecedent (both_none header sample none_h none_s) f)
 
-  of_consequent : (x : Found) → header ≡ [] → sample ≡ [] → antecedent ≡ [] → IsFirst x consequent
-      → IsFirst x (part_faults p)
+  of_consequent : (x : Found) → header ≡ [] → sample ≡ [] → antecedent ≡ [] → IsFirstFound x consequent
+      → IsFirstFound x (part_faults p)
   of_consequent x none_h none_s none_a f =
       behind x (header ++ sample ++ antecedent) consequent
       (both_none (header ++ sample) antecedent (both_none header sample none_h none_s) none_a) f
 
   -- as the code finds them
-  pub refused_header : (r : Refusal) → Some r ≡ first_of (header_refusals p) → IsFirstRefusal r (part_faults p)
+  pub refused_header : (r : Refusal) → Some r ≡ first_refusal (header_refusals p) → IsFirstRefusal r (part_faults p)
   refused_header r h =
       record {
         fault = found 0 0 r;
@@ -95,13 +96,13 @@ module _ (p : ProgramData) where
         is = refl;
       }
 
-  header_none : None ≡ first_of (header_refusals p) → header ≡ []
+  header_none : None ≡ first_refusal (header_refusals p) → header ≡ []
   header_none h = ap (map (found 0 0)) (none_first (header_refusals p) h)
 
-  pub room : None ≡ first_of (header_refusals p) → HasRoom p
+  pub room : None ≡ first_refusal (header_refusals p) → HasRoom p
   room h = (header_clear p (none_first (header_refusals p) h)).0
 
-  pub refused_sample : (r : Refusal) → None ≡ first_of (header_refusals p) → (r ≡ Memory) ⊎ IsFirstRefusal r sample
+  pub refused_sample : (r : Refusal) → None ≡ first_refusal (header_refusals p) → (r ≡ Memory) ⊎ IsFirstRefusal r sample
       → (r ≡ Memory) ⊎ IsFirstRefusal r (part_faults p)
   refused_sample r none (inl m) = inl m
   refused_sample r none (inr f) =
@@ -113,7 +114,7 @@ module _ (p : ProgramData) where
         is = f.is;
       })
 
-  pub refused_antecedent : (pc : ℕ) (r : Refusal) → None ≡ first_of (header_refusals p) → sample ≡ []
+  pub refused_antecedent : (pc : ℕ) (r : Refusal) → None ≡ first_refusal (header_refusals p) → sample ≡ []
       → IsFirstOf antecedent (Some (found 2 pc r)) → IsFirstRefusal r (part_faults p)
   refused_antecedent pc r none none_s f =
       record {
@@ -122,7 +123,8 @@ module _ (p : ProgramData) where
         is = refl;
       }
 
-  pub refused_consequent : (pc : ℕ) (r : Refusal) → None ≡ first_of (header_refusals p) → sample ≡ [] → antecedent ≡ []
+  pub refused_consequent : (pc : ℕ) (r : Refusal) → None ≡ first_refusal (header_refusals p) → sample ≡ [] → antecedent
+      ≡ []
       → IsFirstOf consequent (Some (found 3 pc r)) → IsFirstRefusal r (part_faults p)
   refused_consequent pc r none none_s none_a f =
       record {
@@ -131,7 +133,7 @@ module _ (p : ProgramData) where
         is = refl;
       }
 
-  pub no_part : None ≡ first_of (header_refusals p) → sample ≡ [] → antecedent ≡ [] → consequent ≡ []
+  pub no_part : None ≡ first_refusal (header_refusals p) → sample ≡ [] → antecedent ≡ [] → consequent ≡ []
       → part_faults p ≡ []
   no_part none none_s none_a none_c =
       both_none (header ++ sample ++ antecedent) consequent

@@ -3,7 +3,7 @@ use Rattle.std.specs.Prelude.{◌≡◌, ◌↔◌, ℕ, List, []}
 use Rattle.bytecode.specs.Values.{ProgramData}
 use Rattle.bytecode.specs.Instructions.{frame_of}
 use Rattle.verifier_inference.specs.Rules.{sample_rules}
-use Rattle.verifier_inference.specs.Typing.{IsTyped, AreShort, longest_list}
+use Rattle.verifier_inference.specs.Typing.{IsCodeTyped, AreShort, longest_list}
 use Rattle.verifier.specs.Programs.{part_faults, all_faults, least_stack, IsWellFormed, HasRoom}
 use Rattle.verifier.specs.Programs.{IsAccepted}
 
@@ -20,6 +20,6 @@ IsFormedWhereFaultless = (p : ProgramData) → (part_faults p ≡ []) ↔ (IsWel
 abbrev pub LeastStackIsOfAnyTable : Type 0
 LeastStackIsOfAnyTable =
     (p : ProgramData) (table : ℕ → List ℕ) →
-    IsTyped (sample_rules (frame_of p)) 0 p.sample table →
+    IsCodeTyped (sample_rules (frame_of p)) 0 p.sample table →
     AreShort (sample_rules (frame_of p)) 0 p.sample table →
     least_stack p ≡ longest_list table 0 p.sample

@@ -28,13 +28,13 @@ path_of pc (Jumps target) later = 1 + slice_index later (target - (pc + 1))
 path_of pc (Branches target) later =
     1 + max (slice_index later 0) (slice_index later (target - (pc + 1)))
 
-abbrev pub with_path : ℕ → Flow → List ℕ → List ℕ
-with_path pc flow later = path_of pc flow later ∷ later
+abbrev pub path_with : ℕ → Flow → List ℕ → List ℕ
+path_with pc flow later = path_of pc flow later ∷ later
 
 -- the longest paths from the instructions from pc on
 abbrev pub paths_from : ℕ → List Flow → List ℕ
 paths_from pc [] = []
-paths_from pc (flow ∷ flows) = with_path pc flow (paths_from (pc + 1) flows)
+paths_from pc (flow ∷ flows) = path_with pc flow (paths_from (pc + 1) flows)
 
 -- of code that begins at base
 abbrev pub longest_path : ℕ → List Flow → ℕ

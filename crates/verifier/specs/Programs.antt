@@ -17,9 +17,9 @@ use Rattle.bytecode.specs.Instructions.{frame_of, sample_flow}
 use Rattle.verifier_inference.specs.Rules.{sample_rules}
 use Rattle.verifier_inference.specs.Inference.{Found, found, code_faults}
 use Rattle.bytecode.specs.Values.{ProgramData}
-use Rattle.verifier_inference.specs.Sections.{section_faults, IsSection, size_of}
+use Rattle.verifier_inference.specs.Sections.{section_faults, IsSection, instructions_in}
 use Rattle.verifier_inference.specs.Scans.{entry_longest}
-use Rattle.verifier_inference.specs.Typing.{IsTyped, AreShort, longest_list}
+use Rattle.verifier_inference.specs.Typing.{IsCodeTyped, AreShort, longest_list}
 use Rattle.verifier.specs.Limits.{farthest, longest_path, path_sum, start_life}
 
 abbrev pub disable_faults : Option ℕ → ℕ → List Refusal
@@ -42,9 +42,9 @@ header_refusals p =
     ++ over 256 (length (frame_of p).slots) fields.Slots
     ++ over 4096 (length p.sample) fields.Sample
     ++ over 127 (length p.antecedent.blocks) fields.AntecedentPositions
-    ++ over 4096 (size_of p.antecedent.blocks) fields.AntecedentCode
+    ++ over 4096 (instructions_in p.antecedent.blocks) fields.AntecedentCode
     ++ over 127 (length p.consequent.blocks) fields.ConsequentPositions
-    ++ over 4096 (size_of p.consequent.blocks) fields.ConsequentCode
+    ++ over 4096 (instructions_in p.consequent.blocks) fields.ConsequentCode
 
 -- The least limits. That of the stack is the longest list that is agreed on, which is the longest
 -- of the table.
@@ -113,9 +113,9 @@ pub record HasRoom (p : ProgramData) : Type 0 where
   pub slots : (length (frame_of p).slots) ≤ 256
   pub sample : (length p.sample) ≤ 4096
   pub antecedent_positions : (length p.antecedent.blocks) ≤ 127
-  pub antecedent_code : (size_of p.antecedent.blocks) ≤ 4096
+  pub antecedent_code : (instructions_in p.antecedent.blocks) ≤ 4096
   pub consequent_positions : (length p.consequent.blocks) ≤ 127
-  pub consequent_code : (size_of p.consequent.blocks) ≤ 4096
+  pub consequent_code : (instructions_in p.consequent.blocks) ≤ 4096
 
 -- the disabling atom is there
 abbrev pub IsAtom : Option ℕ → ℕ → Type 0
@@ -126,7 +126,7 @@ pub record IsWellFormed (p : ProgramData) : Type 0 where
   pub disable : IsAtom p.header.disable p.header.atoms
   -- the lists of the sample code
   pub table : ℕ → List ℕ
-  pub sample : IsTyped (sample_rules (frame_of p)) 0 p.sample table
+  pub sample : IsCodeTyped (sample_rules (frame_of p)) 0 p.sample table
   pub short : AreShort (sample_rules (frame_of p)) 0 p.sample table
   pub antecedent : IsSection 2 p.header.atoms p.antecedent
   pub consequent : IsSection 3 p.header.atoms p.consequent
@@ -149,7 +149,7 @@ pub record IsAcceptable (p : ProgramData) : Type 0 where
 pub record IsAccepted (p : ProgramData) : Type 0 where
   pub disable : IsAtom p.header.disable p.header.atoms
   pub table : ℕ → List ℕ
-  pub sample : IsTyped (sample_rules (frame_of p)) 0 p.sample table
+  pub sample : IsCodeTyped (sample_rules (frame_of p)) 0 p.sample table
   pub antecedent : IsSection 2 p.header.atoms p.antecedent
   pub consequent : IsSection 3 p.header.atoms p.consequent
   -- nothing is over the most

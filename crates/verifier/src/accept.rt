@@ -2,7 +2,7 @@
 
 ghost use Rattle.std.specs.Prelude.{◌≡◌, ◌⊎◌, ◌++◌, List, [], IfOk, OnOk, IfErr};
 ghost use Rattle.verifier_inference.specs.declared.refusal.Refusal.{Refusal};
-ghost use Rattle.verifier_inference.specs.Order.{first_of, IsFirstRefusal};
+ghost use Rattle.verifier_inference.specs.Order.{first_refusal, IsFirstRefusal};
 ghost use Rattle.bytecode.specs.Programs.{data_of};
 ghost use Rattle.verifier.specs.Programs.{sample_faults, part_faults, all_faults, least_stack};
 ghost use Rattle.verifier.specs.Programs.{least_limits};
@@ -69,8 +69,8 @@ fn or_below(
     least: usize,
     refusal: Refusal,
 ) -> Option<Refusal>
-    ensures { (rs : List Refusal) → first ≡ first_of rs →
-        result ≡ first_of (rs ++ below declared least refusal) }
+    ensures { (rs : List Refusal) → first ≡ first_refusal rs →
+        result ≡ first_refusal (rs ++ below declared least refusal) }
 {
     match first {
         Some(found) => Some(found),
@@ -86,7 +86,7 @@ fn or_below(
 
 /// The first limit that is declared below the least.
 fn limit_fault(declared: Limits, least: LeastLimits) -> Option<Refusal>
-    ensures { result ≡ first_of (limit_refusals declared least) }
+    ensures { result ≡ first_refusal (limit_refusals declared least) }
 {
     let (history, stack) = (least.history, least.stack);
     let first = or_below(

@@ -2,8 +2,8 @@
 
 ghost use Rattle.std.specs.Prelude.{◌≡◌, ◌++◌, List, length};
 ghost use Rattle.verifier_inference.specs.declared.refusal.Refusal.{Refusal};
-ghost use Rattle.verifier_inference.specs.Order.{first_of};
-ghost use Rattle.verifier_inference.specs.Sections.{size_of};
+ghost use Rattle.verifier_inference.specs.Order.{first_refusal};
+ghost use Rattle.verifier_inference.specs.Sections.{instructions_in};
 ghost use Rattle.bytecode.specs.Instructions.{frame_of};
 ghost use Rattle.bytecode.specs.Programs.{data_of};
 ghost use Rattle.bytecode.specs.Views.{section_data};
@@ -14,7 +14,7 @@ use verifier_inference::{Field, Refusal, capped_size};
 
 /// The fault of a disabling atom that isn't there.
 fn disable_fault(disable: Option<u8>, atoms: u8) -> Option<Refusal>
-    ensures { result ≡ first_of (disable_faults disable atoms) }
+    ensures { result ≡ first_refusal (disable_faults disable atoms) }
 {
     match disable {
         None => None,
@@ -30,8 +30,8 @@ fn disable_fault(disable: Option<u8>, atoms: u8) -> Option<Refusal>
 
 /// The fault that was found, or else that of a number over the most that there may be.
 fn or_over(first: Option<Refusal>, most: usize, number: usize, field: Field) -> Option<Refusal>
-    ensures { (rs : List Refusal) → first ≡ first_of rs →
-        result ≡ first_of (rs ++ over most number field) }
+    ensures { (rs : List Refusal) → first ≡ first_refusal rs →
+        result ≡ first_refusal (rs ++ over most number field) }
 {
     match first {
         Some(refusal) => Some(refusal),
@@ -47,9 +47,9 @@ fn or_over(first: Option<Refusal>, most: usize, number: usize, field: Field) -> 
 
 /// The same of a part's code.
 fn or_over_size(first: Option<Refusal>, section: &Section, field: Field) -> Option<Refusal>
-    ensures { (rs : List Refusal) → first ≡ first_of rs →
-        result ≡ first_of
-        (rs ++ over 4096 (size_of (section_data section.now).blocks) field) }
+    ensures { (rs : List Refusal) → first ≡ first_refusal rs →
+        result ≡ first_refusal
+        (rs ++ over 4096 (instructions_in (section_data section.now).blocks) field) }
 {
     or_over(first, 4096, capped_size(&section.blocks), field)
 }
@@ -63,7 +63,7 @@ fn slot_count(program: &Program) -> usize
 
 /// The first fault of the header.
 pub(crate) fn header_fault(program: &Program) -> Option<Refusal>
-    ensures { result ≡ first_of (header_refusals (data_of program.now)) }
+    ensures { result ≡ first_refusal (header_refusals (data_of program.now)) }
 {
     let first = disable_fault(program.disable, program.atoms);
     let first = or_over(first, 4096, program.limits.history as usize, Field::History);

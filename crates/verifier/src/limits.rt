@@ -9,7 +9,7 @@ ghost use Rattle.verifier.specs.Programs.{HasRoom, least_stack, least_limits};
 
 use crate::least::LeastLimits;
 use crate::lives::start_life;
-use crate::paths::{larger, path_sum, sample_path};
+use crate::paths::{path_sum, sample_path};
 use bytecode::{Program, SampleInstr};
 use std::alloc::{AllocError, Global};
 
@@ -27,9 +27,9 @@ fn reach_of(instr: SampleInstr) -> usize
 fn farthest(code: &[SampleInstr]) -> usize
     ensures { result ≡ farthest code.now }
 {
-    let mut most = 0;
+    let mut most = 0_usize;
     'code: for k in 0..code.len() {
-        most = larger(most, reach_of(code[k]));
+        most = most.max(reach_of(code[k]));
     }
     most
 }

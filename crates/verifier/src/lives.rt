@@ -6,7 +6,7 @@ ghost use Rattle.verifier.specs.Limits.{most_in, start_life};
 ghost use Rattle.verifier_inference.specs.Views.{blocks_of};
 ghost use Rattle.bytecode.specs.Views.{section_data};
 
-use crate::paths::{larger, path_from};
+use crate::paths::path_from;
 use bytecode::{BlockInstr, Section};
 use std::alloc::{AllocError, Global};
 
@@ -30,9 +30,9 @@ fn longest_entered(lives: &[usize], next: usize, block: &[BlockInstr]) -> usize
     ensures life { result ≡ longest_entered next (drop next lives.now) block.now }
     ensures few { (m : ℕ) → ((j : ℕ) → slice_index lives.now j ≤ m) → result ≤ m }
 {
-    let mut most = 0;
+    let mut most = 0_usize;
     'block: for k in 0..block.len() {
-        most = larger(most, entered_life(lives, next, block[k]));
+        most = most.max(entered_life(lives, next, block[k]));
     }
     most
 }
@@ -68,9 +68,9 @@ fn most_in(set: u128, lives: &[usize]) -> usize
     ensures most { result ≡ most_in set 0 lives.now }
     ensures few { (m : ℕ) → ((j : ℕ) → slice_index lives.now j ≤ m) → result ≤ m }
 {
-    let mut most = 0;
+    let mut most = 0_usize;
     'lives: for p in 0..lives.len() {
-        most = larger(most, life_in(set, p, lives[p]));
+        most = most.max(life_in(set, p, lives[p]));
     }
     most
 }
@@ -84,5 +84,5 @@ pub(crate) fn start_life(alloc: Global, section: &Section) -> Result<usize, Allo
 {
     let mut lives = vec![in alloc; 0; section.blocks.len()]?;
     fill_lives(&section.blocks, &mut lives);
-    Ok(larger(1, most_in(section.start, &lives)))
+    Ok(1_usize.max(most_in(section.start, &lives)))
 }

@@ -1,21 +1,14 @@
 //! Longest paths through code, in instructions.
 
-ghost use Rattle.std.specs.Prelude.{◌≡◌, ◌<◌, ◌≤◌, ◌+◌, ◌-◌, ◌^◌, ℕ, List, length, map, max, drop};
+ghost use Rattle.std.specs.Prelude.{◌≡◌, ◌<◌, ◌≤◌, ◌+◌, ◌-◌, ◌^◌, ℕ, List, length, map, drop};
 ghost use Rattle.std.specs.Prelude.{slice_index, IfOk};
 ghost use Rattle.bytecode.specs.Instructions.{sample_flow, block_flow};
 ghost use Rattle.verifier.specs.Limits.{path_of, paths_from, longest_path, path_sum};
-ghost use Rattle.verifier_inference.specs.Sections.{size_of};
+ghost use Rattle.verifier_inference.specs.Sections.{instructions_in};
 ghost use Rattle.verifier_inference.specs.Views.{blocks_of};
 
 use bytecode::{BlockInstr, Flow, SampleInstr};
 use std::alloc::{AllocError, Global};
-
-/// The larger of two numbers.
-pub(crate) fn larger(first: usize, second: usize) -> usize
-    ensures { result ≡ max first second }
-{
-    if first < second { second } else { first }
-}
 
 /// The path from a place, 0 past the end.
 pub(crate) fn path_from(paths: &[usize], place: usize) -> usize
@@ -36,10 +29,8 @@ fn path_of(paths: &[usize], k: usize, pc: usize, flow: Flow) -> usize
         Flow::GoesOn => 1 + path_from(paths, k),
         Flow::Jumps(target) => 1 + path_from(paths, k + (target as usize).saturating_sub(pc + 1)),
         Flow::Branches(target) => {
-            1 + larger(
-                path_from(paths, k),
-                path_from(paths, k + (target as usize).saturating_sub(pc + 1)),
-            )
+            let next = path_from(paths, k);
+            1 + next.max(path_from(paths, k + (target as usize).saturating_sub(pc + 1)))
         }
     }
 }
@@ -116,7 +107,7 @@ fn block_path(alloc: Global, base: usize, block: &[BlockInstr]) -> Result<usize,
 
 /// The sum of the longest paths of the blocks.
 pub(crate) fn path_sum(alloc: Global, blocks: &[Vec<BlockInstr>]) -> Result<usize, AllocError>
-    requires { size_of (blocks_of blocks.now) ≤ 4096 }
+    requires { instructions_in (blocks_of blocks.now) ≤ 4096 }
     ensures sum { IfOk result (λ sum. sum ≡ path_sum 0 (blocks_of blocks.now)) }
     ensures few { IfOk result (λ sum. sum ≤ 4096) }
 {

@@ -11,9 +11,9 @@ use Rattle.verifier_inference.specs.Rules.{block_rules}
 use Rattle.bytecode.specs.Instructions.{block_flow}
 use Rattle.verifier_inference.specs.Inference.{Message, sends, jump_faults, end_faults, faults_at, left_by}
 use Rattle.verifier_inference.specs.Inference.{code_faults, found, entry}
-use Rattle.verifier_inference.specs.Order.{part_of, IsFirst, first_of}
+use Rattle.verifier_inference.specs.Order.{fault_part, IsFirstFound, first_refusal}
 use Rattle.verifier_inference.specs.Scans.{list_at, HasRead}
-use Rattle.verifier_inference.specs.Marks.{marked, Reached}
+use Rattle.verifier_inference.specs.Marks.{marked, MarksReached}
 use Rattle.verifier_inference.proofs.OrderLaws.{Rises, NamesRise}
 use Rattle.verifier_inference.proofs.ScanLaws.{head_of, start, step, refused_at, stop}
 use Rattle.verifier_inference.proofs.TypingLaws.{faults_parts}
@@ -38,7 +38,7 @@ block_rise section atoms positions p pc Accept = omega arith
 block_rise section atoms positions p pc Stop = omega arith
 block_rise section atoms positions p pc AcceptFirst = kind_name (section == 2) pc
 
-pub none_first : (rs : List Refusal) → None ≡ first_of rs → rs ≡ []
+pub none_first : (rs : List Refusal) → None ≡ first_refusal rs → rs ≡ []
 none_first [] h = refl
 none_first (r ∷ rs) h = cc
 
@@ -52,51 +52,55 @@ list_marked true = refl
 list_marked false = refl
 
 module _ (section atoms positions p base : ℕ) (block : List BlockInstr) where
-  pub block_start : (marks : List Bool) → 0 < length block → Reached base marks (entry base)
-      → HasRead (block_rules section atoms positions p) base block (Reached base marks) 0 (base + length block)
+  pub block_start : (marks : List Bool) → 0 < length block → MarksReached base marks (entry base)
+      → HasRead (block_rules section atoms positions p) base block (MarksReached base marks) 0 (base + length block)
       (base + 0) 0
   block_start marks some reached =
       let e : base ≡ base + 0 = omega arith in
-      subst (λ (pc : ℕ). HasRead (block_rules section atoms positions p) base block (Reached base marks) 0
+      subst (λ (pc : ℕ). HasRead (block_rules section atoms positions p) base block (MarksReached base marks) 0
       (base + length block) pc 0) e
-      (start (block_rules section atoms positions p) base (base + length block) block (Reached base marks) refl some
+      (start (block_rules section atoms positions p) base (base + length block) block
+      (MarksReached base marks) refl some
       reached)
 
   module _ (marks : List Bool) (k : ℕ) (i d : BlockInstr) (mark : Bool)
-      (read : HasRead (block_rules section atoms positions p) base block (Reached base marks) 0 (base + length block)
+      (read : HasRead (block_rules section atoms positions p) base block (MarksReached base marks) 0
+      (base + length block)
       (base + k) k) (below : k < length block) (here : i ≡ get_or block k d) (at : slice_get marks k ≡ Some mark)
     where
       pub block_refused : (e : Refusal)
           → Some e
-          ≡ first_of
+          ≡ first_refusal
           (faults_at (block_rules section atoms positions p) (base + length block) (base + k) i (marked mark)) →
-          IsFirst (found section (base + k) e) (code_faults (block_rules section atoms positions p) base block)
-          × (part_of e ≡ 0)
+          IsFirstFound (found section (base + k) e) (code_faults (block_rules section atoms positions p) base block)
+          × (fault_part e ≡ 0)
       block_refused e h =
-          refused_at (block_rules section atoms positions p) base block (Reached base marks) 0 (base + length block)
+          refused_at (block_rules section atoms positions p) base block (MarksReached base marks) 0
+          (base + length block)
           (base + k) k i d (marked mark) read below here (sym (read.holds k mark at)) e
           (block_rise section atoms positions p)
           (head_of e _ h)
 
       pub block_step : (new : List Bool)
           → None
-          ≡ first_of
+          ≡ first_refusal
           (faults_at (block_rules section atoms positions p) (base + length block) (base + k) i (marked mark)) →
-          ((ms : List Message) → Reached base marks ms → Reached base new (sends (base + k) (block_flow i) [] ms))
-          → HasRead (block_rules section atoms positions p) base block (Reached base new) 0 (base + length block)
+          ((ms : List Message) → MarksReached base marks ms
+          → MarksReached base new (sends (base + k) (block_flow i) [] ms))
+          → HasRead (block_rules section atoms positions p) base block (MarksReached base new) 0 (base + length block)
           (base + (k + 1)) (k + 1)
       block_step new clear sent =
           let e : base + k + 1 ≡ base + (k + 1) = omega arith in
           let none : 0 ≡ length (list_at (marked mark)) = ap (length {A = ℕ}) (sym (list_marked mark)) in
-          subst (λ (pc : ℕ). HasRead (block_rules section atoms positions p) base block (Reached base new) 0
+          subst (λ (pc : ℕ). HasRead (block_rules section atoms positions p) base block (MarksReached base new) 0
           (base + length block) pc (k + 1)) e
-          (step (block_rules section atoms positions p) base block (Reached base marks) 0 (base + length block)
+          (step (block_rules section atoms positions p) base block (MarksReached base marks) 0 (base + length block)
           (base + k)
-          k i d (marked mark) read below here (sym (read.holds k mark at)) [] (Reached base new) 0
+          k i d (marked mark) read below here (sym (read.holds k mark at)) [] (MarksReached base new) 0
           (none_first _ clear) (left_marked section atoms positions p i mark) (omega (arith, none)) sent)
 
       pub block_parts : None
-          ≡ first_of
+          ≡ first_refusal
           (faults_at (block_rules section atoms positions p) (base + length block) (base + k) i (marked mark)) →
           (jump_faults (base + length block) (base + k) (block_flow i) ≡ [])
           × (end_faults (base + length block) (base + k) (block_flow i) ≡ [])
@@ -105,8 +109,9 @@ module _ (section atoms positions p base : ℕ) (block : List BlockInstr) where
           (none_first _ clear)
 
   pub block_stop : (marks : List Bool) (k : ℕ) → HasRead (block_rules section atoms positions p) base block
-      (Reached base marks) 0 (base + length block) (base + k) k → length block ≤ k
+      (MarksReached base marks) 0 (base + length block) (base + k) k → length block ≤ k
       → code_faults (block_rules section atoms positions p) base block ≡ []
   block_stop marks k read past =
-      (stop (block_rules section atoms positions p) base block (Reached base marks) 0 (base + length block) (base + k)
+      (stop (block_rules section atoms positions p) base block (MarksReached base marks) 0 (base + length block)
+      (base + k)
       k read past).0

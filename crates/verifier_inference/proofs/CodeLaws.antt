@@ -11,7 +11,7 @@ use Rattle.bytecode.specs.Instructions.{leaves}
 use Rattle.verifier_inference.specs.Rules.{block_rules}
 use Rattle.verifier_inference.specs.Inference.{Found, found, code_faults, entry}
 use Rattle.verifier_inference.specs.Order.{IsIn, IsFirstRefusal}
-use Rattle.verifier_inference.specs.Typing.{IsTyped, AreShort}
+use Rattle.verifier_inference.specs.Typing.{IsCodeTyped, AreShort}
 use Rattle.bytecode.specs.Values.{SectionData}
 use Rattle.verifier_inference.specs.Sections.{blocks_faults, start_faults, section_faults, AreTyped}
 use Rattle.verifier_inference.specs.Sections.{IsSection}
@@ -93,21 +93,21 @@ first_behind r xs ys none f = subst (λ (zs : List Found). IsFirstRefusal r (zs 
 
 -- code without a fault
 pub typed_code : {I : Type 0} (r : Rules I) (base : ℕ) (code : List I) → code_faults r base code ≡ []
-    → (table : ℕ → List ℕ) × IsTyped r base code table × AreShort r base code table
+    → (table : ℕ → List ℕ) × IsCodeTyped r base code table × AreShort r base code table
 typed_code r base [] h = cc
 typed_code r base (i ∷ is) h =
     let typed = typed_by r base (i ∷ is) (omega arith) h in
     (table_of r base (i ∷ is) (omega arith) h, typed.0, typed.1)
 
 pub faultless_code : {I : Type 0} (r : Rules I) (base : ℕ) (code : List I) (table : ℕ → List ℕ)
-    → IsTyped r base code table → AreShort r base code table → code_faults r base code ≡ []
+    → IsCodeTyped r base code table → AreShort r base code table → code_faults r base code ≡ []
 faultless_code r base [] table typed short = absurd (omega (arith, typed.some))
 faultless_code r base (i ∷ is) table typed short = no_faults r base (i ∷ is) table typed short
 
 -- blocks have empty lists
 module _ (section atoms positions p base : ℕ) (b : List BlockInstr) where
-  emptied : (table : ℕ → List ℕ) → IsTyped (block_rules section atoms positions p) base b table
-      → IsTyped (block_rules section atoms positions p) base b (λ pc. [])
+  emptied : (table : ℕ → List ℕ) → IsCodeTyped (block_rules section atoms positions p) base b table
+      → IsCodeTyped (block_rules section atoms positions p) base b (λ pc. [])
   emptied table typed =
       record {
         some = typed.some;
@@ -124,10 +124,10 @@ module _ (section atoms positions p base : ℕ) (b : List BlockInstr) where
       }
 
   pub typed_block : code_faults (block_rules section atoms positions p) base b ≡ []
-      → IsTyped (block_rules section atoms positions p) base b (λ pc. [])
+      → IsCodeTyped (block_rules section atoms positions p) base b (λ pc. [])
   typed_block h = (let t = typed_code (block_rules section atoms positions p) base b h in emptied t.0 t.1)
 
-  pub faultless_block : IsTyped (block_rules section atoms positions p) base b (λ pc. [])
+  pub faultless_block : IsCodeTyped (block_rules section atoms positions p) base b (λ pc. [])
       → code_faults (block_rules section atoms positions p) base b ≡ []
   faultless_block typed =
       faultless_code (block_rules section atoms positions p) base b (λ pc. []) typed

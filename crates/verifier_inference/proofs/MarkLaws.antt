@@ -10,9 +10,9 @@ use Rattle.std.proofs.lemmas.Bool.{and_cases, ltb-true, ltb-false, leb-true, leb
 use Rattle.std.proofs.lemmas.Bool.{eqb-false}
 use Rattle.verifier_inference.specs.declared.fault.Fault.{Fault}
 use Rattle.verifier_inference.specs.Inference.{Message, agreed, merge, arrival_at, entry, Found, found}
-use Rattle.verifier_inference.specs.Order.{number_of, part_of, IsUpTo, place_of, IsIn, IsFirst}
+use Rattle.verifier_inference.specs.Order.{number_of, fault_part, IsUpTo, found_place, IsIn, IsFirstFound}
 use Rattle.verifier_inference.specs.Scans.{IsFirstOf}
-use Rattle.verifier_inference.specs.Marks.{marked, Reached, is_up_to}
+use Rattle.verifier_inference.specs.Marks.{marked, MarksReached, is_up_to}
 use Rattle.verifier_inference.proofs.ArrivalLaws.{set_same, set_other}
 use Rattle.verifier_inference.proofs.OrderLaws.{in_append, in_left, in_right}
 
@@ -20,8 +20,8 @@ merge_mark : (m : Bool) → merge [] (marked m) ≡ agreed []
 merge_mark true = refl
 merge_mark false = refl
 
-pub marked_set : (base at to : ℕ) (marks : List Bool) (ms : List Message) → base + at ≡ to → Reached base marks ms
-    → Reached base (set marks at true) (record { to = to; list = [] } ∷ ms)
+pub marked_set : (base at to : ℕ) (marks : List Bool) (ms : List Message) → base + at ≡ to → MarksReached base marks ms
+    → MarksReached base (set marks at true) (record { to = to; list = [] } ∷ ms)
 marked_set base at to marks ms e reached k mark h =
     elim (cases_eq k at) [
       | inl same ↦
@@ -44,7 +44,7 @@ unmarked zero k mark h = cc
 unmarked (suc n) zero mark h = cc
 unmarked (suc n) (suc k) mark h = unmarked n k mark h
 
-pub first_mark : (base n : ℕ) → Reached base (set (replicate n false) 0 true) (entry base)
+pub first_mark : (base n : ℕ) → MarksReached base (set (replicate n false) 0 true) (entry base)
 first_mark base n =
     marked_set base 0 base (replicate n false) [] (omega arith) (λ k mark h. ap marked (unmarked n k mark h))
 
@@ -58,29 +58,31 @@ up_to_trans (x ∷ xs) (y ∷ ys) (z ∷ zs) (inl l) (inr m) = inl (omega (arith
 up_to_trans (x ∷ xs) (y ∷ ys) (z ∷ zs) (inr l) (inl m) = inl (omega (arith, l.0, m))
 up_to_trans (x ∷ xs) (y ∷ ys) (z ∷ zs) (inr l) (inr m) = inr (l.0 ∙ m.0, up_to_trans xs ys zs l.1 m.1)
 
-pub first_left : (x y : Found) (xs ys : List Found) → IsFirst x xs → IsFirst y ys → IsUpTo (place_of x) (place_of y)
-    → IsFirst x (xs ++ ys)
+pub first_left : (x y : Found) (xs ys : List Found) → IsFirstFound x xs → IsFirstFound y ys
+    → IsUpTo (found_place x) (found_place y)
+    → IsFirstFound x (xs ++ ys)
 first_left x y xs ys f g up =
     record {
       stands = in_left x xs ys f.stands;
       first = λ z h. elim (in_append z xs ys h) [
         | inl i ↦ f.first z i
-        | inr i ↦ up_to_trans (place_of x) (place_of y) (place_of z) up (g.first z i)
+        | inr i ↦ up_to_trans (found_place x) (found_place y) (found_place z) up (g.first z i)
       ];
     }
 
-pub first_right : (x y : Found) (xs ys : List Found) → IsFirst x xs → IsFirst y ys → IsUpTo (place_of y) (place_of x)
-    → IsFirst y (xs ++ ys)
+pub first_right : (x y : Found) (xs ys : List Found) → IsFirstFound x xs → IsFirstFound y ys
+    → IsUpTo (found_place y) (found_place x)
+    → IsFirstFound y (xs ++ ys)
 first_right x y xs ys f g up =
     record {
       stands = in_right y xs ys g.stands;
       first = λ z h. elim (in_append z xs ys h) [
-        | inl i ↦ up_to_trans (place_of y) (place_of x) (place_of z) up (f.first z i)
+        | inl i ↦ up_to_trans (found_place y) (found_place x) (found_place z) up (f.first z i)
         | inr i ↦ g.first z i
       ];
     }
 
-pub first_with_none : (x : Found) (xs ys : List Found) → ys ≡ [] → IsFirst x xs → IsFirst x (xs ++ ys)
+pub first_with_none : (x : Found) (xs ys : List Found) → ys ≡ [] → IsFirstFound x xs → IsFirstFound x (xs ++ ys)
 first_with_none x xs ys none f =
     record {
       stands = in_left x xs ys f.stands;
@@ -98,22 +100,24 @@ by_numbers section pc m n a b le za zb =
       | inr other ↦ inr (refl, inr (refl, inl (omega (arith, le, other))))
     ]
 
-up_to_true : (section : ℕ) (f g : Fault) → part_of f.refusal ≡ 0 → part_of g.refusal ≡ 0 → is_up_to f g ≡ true
-    → IsUpTo (place_of (found section f.pc f.refusal)) (place_of (found section g.pc g.refusal))
+up_to_true : (section : ℕ) (f g : Fault) → fault_part f.refusal ≡ 0 → fault_part g.refusal ≡ 0 → is_up_to f g ≡ true
+    → IsUpTo (found_place (found section f.pc f.refusal)) (found_place (found section g.pc g.refusal))
 up_to_true section f g a b h =
     elim (or_cases (nat_lt f.pc g.pc) (f.pc == g.pc && nat_le (number_of f.refusal) (number_of g.refusal)) h) [
       | inl l ↦ inr (refl, inl (ltb-true f.pc g.pc l))
       | inr e ↦
           let parts = and_parts (f.pc == g.pc) (nat_le (number_of f.refusal) (number_of g.refusal)) e in
           let same = eqb-true f.pc g.pc parts.0 in
-          subst (λ (n : ℕ). IsUpTo (place_of (found section f.pc f.refusal)) (place_of (found section n g.refusal)))
+          subst (λ (n : ℕ). IsUpTo (found_place (found section f.pc f.refusal))
+          (found_place (found section n g.refusal)))
           same
-          (by_numbers section f.pc (number_of f.refusal) (number_of g.refusal) (part_of f.refusal) (part_of g.refusal)
+          (by_numbers section f.pc (number_of f.refusal) (number_of g.refusal) (fault_part f.refusal)
+          (fault_part g.refusal)
           (leb-true _ _ parts.1) a b)
     ]
 
-up_to_false : (section : ℕ) (f g : Fault) → part_of f.refusal ≡ 0 → part_of g.refusal ≡ 0 → is_up_to f g ≡ false
-    → IsUpTo (place_of (found section g.pc g.refusal)) (place_of (found section f.pc f.refusal))
+up_to_false : (section : ℕ) (f g : Fault) → fault_part f.refusal ≡ 0 → fault_part g.refusal ≡ 0 → is_up_to f g ≡ false
+    → IsUpTo (found_place (found section g.pc g.refusal)) (found_place (found section f.pc f.refusal))
 up_to_false section f g a b h =
     let parts = or_parts (nat_lt f.pc g.pc) (f.pc == g.pc && nat_le (number_of f.refusal) (number_of g.refusal)) h in
     let low = ltb-false f.pc g.pc parts.0 in
@@ -122,10 +126,10 @@ up_to_false section f g a b h =
       | inr above ↦
           elim (cases_eq g.pc f.pc) [
             | inl same ↦
-                subst (λ (n : ℕ). IsUpTo (place_of (found section g.pc g.refusal))
-                (place_of (found section n f.refusal))) same
-                (by_numbers section g.pc (number_of g.refusal) (number_of f.refusal) (part_of g.refusal)
-                (part_of f.refusal) (let l = leb-false (number_of f.refusal) (number_of g.refusal) above in
+                subst (λ (n : ℕ). IsUpTo (found_place (found section g.pc g.refusal))
+                (found_place (found section n f.refusal))) same
+                (by_numbers section g.pc (number_of g.refusal) (number_of f.refusal) (fault_part g.refusal)
+                (fault_part f.refusal) (let l = leb-false (number_of f.refusal) (number_of g.refusal) above in
                 omega (arith, l)) b a)
             | inr other ↦ inr (refl, inl (omega (arith, low, other)))
           ]

@@ -13,7 +13,7 @@ use Rattle.verifier_inference.specs.Inference.{Message, ArrivalData, nothing, ag
 use Rattle.verifier_inference.specs.Inference.{effect_faults, operand_faults, target_faults, jump_faults}
 use Rattle.verifier_inference.specs.Inference.{arrival_faults, end_faults, faults_at, told, Found, found}
 use Rattle.verifier_inference.specs.Inference.{faults_from}
-use Rattle.verifier_inference.specs.Order.{number_of, part_of, IsUpTo, place_of, IsIn, IsFirst}
+use Rattle.verifier_inference.specs.Order.{number_of, fault_part, IsUpTo, found_place, IsIn, IsFirstFound}
 
 pub in_append : {A : Type 0} (y : A) (xs ys : List A) → IsIn y (xs ++ ys) → IsIn y xs ⊎ IsIn y ys
 in_append y [] ys h = inr h
@@ -36,7 +36,7 @@ in_right y (x ∷ xs) ys h = inr (in_right y xs ys h)
 -- Refusals that rise above a number, up to another one, each the only one of its number.
 abbrev pub Rises : ℕ → ℕ → List Refusal → Type 0
 Rises low high [] = low ≤ high
-Rises low high (r ∷ rs) = (low < number_of r) × (part_of r ≡ 0) × Rises (number_of r) high rs
+Rises low high (r ∷ rs) = (low < number_of r) × (fault_part r ≡ 0) × Rises (number_of r) high rs
 
 rises_join : (low middle high : ℕ) (xs ys : List Refusal) → Rises low middle xs → Rises middle high ys
     → Rises low high (xs ++ ys)
@@ -47,7 +47,7 @@ rises_join low middle high [] ys a b = rises_weaker low middle high ys a b
     rises_weaker low middle high (y ∷ ys) a b = (omega (arith, b.0), b.1, b.2)
 rises_join low middle high (x ∷ xs) ys a b = (a.0, a.1, rises_join (number_of x) middle high xs ys a.2 b)
 
-if_one : (b : Bool) (r : Refusal) (low high : ℕ) → low < number_of r → number_of r ≤ high → part_of r ≡ 0
+if_one : (b : Bool) (r : Refusal) (low high : ℕ) → low < number_of r → number_of r ≤ high → fault_part r ≡ 0
     → Rises low high (cond b (r ∷ []) [])
 if_one true r low high l h p = (l, p, h)
 if_one false r low high l h p = omega arith
@@ -107,9 +107,9 @@ faults_rise r rise end pc i a =
     (rises_join 7 8 17 (end_faults end pc (r.flow i)) (r.names pc i) (end_rises end pc (r.flow i)) (rise pc i))))
 
 above : (x : Refusal) (low high : ℕ) (rs : List Refusal) → Rises low high rs → IsIn x rs → (low < number_of x)
-    × (part_of x ≡ 0)
+    × (fault_part x ≡ 0)
 above x low high [] h i = absurd i
-above x low high (r ∷ rs) h (inl e) = (subst (λ (y : Refusal). low < number_of y) (sym e) h.0, ap part_of e ∙ h.1)
+above x low high (r ∷ rs) h (inl e) = (subst (λ (y : Refusal). low < number_of y) (sym e) h.0, ap fault_part e ∙ h.1)
 above x low high (r ∷ rs) h (inr i) =
     (let more = above x (number_of r) high rs h.2 i in (omega (arith, h.0, more.0), more.1))
 
@@ -140,7 +140,7 @@ stands_from r end pc (i ∷ is) ms y h =
 -- the first of those at one place, before all that stand later in the section
 pub first_here : (section pc : ℕ) (e : Refusal) (rest : List Refusal) (later : List Found) → Rises 0 17 (e ∷ rest)
     → ((y : Found) → IsIn y later → Stands section (pc + 1) y) →
-    IsFirst (found section pc e) (map (found section pc) (e ∷ rest) ++ later)
+    IsFirstFound (found section pc e) (map (found section pc) (e ∷ rest) ++ later)
 first_here section pc e rest later rises after =
     record {
       stands = inl refl;
@@ -148,13 +148,13 @@ first_here section pc e rest later rises after =
     }
   where
     at_place : (x : Refusal) → IsIn x (e ∷ rest)
-        → IsUpTo (place_of (found section pc e)) (place_of (found section pc x))
-    at_place x (inl same) = inr (refl, inr (refl, inr (ap number_of (sym same), inr (ap part_of (sym same), tt))))
+        → IsUpTo (found_place (found section pc e)) (found_place (found section pc x))
+    at_place x (inl same) = inr (refl, inr (refl, inr (ap number_of (sym same), inr (ap fault_part (sym same), tt))))
     at_place x (inr i) = inr (refl, inr (refl, inl ((above x (number_of e) 17 rest rises.2 i).0)))
 
     by_part : (y : Found) → IsIn y (map (found section pc) (e ∷ rest)) ⊎ IsIn y later
-        → IsUpTo (place_of (found section pc e)) (place_of y)
+        → IsUpTo (found_place (found section pc e)) (found_place y)
     by_part y (inl here) =
         let at = in_found y section pc (e ∷ rest) here in
-        subst (λ (f : Found). IsUpTo (place_of (found section pc e)) (place_of f)) (sym at.2) (at_place at.0 at.1)
+        subst (λ (f : Found). IsUpTo (found_place (found section pc e)) (found_place f)) (sym at.2) (at_place at.0 at.1)
     by_part y (inr there) = inr (sym (after y there).section_is, inl (omega (arith, (after y there).from)))

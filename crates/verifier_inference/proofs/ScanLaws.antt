@@ -8,36 +8,36 @@ use Rattle.verifier_inference.specs.Rules.{Rules}
 use Rattle.verifier_inference.specs.Inference.{Message, ArrivalData, arrival_at, sends, faults_at, left_by}
 use Rattle.verifier_inference.specs.Inference.{if_faultless, told, Found, found, faults_from, code_faults}
 use Rattle.verifier_inference.specs.Inference.{entry}
-use Rattle.verifier_inference.specs.Scans.{list_at, longest_from, IsHead, IsHeadOr, HasRead}
-use Rattle.verifier_inference.specs.Order.{IsUpTo, place_of, part_of, IsIn, IsFirst, IsFirstRefusal}
-use Rattle.verifier_inference.specs.Order.{first_of}
+use Rattle.verifier_inference.specs.Scans.{list_at, longest_agreed, IsHeadRefusal, IsHeadOr, HasRead}
+use Rattle.verifier_inference.specs.Order.{IsUpTo, found_place, fault_part, IsIn, IsFirstFound, IsFirstRefusal}
+use Rattle.verifier_inference.specs.Order.{first_refusal}
 use Rattle.verifier_inference.proofs.OrderLaws.{NamesRise, faults_rise, Rises, stands_from, first_here}
 
 pub head_front : (r : Refusal) (xs ys : List Refusal) → IsHeadOr r xs → IsHeadOr r (xs ++ ys)
 head_front r xs ys (inl m) = inl m
 head_front r xs ys (inr h) = inr (h.0 ++ ys, ap (λ zs. zs ++ ys) h.1)
 
-pub head_of : (r : Refusal) (xs : List Refusal) → Some r ≡ first_of xs → IsHead r xs
+pub head_of : (r : Refusal) (xs : List Refusal) → Some r ≡ first_refusal xs → IsHeadRefusal r xs
 head_of r [] e = cc
 head_of r (x ∷ xs) e = (let same : r ≡ x = cc in (xs, ap (λ y. y ∷ xs) (sym same)))
 
-pub head_rest : (r : Refusal) (xs ys : List Refusal) → xs ≡ [] → Some r ≡ first_of ys → IsHeadOr r (xs ++ ys)
-head_rest r xs ys none e = inr (subst (λ (zs : List Refusal). IsHead r (zs ++ ys)) (sym none) (head_of r ys e))
+pub head_rest : (r : Refusal) (xs ys : List Refusal) → xs ≡ [] → Some r ≡ first_refusal ys → IsHeadOr r (xs ++ ys)
+head_rest r xs ys none e = inr (subst (λ (zs : List Refusal). IsHeadRefusal r (zs ++ ys)) (sym none) (head_of r ys e))
 
 -- a fault alone
-pub first_alone : (x : Found) → IsFirst x (x ∷ [])
+pub first_alone : (x : Found) → IsFirstFound x (x ∷ [])
 first_alone x = record { stands = inl refl; first = λ y h. only y h }
   where
-    only : (y : Found) → IsIn y (x ∷ []) → IsUpTo (place_of x) (place_of y)
+    only : (y : Found) → IsIn y (x ∷ []) → IsUpTo (found_place x) (found_place y)
     only y (inl e) =
-        subst (λ (f : Found). IsUpTo (place_of x) (place_of f)) (sym e)
+        subst (λ (f : Found). IsUpTo (found_place x) (found_place f)) (sym e)
         (inr (refl, inr (refl, inr (refl, inr (refl, tt)))))
     only y (inr h) = absurd h
 
 pub empty_first : {I : Type 0} (r : Rules I) (base : ℕ) (instrs : List I) → instrs ≡ []
-    → IsFirst (found r.section base NoHalt) (code_faults r base instrs)
+    → IsFirstFound (found r.section base NoHalt) (code_faults r base instrs)
 empty_first r base instrs none =
-    subst (λ is. IsFirst (found r.section base NoHalt) (code_faults r base is)) (sym none)
+    subst (λ is. IsFirstFound (found r.section base NoHalt) (code_faults r base is)) (sym none)
     (first_alone (found r.section base NoHalt))
 
 code_faults-some : {I : Type 0} (r : Rules I) (base end : ℕ) (instrs : List I) → end ≡ base + length instrs
@@ -98,20 +98,20 @@ module _ {I : Type 0} (r : Rules I) (base : ℕ) (instrs : List I) (Holds : List
           ap (λ rs. map (found r.section pc) rs ++ faults_from r end (pc + 1) (drop (k + 1) instrs)
           (told r end pc i read.sent)) (ap (faults_at r end pc i) arrives ∙ clear)
 
-      of_rest : longest_from r end pc (drop k instrs) read.sent
+      of_rest : longest_agreed r end pc (drop k instrs) read.sent
           ≡ max (length (list_at a))
-          (longest_from r end (pc + 1) (drop (k + 1) instrs) (sends pc (r.flow i) list read.sent))
+          (longest_agreed r end (pc + 1) (drop (k + 1) instrs) (sends pc (r.flow i) list read.sent))
       of_rest =
-          ap (λ is. longest_from r end pc is read.sent) rest_is
+          ap (λ is. longest_agreed r end pc is read.sent) rest_is
           ∙ ap (λ x. max (length (list_at x))
-          (longest_from r end (pc + 1) (drop (k + 1) instrs) (told r end pc i read.sent))) arrives
-          ∙ ap (λ ms. max (length (list_at a)) (longest_from r end (pc + 1) (drop (k + 1) instrs) ms))
+          (longest_agreed r end (pc + 1) (drop (k + 1) instrs) (told r end pc i read.sent))) arrives
+          ∙ ap (λ ms. max (length (list_at a)) (longest_agreed r end (pc + 1) (drop (k + 1) instrs) ms))
           (told_is list clear left)
 
-  pub refused_at : (e : Refusal) → NamesRise r → IsHead e (faults_at r end pc i a)
-      → IsFirst (found r.section pc e) (code_faults r base instrs) × (part_of e ≡ 0)
+  pub refused_at : (e : Refusal) → NamesRise r → IsHeadRefusal e (faults_at r end pc i a)
+      → IsFirstFound (found r.section pc e) (code_faults r base instrs) × (fault_part e ≡ 0)
   refused_at e rise h = (
-    subst (IsFirst (found r.section pc e)) all_is
+    subst (IsFirstFound (found r.section pc e)) all_is
         (first_here r.section pc e h.0 later rises
         (λ y there. stands_from r end (pc + 1) (drop (k + 1) instrs) (told r end pc i read.sent) y there)),
     rises.1,
@@ -135,8 +135,9 @@ module _ {I : Type 0} (r : Rules I) (base : ℕ) (instrs : List I) (Holds : List
 
 pub stop : {I : Type 0} (r : Rules I) (base : ℕ) (instrs : List I) (Holds : List Message → Type 0)
     (longest end pc k : ℕ) → HasRead r base instrs Holds longest end pc k → length instrs ≤ k →
-    (code_faults r base instrs ≡ []) × (longest ≡ longest_from r end base instrs (entry base))
+    (code_faults r base instrs ≡ []) × (longest ≡ longest_agreed r end base instrs (entry base))
 stop r base instrs Holds longest end pc k read past = (
   sym read.left ∙ ap (λ is. faults_from r end pc is read.sent) (drop_all k instrs past),
-  (let none = ap (λ is. longest_from r end pc is read.sent) (drop_all k instrs past) in omega (arith, none, read.most)),
+  (let none = ap (λ is. longest_agreed r end pc is read.sent) (drop_all k instrs past) in omega
+      (arith, none, read.most)),
 )

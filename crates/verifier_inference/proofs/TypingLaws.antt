@@ -20,10 +20,10 @@ use Rattle.verifier_inference.specs.Inference.{arrival_at, sends, effect_faults,
 use Rattle.verifier_inference.specs.Inference.{target_faults, jump_faults, arrival_faults, end_faults}
 use Rattle.verifier_inference.specs.Inference.{faults_at, after_of, left_by, if_faultless, told, found}
 use Rattle.verifier_inference.specs.Inference.{faults_from, entry}
-use Rattle.verifier_inference.specs.Scans.{list_at, longest_from}
+use Rattle.verifier_inference.specs.Scans.{list_at, longest_agreed}
 use Rattle.verifier_inference.specs.Order.{IsIn}
 use Rattle.bytecode.specs.Instructions.{LeadsTo}
-use Rattle.verifier_inference.specs.Typing.{IsFine, IsTyped, AreShort, longest_list}
+use Rattle.verifier_inference.specs.Typing.{IsFine, IsCodeTyped, AreShort, longest_list}
 use Rattle.verifier_inference.proofs.ScanLaws.{told-clear}
 
 -- parts of an empty list
@@ -458,7 +458,7 @@ module _ {I : Type 0} (r : Rules I) (base : ℕ) (code : List I) (some : 0 < len
         names = s.clear.names;
       }
 
-  pub typed_by : IsTyped r base code table_of × AreShort r base code table_of
+  pub typed_by : IsCodeTyped r base code table_of × AreShort r base code table_of
   typed_by = (
     record {
       some = some;
@@ -509,7 +509,8 @@ module _ {I : Type 0} (r : Rules I) (base : ℕ) (code : List I) (some : 0 < len
           by_source k positive m.0 m.2 (comes r (base + length code) base code (entry base) m.0 m.1)
 
 -- Typed code has no fault, and its longest list is that of the table.
-module _ {I : Type 0} (r : Rules I) (base : ℕ) (code : List I) (table : ℕ → List ℕ) (typed : IsTyped r base code table)
+module _ {I : Type 0} (r : Rules I) (base : ℕ) (code : List I) (table : ℕ → List ℕ)
+    (typed : IsCodeTyped r base code table)
     (are_short : AreShort r base code table) where
   -- what was sent agrees with the table, and each instruction below k has sent
   record IsFaithful (k : ℕ) (ms : List Message) : Type 0 where
@@ -608,13 +609,13 @@ module _ {I : Type 0} (r : Rules I) (base : ℕ) (code : List I) (table : ℕ �
       (subst (λ (n : ℕ). IsFaithful (suc k) (told r (base + length code) n i ms)) (sym here) (told_more k i ms f h))
 
   longest_is : (k pc : ℕ) (is : List I) (ms : List Message) → pc ≡ base + k → IsRest k is → IsFaithful k ms
-      → longest_from r (base + length code) pc is ms ≡ longest_list table pc is
+      → longest_agreed r (base + length code) pc is ms ≡ longest_list table pc is
   longest_is k pc [] ms here rest f = refl
   longest_is k pc (i ∷ is) ms here rest f =
       let h = rest_head k i is rest in
       let below = slice_get_within code k i h in
       ap (λ a. max (length (list_at a))
-      (longest_from r (base + length code) (pc + 1) is (told r (base + length code) pc i ms)))
+      (longest_agreed r (base + length code) (pc + 1) is (told r (base + length code) pc i ms)))
       (ap (λ n. arrival_at n ms) here ∙ arrives k ms f below ∙ ap (λ n. agreed (table n)) (sym here))
       ∙ ap (max (length (table pc)))
       (longest_is (suc k) (pc + 1) is (told r (base + length code) pc i ms) (omega (arith, here))
@@ -634,5 +635,5 @@ module _ {I : Type 0} (r : Rules I) (base : ℕ) (code : List I) (table : ℕ �
   pub no_faults : faults_from r (base + length code) base code (entry base) ≡ []
   no_faults = no_faults_from 0 base code (entry base) (omega arith) whole at_first
 
-  pub longest_typed : longest_from r (base + length code) base code (entry base) ≡ longest_list table base code
+  pub longest_typed : longest_agreed r (base + length code) base code (entry base) ≡ longest_list table base code
   longest_typed = longest_is 0 base code (entry base) (omega arith) whole at_first

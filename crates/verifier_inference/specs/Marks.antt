@@ -12,8 +12,8 @@ abbrev pub marked : Bool → ArrivalData
 marked true = agreed []
 marked false = nothing
 
-abbrev pub Reached : ℕ → List Bool → List Message → Type 0
-Reached base marks ms =
+abbrev pub MarksReached : ℕ → List Bool → List Message → Type 0
+MarksReached base marks ms =
     (k : ℕ) (mark : Bool) → slice_get marks k ≡ Some mark → marked mark ≡ arrival_at (base + k) ms
 
 -- a fault of a section, if there is one

@@ -52,11 +52,11 @@ field_place fields.AntecedentCode = 9
 field_place fields.ConsequentPositions = 10
 field_place fields.ConsequentCode = 11
 
-abbrev pub part_of : Refusal → ℕ
-part_of (PoolTooSmall pools.Attempts least) = 0
-part_of (PoolTooSmall pools.Obligations least) = 1
-part_of (LimitTooLarge field) = field_place field
-part_of r = 0
+abbrev pub fault_part : Refusal → ℕ
+fault_part (PoolTooSmall pools.Attempts least) = 0
+fault_part (PoolTooSmall pools.Obligations least) = 1
+fault_part (LimitTooLarge field) = field_place field
+fault_part r = 0
 
 -- one list of numbers is before the other or the same
 abbrev pub IsUpTo : List ℕ → List ℕ → Type 0
@@ -64,24 +64,24 @@ IsUpTo [] ys = Unit {0}
 IsUpTo (x ∷ xs) [] = ⊥
 IsUpTo (x ∷ xs) (y ∷ ys) = (x < y) ⊎ ((x ≡ y) × IsUpTo xs ys)
 
-abbrev pub place_of : Found → List ℕ
-place_of f = f.section ∷ f.pc ∷ number_of f.refusal ∷ part_of f.refusal ∷ []
+abbrev pub found_place : Found → List ℕ
+found_place f = f.section ∷ f.pc ∷ number_of f.refusal ∷ fault_part f.refusal ∷ []
 
 abbrev pub IsIn : {A : Type 0} → A → List A → Type 0
 IsIn x [] = ⊥
 IsIn x (y ∷ ys) = (x ≡ y) ⊎ IsIn x ys
 
 -- the first of the faults
-pub record IsFirst (x : Found) (fs : List Found) : Type 0 where
+pub record IsFirstFound (x : Found) (fs : List Found) : Type 0 where
   pub stands : IsIn x fs
-  pub first : (y : Found) → IsIn y fs → IsUpTo (place_of x) (place_of y)
+  pub first : (y : Found) → IsIn y fs → IsUpTo (found_place x) (found_place y)
 
 -- that fault, the first, is what was answered
 pub record IsFirstRefusal (r : Refusal) (fs : List Found) : Type 0 where
   pub fault : Found
-  pub first : IsFirst fault fs
+  pub first : IsFirstFound fault fs
   pub is : fault.refusal ≡ r
 
-abbrev pub first_of : List Refusal → Option Refusal
-first_of [] = None
-first_of (r ∷ rs) = Some r
+abbrev pub first_refusal : List Refusal → Option Refusal
+first_refusal [] = None
+first_refusal (r ∷ rs) = Some r

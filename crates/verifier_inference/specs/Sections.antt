@@ -5,7 +5,7 @@ use Rattle.bytecode.specs.declared.block_instr.BlockInstr.{BlockInstr}
 use Rattle.verifier_inference.specs.declared.refusal.Refusal.TheVariants.{SlotRange}
 use Rattle.verifier_inference.specs.Rules.{block_rules}
 use Rattle.verifier_inference.specs.Inference.{Found, found, code_faults}
-use Rattle.verifier_inference.specs.Typing.{IsTyped}
+use Rattle.verifier_inference.specs.Typing.{IsCodeTyped}
 
 -- The faults of the blocks from position p on, of which the first begins at base.
 abbrev pub blocks_faults : ℕ → ℕ → ℕ → ℕ → ℕ → List (List BlockInstr) → List Found
@@ -27,7 +27,7 @@ section_faults section atoms s =
 abbrev pub AreTyped : ℕ → ℕ → ℕ → ℕ → ℕ → List (List BlockInstr) → Type 0
 AreTyped section atoms positions p base [] = Unit {0}
 AreTyped section atoms positions p base (b ∷ bs) =
-    IsTyped (block_rules section atoms positions p) base b (λ pc. [])
+    IsCodeTyped (block_rules section atoms positions p) base b (λ pc. [])
     × AreTyped section atoms positions (p + 1) (base + length b) bs
 
 pub record IsSection (section atoms : ℕ) (s : SectionData) : Type 0 where
@@ -35,6 +35,6 @@ pub record IsSection (section atoms : ℕ) (s : SectionData) : Type 0 where
   pub blocks : AreTyped section atoms (length s.blocks) 0 0 s.blocks
 
 -- how many instructions the blocks have
-abbrev pub size_of : List (List BlockInstr) → ℕ
-size_of [] = 0
-size_of (b ∷ bs) = length b + size_of bs
+abbrev pub instructions_in : List (List BlockInstr) → ℕ
+instructions_in [] = 0
+instructions_in (b ∷ bs) = length b + instructions_in bs

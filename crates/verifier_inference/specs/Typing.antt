@@ -19,7 +19,7 @@ pub record IsFine {I : Type 0} (r : Rules I) (end : ℕ) (table : ℕ → List �
   pub names : r.names pc i ≡ []
 
 -- The code that begins at base is typed by the table.
-pub record IsTyped {I : Type 0} (r : Rules I) (base : ℕ) (code : List I) (table : ℕ → List ℕ) :
+pub record IsCodeTyped {I : Type 0} (r : Rules I) (base : ℕ) (code : List I) (table : ℕ → List ℕ) :
     Type 0 where
   pub some : 0 < length code
   pub begins : table base ≡ []
@@ -49,5 +49,5 @@ longest_list table pc (i ∷ is) = max (length (table pc)) (longest_list table (
 -- The sample code is typed by some table, and no list that is left is longer than 1,024.
 abbrev pub IsTypable : FrameData → List SampleInstr → Type 0
 IsTypable f code =
-    (table : ℕ → List ℕ) × IsTyped (sample_rules f) 0 code table
+    (table : ℕ → List ℕ) × IsCodeTyped (sample_rules f) 0 code table
     × AreShort (sample_rules f) 0 code table

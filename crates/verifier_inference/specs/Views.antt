@@ -6,8 +6,8 @@ use Rattle.bytecode.specs.Instructions.{FrameData, Effect, leaves, too_few, misf
 use Rattle.bytecode.specs.declared.sample_instr.SampleInstr.{SampleInstr}
 use Rattle.verifier_inference.specs.Rules.{Rules, sample_rules}
 use Rattle.verifier_inference.specs.declared.frame.Frame.{Frame}
-use Rattle.verifier_inference.specs.declared.stack.Outcome.{Outcome}
-use Rattle.verifier_inference.specs.declared.stack.Outcome.TheVariants.{Leaves, TooFew, Misfit}
+use Rattle.verifier_inference.specs.declared.stack.RuleOutcome.{RuleOutcome}
+use Rattle.verifier_inference.specs.declared.stack.RuleOutcome.TheVariants.{Leaves, TooFew, Misfit}
 
 abbrev pub frame_data : Frame → FrameData
 frame_data f = record { slots = f.slots.items; counters = f.counters.items; atoms = f.atoms }
@@ -17,7 +17,7 @@ abbrev pub rules_of : Frame → Rules SampleInstr
 rules_of f = sample_rules (frame_data f)
 
 -- an outcome, where this list is left
-abbrev pub effect_when : Outcome → List ℕ → Effect
+abbrev pub effect_when : RuleOutcome → List ℕ → Effect
 effect_when Leaves ws = leaves ws
 effect_when TooFew ws = too_few
 effect_when Misfit ws = misfit

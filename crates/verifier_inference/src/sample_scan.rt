@@ -1,6 +1,6 @@
 //! One forward pass over sample code.
 
-ghost use Rattle.std.specs.Prelude.{◌≡◌, ◌⊎◌, ◌<◌, ◌≤◌, ◌+◌, ◌++◌, ℕ, max, List, [], length};
+ghost use Rattle.std.specs.Prelude.{◌≡◌, ◌⊎◌, ◌<◌, ◌≤◌, ◌+◌, ◌++◌, ℕ, List, [], length};
 ghost use Rattle.std.specs.Prelude.{reverse, OnOk, IfOk, IfErr};
 ghost use Rattle.verifier_inference.specs.declared.refusal.Refusal.{Refusal};
 ghost use Rattle.bytecode.specs.Instructions.{sample_flow};
@@ -9,20 +9,20 @@ ghost use Rattle.verifier_inference.specs.Inference.{jump_faults, arrival_faults
 ghost use Rattle.verifier_inference.specs.Inference.{faults_at};
 ghost use Rattle.verifier_inference.specs.Inference.{left_by, code_faults, entry};
 ghost use Rattle.verifier_inference.specs.Arrivals.{arrived, HoldsFrom};
-ghost use Rattle.verifier_inference.specs.Scans.{list_at, IsHeadOr, longest_from, entry_longest};
-ghost use Rattle.verifier_inference.specs.Order.{IsFirstRefusal, first_of};
+ghost use Rattle.verifier_inference.specs.Scans.{list_at, IsHeadOr, longest_agreed, entry_longest};
+ghost use Rattle.verifier_inference.specs.Order.{IsFirstRefusal, first_refusal};
 ghost use Rattle.verifier_inference.specs.Views.{rules_of};
 
 use crate::arrival::{Arrival, first_arrivals, send, take_arrival};
 use crate::frame::Frame;
 use crate::refusal::Refusal;
-use crate::stack::{Outcome, apply, is_there};
+use crate::stack::{RuleOutcome, apply, is_there};
 use bytecode::{Flow, SampleInstr};
 use std::alloc::{AllocError, Global};
 
 /// The fault of a target.
 pub(crate) fn jump_fault(end: usize, pc: usize, flow: Flow) -> Option<Refusal>
-    ensures { result ≡ first_of (jump_faults end pc flow) }
+    ensures { result ≡ first_refusal (jump_faults end pc flow) }
 {
     let target = match flow {
         Flow::Jumps(target) => target as usize,
@@ -42,7 +42,7 @@ pub(crate) fn jump_fault(end: usize, pc: usize, flow: Flow) -> Option<Refusal>
 /// The fault of a last instruction that doesn't end the code.
 pub(crate) fn end_fault(end: usize, pc: usize, flow: Flow) -> Option<Refusal>
     requires { pc < end }
-    ensures { result ≡ first_of (end_faults end pc flow) }
+    ensures { result ≡ first_refusal (end_faults end pc flow) }
 {
     match flow {
         Flow::Stops => None,
@@ -58,7 +58,7 @@ pub(crate) fn end_fault(end: usize, pc: usize, flow: Flow) -> Option<Refusal>
 
 /// The fault of what arrives.
 fn arrival_fault(pc: usize, arrival: &Arrival) -> Option<Refusal>
-    ensures { result ≡ first_of (arrival_faults pc (arrived arrival.now)) }
+    ensures { result ≡ first_refusal (arrival_faults pc (arrived arrival.now)) }
 {
     match arrival {
         Arrival::Nothing => Some(Refusal::Unreached(pc)),
@@ -77,8 +77,8 @@ fn other_fault(
     reached: Option<Refusal>,
 ) -> Option<Refusal>
     requires { pc < end }
-    ensures { (a : ArrivalData) → reached ≡ first_of (arrival_faults pc a) →
-        result ≡ first_of (jump_faults end pc (sample_flow instr) ++ (arrival_faults pc a
+    ensures { (a : ArrivalData) → reached ≡ first_refusal (arrival_faults pc a) →
+        result ≡ first_refusal (jump_faults end pc (sample_flow instr) ++ (arrival_faults pc a
         ++ (end_faults end pc (sample_flow instr) ++ (rules_of frame.now).names pc instr))) }
 {
     if let Some(refusal) = jump_fault(end, pc, instr.flow()) {
@@ -116,9 +116,9 @@ fn leave(
         return Ok(Vec::new(alloc));
     };
     match apply(frame, instr, &mut stack)? {
-        Outcome::TooFew => Err(Refusal::Underflow(pc)),
-        Outcome::Misfit => Err(Refusal::Operand(pc)),
-        Outcome::Leaves => {
+        RuleOutcome::TooFew => Err(Refusal::Underflow(pc)),
+        RuleOutcome::Misfit => Err(Refusal::Operand(pc)),
+        RuleOutcome::Leaves => {
             if stack.len() > 1024 {
                 return Err(Refusal::Overflow(pc));
             }
@@ -189,13 +189,6 @@ fn agreed_len(arrival: &Arrival) -> usize
     }
 }
 
-/// The larger of two numbers.
-fn larger(first: usize, second: usize) -> usize
-    ensures { result ≡ max first second }
-{
-    if first < second { second } else { first }
-}
-
 /// The longest list of code at whose first instruction the empty list arrives, or its first fault.
 fn scan(
     alloc: Global,
@@ -212,11 +205,11 @@ fn scan(
     ensures refused { IfErr result (λ r. (r ≡ Refusal.Memory)
         ⊎ IsFirstRefusal r (code_faults (rules_of frame.now) 0 code.now)) }
 {
-    let mut longest = 0;
+    let mut longest = 0_usize;
     'code: for pc in 0..code.len() {
         let instr = code[pc];
         let arrival = take_arrival(pending, pc);
-        longest = larger(longest, agreed_len(&arrival));
+        longest = longest.max(agreed_len(&arrival));
         let list = check(alloc, frame, code.len(), pc, instr, arrival)?;
         send_on(alloc, pending, pc, instr.flow(), list)?;
     }

@@ -6,11 +6,11 @@ ghost use Rattle.verifier_inference.specs.Rules.{block_names, block_rules, secti
 ghost use Rattle.verifier_inference.specs.Inference.{Message, sends, jump_faults, end_faults};
 ghost use Rattle.verifier_inference.specs.Inference.{faults_at};
 ghost use Rattle.verifier_inference.specs.Inference.{code_faults, entry};
-ghost use Rattle.verifier_inference.specs.Order.{first_of};
+ghost use Rattle.verifier_inference.specs.Order.{first_refusal};
 ghost use Rattle.verifier_inference.specs.Scans.{IsFirstOf};
-ghost use Rattle.verifier_inference.specs.Marks.{marked, Reached, found_in};
+ghost use Rattle.verifier_inference.specs.Marks.{marked, MarksReached, found_in};
 ghost use Rattle.verifier_inference.specs.Sections.{blocks_faults, section_faults, start_faults};
-ghost use Rattle.verifier_inference.specs.Sections.{size_of};
+ghost use Rattle.verifier_inference.specs.Sections.{instructions_in};
 ghost use Rattle.bytecode.specs.Views.{section_data};
 ghost use Rattle.verifier_inference.specs.Views.{blocks_of};
 
@@ -30,7 +30,7 @@ fn name_fault(
     pc: usize,
     instr: BlockInstr,
 ) -> Option<Refusal>
-    ensures { result ≡ first_of
+    ensures { result ≡ first_refusal
         (block_names (section_of_side side) atoms positions p pc instr) }
 {
     match instr {
@@ -71,7 +71,7 @@ fn block_fault(
     is_reached: bool,
 ) -> Option<Refusal>
     requires { pc < end }
-    ensures { result ≡ first_of (faults_at
+    ensures { result ≡ first_refusal (faults_at
         (block_rules (section_of_side side) atoms positions p) end pc instr (marked is_reached)) }
 {
     if let Some(refusal) = jump_fault(end, pc, instr.flow()) {
@@ -93,8 +93,8 @@ fn mark_on(marks: &mut [bool], base: usize, k: usize, flow: Flow)
     requires forward { jump_faults (base + length marks.old) (base + k) flow ≡ [] }
     requires ends { end_faults (base + length marks.old) (base + k) flow ≡ [] }
     ensures long { length marks.new ≡ length marks.old }
-    ensures marks { (ms : List Message) → Reached base marks.old ms →
-        Reached base marks.new (sends (base + k) flow [] ms) }
+    ensures marks { (ms : List Message) → MarksReached base marks.old ms →
+        MarksReached base marks.new (sends (base + k) flow [] ms) }
 {
     match flow {
         Flow::Stops => {}
@@ -120,7 +120,7 @@ fn scan_marks(
     requires some { 0 < length block.now }
     requires long { length marks.old ≡ length block.now }
     requires fits { base + length block.now < 2 ^ 64 }
-    requires entry { Reached base marks.old (entry base) }
+    requires entry { MarksReached base marks.old (entry base) }
     ensures { IsFirstOf
         (code_faults (block_rules (section_of_side side) atoms positions p) base block.now)
         (found_in (section_of_side side) result) }
@@ -172,7 +172,7 @@ pub fn section_fault(
     section: &Section,
 ) -> Result<Option<Fault>, AllocError>
     requires few { length section.now.blocks.items ≤ 127 }
-    requires size { size_of (section_data section.now).blocks ≤ 4096 }
+    requires size { instructions_in (section_data section.now).blocks ≤ 4096 }
     ensures { IfOk result (λ first. IsFirstOf
         (section_faults (section_of_side side) atoms (section_data section.now))
         (found_in (section_of_side side) first)) }
@@ -208,7 +208,7 @@ fn start_fault(section: &Section) -> Option<Fault>
 
 /// How many instructions the blocks have, or 4,097 where there are more than 4,096.
 pub fn capped_size(blocks: &[Vec<BlockInstr>]) -> usize
-    ensures { result ≡ min (size_of (blocks_of blocks.now)) 4097 }
+    ensures { result ≡ min (instructions_in (blocks_of blocks.now)) 4097 }
 {
     let mut size = 0;
     'each: for p in 0..blocks.len() {

@@ -25,20 +25,20 @@ pub(crate) fn is_there(frame: &Frame, instr: SampleInstr) -> bool
 
 /// What a stack rule makes of a list.
 #[derive(Clone, Copy)]
-pub enum Outcome {
+pub enum RuleOutcome {
     Leaves,
     TooFew,
     Misfit,
 }
 
 /// The outcome of a test of widths.
-fn if_fits(fits: bool) -> Outcome
+fn if_fits(fits: bool) -> RuleOutcome
     ensures { (ws : List ℕ) → effect_when result ws ≡ if_fits fits ws }
 {
     if fits {
-        Outcome::Leaves
+        RuleOutcome::Leaves
     } else {
-        Outcome::Misfit
+        RuleOutcome::Misfit
     }
 }
 
@@ -99,152 +99,152 @@ fn take_three(stack: &mut Vec<u8>) -> Option<(u8, u8, u8)>
 }
 
 /// One width more on the list.
-fn leave(stack: &mut Vec<u8>, width: u8) -> Result<Outcome, AllocError>
+fn leave(stack: &mut Vec<u8>, width: u8) -> Result<RuleOutcome, AllocError>
     ensures { IfOk result (λ o.
         effect_when o (reverse stack.new.items) ≡ leaves (width ∷ reverse stack.old.items)) }
 {
     stack.push(width)?;
-    Ok(Outcome::Leaves)
+    Ok(RuleOutcome::Leaves)
 }
 
 /// One width more on the list, where the operands fit.
-fn leave_if(fits: bool, stack: &mut Vec<u8>, width: u8) -> Result<Outcome, AllocError>
+fn leave_if(fits: bool, stack: &mut Vec<u8>, width: u8) -> Result<RuleOutcome, AllocError>
     ensures { IfOk result (λ o.
         effect_when o (reverse stack.new.items) ≡ if_fits fits (width ∷ reverse stack.old.items)) }
 {
     if !fits {
-        return Ok(Outcome::Misfit);
+        return Ok(RuleOutcome::Misfit);
     }
     leave(stack, width)
 }
 
 /// Two of one width, and one of it.
-fn join(stack: &mut Vec<u8>) -> Result<Outcome, AllocError>
+fn join(stack: &mut Vec<u8>) -> Result<RuleOutcome, AllocError>
     ensures { IfOk result (λ o.
         two (λ v w rest. if_fits (v == w) (v ∷ rest)) (reverse stack.old.items)
         ≡ effect_when o (reverse stack.new.items)) }
 {
     let Some((left, right)) = take_two(stack) else {
-        return Ok(Outcome::TooFew);
+        return Ok(RuleOutcome::TooFew);
     };
     leave_if(left == right, stack, left)
 }
 
 /// Two of one width, and a bit.
-fn compare(stack: &mut Vec<u8>) -> Result<Outcome, AllocError>
+fn compare(stack: &mut Vec<u8>) -> Result<RuleOutcome, AllocError>
     ensures { IfOk result (λ o.
         two (λ v w rest. if_fits (v == w) (1 ∷ rest)) (reverse stack.old.items)
         ≡ effect_when o (reverse stack.new.items)) }
 {
     let Some((left, right)) = take_two(stack) else {
-        return Ok(Outcome::TooFew);
+        return Ok(RuleOutcome::TooFew);
     };
     leave_if(left == right, stack, 1)
 }
 
 /// A value and a count, and one of the value's width.
-fn shift(stack: &mut Vec<u8>) -> Result<Outcome, AllocError>
+fn shift(stack: &mut Vec<u8>) -> Result<RuleOutcome, AllocError>
     ensures { IfOk result (λ o.
         two (λ w count rest. leaves (w ∷ rest)) (reverse stack.old.items)
         ≡ effect_when o (reverse stack.new.items)) }
 {
     let Some((value, _)) = take_two(stack) else {
-        return Ok(Outcome::TooFew);
+        return Ok(RuleOutcome::TooFew);
     };
     leave(stack, value)
 }
 
 /// One, and one of its width.
-fn same(stack: &mut Vec<u8>) -> Result<Outcome, AllocError>
+fn same(stack: &mut Vec<u8>) -> Result<RuleOutcome, AllocError>
     ensures { IfOk result (λ o.
         one (λ w rest. leaves (w ∷ rest)) (reverse stack.old.items)
         ≡ effect_when o (reverse stack.new.items)) }
 {
     let Some(width) = take_one(stack) else {
-        return Ok(Outcome::TooFew);
+        return Ok(RuleOutcome::TooFew);
     };
     leave(stack, width)
 }
 
 /// One, and a bit.
-fn reduce(stack: &mut Vec<u8>) -> Result<Outcome, AllocError>
+fn reduce(stack: &mut Vec<u8>) -> Result<RuleOutcome, AllocError>
     ensures { IfOk result (λ o.
         one (λ w rest. leaves (1 ∷ rest)) (reverse stack.old.items)
         ≡ effect_when o (reverse stack.new.items)) }
 {
     if take_one(stack).is_none() {
-        return Ok(Outcome::TooFew);
+        return Ok(RuleOutcome::TooFew);
     }
     leave(stack, 1)
 }
 
 /// Two, and one of both widths.
-fn concat(stack: &mut Vec<u8>) -> Result<Outcome, AllocError>
+fn concat(stack: &mut Vec<u8>) -> Result<RuleOutcome, AllocError>
     ensures { IfOk result (λ o.
         two (λ v w rest. if_fits (nat_le (v + w) 128) ((v + w) ∷ rest)) (reverse stack.old.items)
         ≡ effect_when o (reverse stack.new.items)) }
 {
     let Some((left, right)) = take_two(stack) else {
-        return Ok(Outcome::TooFew);
+        return Ok(RuleOutcome::TooFew);
     };
     if usize::from(left) + usize::from(right) > 128 {
-        return Ok(Outcome::Misfit);
+        return Ok(RuleOutcome::Misfit);
     }
     leave(stack, left + right)
 }
 
 /// One, and one that is at least as wide.
-fn extend(stack: &mut Vec<u8>, wider: u8) -> Result<Outcome, AllocError>
+fn extend(stack: &mut Vec<u8>, wider: u8) -> Result<RuleOutcome, AllocError>
     ensures { IfOk result (λ o.
         one (λ w rest. if_fits (nat_le w wider) (wider ∷ rest)) (reverse stack.old.items)
         ≡ effect_when o (reverse stack.new.items)) }
 {
     let Some(width) = take_one(stack) else {
-        return Ok(Outcome::TooFew);
+        return Ok(RuleOutcome::TooFew);
     };
     leave_if(width <= wider, stack, wider)
 }
 
 /// One, and its bits from `low` to `high`.
-fn slice(stack: &mut Vec<u8>, high: u8, low: u8) -> Result<Outcome, AllocError>
+fn slice(stack: &mut Vec<u8>, high: u8, low: u8) -> Result<RuleOutcome, AllocError>
     ensures { IfOk result (λ o.
         one (λ w rest. if_fits (nat_lt high w) ((high - low + 1) ∷ rest)) (reverse stack.old.items)
         ≡ effect_when o (reverse stack.new.items)) }
 {
     let Some(width) = take_one(stack) else {
-        return Ok(Outcome::TooFew);
+        return Ok(RuleOutcome::TooFew);
     };
     if high >= width {
-        return Ok(Outcome::Misfit);
+        return Ok(RuleOutcome::Misfit);
     }
     leave(stack, high.saturating_sub(low) + 1)
 }
 
 /// A bit and two of one width, and one of it.
-fn choose(stack: &mut Vec<u8>) -> Result<Outcome, AllocError>
+fn choose(stack: &mut Vec<u8>) -> Result<RuleOutcome, AllocError>
     ensures { IfOk result (λ o.
         three (λ bit v w rest. if_fits (bit == 1 && v == w) (v ∷ rest)) (reverse stack.old.items)
         ≡ effect_when o (reverse stack.new.items)) }
 {
     let Some((bit, left, right)) = take_three(stack) else {
-        return Ok(Outcome::TooFew);
+        return Ok(RuleOutcome::TooFew);
     };
     leave_if(bit == 1 && left == right, stack, left)
 }
 
 /// A bit, and nothing.
-fn take_bit(stack: &mut Vec<u8>) -> Outcome
+fn take_bit(stack: &mut Vec<u8>) -> RuleOutcome
     ensures { one (λ bit rest. if_fits (bit == 1) rest) (reverse stack.old.items)
         ≡ effect_when result (reverse stack.new.items) }
 {
     let Some(bit) = take_one(stack) else {
-        return Outcome::TooFew;
+        return RuleOutcome::TooFew;
     };
     if_fits(bit == 1)
 }
 
 /// One of a counter's width, and nothing.
-fn store(frame: &Frame, stack: &mut Vec<u8>, counter: u8) -> Outcome
+fn store(frame: &Frame, stack: &mut Vec<u8>, counter: u8) -> RuleOutcome
     ensures { one
         (λ w rest.
         if_fits (is_counter_width (slice_get frame.now.counters.items counter) w) rest)
@@ -252,7 +252,7 @@ fn store(frame: &Frame, stack: &mut Vec<u8>, counter: u8) -> Outcome
         ≡ effect_when result (reverse stack.new.items) }
 {
     let Some(width) = take_one(stack) else {
-        return Outcome::TooFew;
+        return RuleOutcome::TooFew;
     };
     if_fits(is_counter_width(frame, counter, width))
 }
@@ -263,7 +263,7 @@ pub(crate) fn apply(
     frame: &Frame,
     instr: SampleInstr,
     stack: &mut Vec<u8>,
-) -> Result<Outcome, AllocError>
+) -> Result<RuleOutcome, AllocError>
     ensures { IfOk result (λ o.
         sample_effect (frame_data frame.now) instr (reverse stack.old.items)
         ≡ effect_when o (reverse stack.new.items)) }
@@ -281,10 +281,10 @@ pub(crate) fn apply(
         SampleInstr::Zext(wider) => extend(stack, wider),
         SampleInstr::Slice(high, low) => slice(stack, high, low),
         SampleInstr::Mux => choose(stack),
-        SampleInstr::Jump(_) => Ok(Outcome::Leaves),
+        SampleInstr::Jump(_) => Ok(RuleOutcome::Leaves),
         SampleInstr::JumpIfZero(_) => Ok(take_bit(stack)),
         SampleInstr::SetAtom(_) => Ok(take_bit(stack)),
         SampleInstr::Store(counter) => Ok(store(frame, stack, counter)),
-        SampleInstr::Halt => Ok(Outcome::Leaves),
+        SampleInstr::Halt => Ok(RuleOutcome::Leaves),
     }
 }

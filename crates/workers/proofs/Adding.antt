@@ -25,23 +25,23 @@ use Rattle.workers_lines.specs.declared.growing_line.GrowingLine.{GrowingLine}
 use Rattle.workers_lines.specs.Taken.{TookIn}
 use Rattle.workers_lines.proofs.CoreLaws.{same-traced}
 use Rattle.workers_lines.proofs.LineLaws.{job-traced}
-use Rattle.workers_board.specs.declared.board.Board.{Board}
-use Rattle.workers_board.specs.Receipts.{shown_by}
+use Rattle.workers_shared.specs.declared.board.Board.{Board}
+use Rattle.workers_shared.specs.Receipts.{shown_by}
 use Rattle.machine_runs.specs.Lines.{attempts_of}
-use Rattle.workers_tally.specs.Counts.{count_of}
-use Rattle.workers_tally.specs.Shares.{each_capped}
+use Rattle.workers_shared.specs.Counts.{count_of}
+use Rattle.workers_shared.specs.Shares.{each_capped}
 use Rattle.workers_rounds.specs.declared.work.Published.{Published}
 use Rattle.workers_rounds.specs.Works.{IsPublished, published_count}
-use Rattle.workers_rounds.specs.Adding.{kind_of}
+use Rattle.workers_rounds.specs.Adding.{is_of_kind}
 use Rattle.workers.specs.Between.{IsTold}
 use Rattle.workers.specs.Taking.{Takes}
-use Rattle.workers.specs.Tallied.{count_in, told_by, said_by}
+use Rattle.workers.specs.Tallied.{count_in, told_by, lines_said}
 use Rattle.workers_core.proofs.CorePartLaws.{get-some, get-mapped}
 use Rattle.workers_lines.proofs.TakenLaws.{some-at}
 use Rattle.workers.proofs.Telling.{program-of, some-is, all-at, all-each}
 
 -- a tally, kind by kind
-tallied : (k : ℕ) (vs : List Verdict) → count_in k (tally_of vs) ≡ count_by (kind_of k) vs
+tallied : (k : ℕ) (vs : List Verdict) → count_in k (tally_of vs) ≡ count_by (is_of_kind k) vs
 tallied zero vs = refl
 tallied (suc zero) vs = refl
 tallied (suc (suc zero)) vs = refl
@@ -55,7 +55,8 @@ sum_by-map f g (x ∷ xs) =
     ∙ sym (sum_by-cons (λ y. f (g y)) x xs)
 
 -- the attempts that were taken in, kind by kind
-took-count : (k : ℕ) (l : GrowingLine) (ds : List Decided) → TookIn l ds → count_in k l.counts ≡ count_of (kind_of k) ds
+took-count : (k : ℕ) (l : GrowingLine) (ds : List Decided) → TookIn l ds → count_in k l.counts
+    ≡ count_of (is_of_kind k) ds
 took-count k l ds took =
     ap (count_in k) took.counts ∙ tallied k (map (λ (d : Decided). d.verdict) ds)
     ∙ sum_by-map _ (λ (d : Decided). d.verdict) ds
@@ -64,10 +65,10 @@ count-append : (is : Verdict → Bool) (xs ys : List Decided) → count_of is (x
 count-append is xs ys = sum_by-append _ xs ys
 
 more-count : (k : ℕ) (old new : GrowingLine) (before ds : List Decided) → TookIn old before → TookIn new (before ++ ds)
-    → count_in k new.counts ≡ count_in k old.counts + count_of (kind_of k) ds
+    → count_in k new.counts ≡ count_in k old.counts + count_of (is_of_kind k) ds
 more-count k old new before ds was is =
-    took-count k new (before ++ ds) is ∙ count-append (kind_of k) before ds
-    ∙ ap (λ n. n + count_of (kind_of k) ds) (sym (took-count k old before was))
+    took-count k new (before ++ ds) is ∙ count-append (is_of_kind k) before ds
+    ∙ ap (λ n. n + count_of (is_of_kind k) ds) (sym (took-count k old before was))
 
 -- those that are open count in none of the four
 count-open : (is : Verdict → Bool) → is outcome.Open ≡ false → (live : List Attempt)
@@ -82,25 +83,25 @@ count-open is never (a ∷ live) =
     let none = ap weight never in
     omega (arith, rest, one, none)
 
-open-none : (k : ℕ) → kind_of k outcome.Open ≡ false
+open-none : (k : ℕ) → is_of_kind k outcome.Open ≡ false
 open-none zero = refl
 open-none (suc zero) = refl
 open-none (suc (suc zero)) = refl
 open-none (suc (suc (suc k))) = refl
 
-none-open : (k : ℕ) (live : List Attempt) → count_of (kind_of k) (open_ones live) ≡ 0
-none-open k live = count-open (kind_of k) (open-none k) live
+none-open : (k : ℕ) (live : List Attempt) → count_of (is_of_kind k) (open_ones live) ≡ 0
+none-open k live = count-open (is_of_kind k) (open-none k) live
 
 -- a round in the line of one monitor
 module _ (j : Job) (w : Window) (board : Board) (i : ℕ) (old new : GrowingLine) (p : Published)
     (number : p.monitor.number ≡ i) (is : IsPublished j w board p) (told : IsTold j (first_in w) i old) where
   pub round-count : Takes old (shown_by p.receipt).decided.items new → (k : ℕ)
-      → count_in k new.counts ≡ count_in k old.counts + count_of (kind_of k) (shown_by p.receipt).decided.items
+      → count_in k new.counts ≡ count_in k old.counts + count_of (is_of_kind k) (shown_by p.receipt).decided.items
   round-count takes k =
       let q : ProgramData = p.monitor.monitor.value.machine.program in
       let ds = (shown_by p.receipt).decided.items in
       let at = program-of j w board i p number is in
-      same-traced (job_value j) (count_in k new.counts) (count_in k old.counts + count_of (kind_of k) ds)
+      same-traced (job_value j) (count_in k new.counts) (count_in k old.counts + count_of (is_of_kind k) ds)
       (job-traced j) (λ c says.
       let before = batch_of q (rows_over (job_value j) c q) 0 (first_in w) in
       let was = told.took c says q at in
@@ -123,8 +124,8 @@ pub sum-told : (k : ℕ) (ls new : List GrowingLine) (ps : List Published)
     → length ls ≡ length ps → length new ≡ length ps
     → ((i : ℕ) (l m : GrowingLine) (p : Published) → slice_get ls i ≡ Some l → slice_get ps i ≡ Some p
     → slice_get new i ≡ Some m
-    → count_in k m.counts ≡ count_in k l.counts + count_of (kind_of k) (shown_by p.receipt).decided.items)
-    → told_by k new ≡ told_by k ls + published_count (kind_of k) ps
+    → count_in k m.counts ≡ count_in k l.counts + count_of (is_of_kind k) (shown_by p.receipt).decided.items)
+    → told_by k new ≡ told_by k ls + published_count (is_of_kind k) ps
 sum-told k [] [] [] a b each = refl
 sum-told k [] [] (p ∷ ps) a b each = absurd (omega (arith, a))
 sum-told k [] (m ∷ new) [] a b each = absurd (omega (arith, b))
@@ -138,7 +139,7 @@ sum-told k (l ∷ ls) (m ∷ new) (p ∷ ps) a b each =
     sum-told k ls new ps (omega (arith, a)) (omega (arith, b)) (λ i x y q at of to. each (suc i) x y q at of to) in
     let x = sum_by-cons (λ (s : GrowingLine). count_in k s.counts) l ls in
     let y = sum_by-cons (λ (s : GrowingLine). count_in k s.counts) m new in
-    let z = sum_by-cons (λ (q : Published). count_of (kind_of k) (shown_by q.receipt).decided.items) p ps in
+    let z = sum_by-cons (λ (q : Published). count_of (is_of_kind k) (shown_by q.receipt).decided.items) p ps in
     omega (arith, one, rest, x, y, z)
 
 -- before the first round
@@ -152,15 +153,16 @@ none-told-by k (l ∷ ls) none =
     omega (arith, one, rest, x)
 
 -- what lines say, as the report's definition has it
-pub said-line : (k : ℕ) (ls : List Line) → sum_by (λ (l : LineData). count_in k l.counts) (map line ls) ≡ said_by k ls
+pub said-line : (k : ℕ) (ls : List Line) → sum_by (λ (l : LineData). count_in k l.counts) (map line ls)
+    ≡ lines_said k ls
 said-line k ls = sum_by-map (λ (l : LineData). count_in k l.counts) line ls
 
 -- one line more says what its line in the making took in
 pub said-more : (k : ℕ) (ls new : List Line) (l : Line) (ts : List GrowingLine) (i : ℕ) (t : GrowingLine)
     → new ≡ ls ++ l ∷ [] → slice_get ts i ≡ Some t → count_in k l.counts ≡ count_in k t.counts
-    → said_by k ls ≡ told_by k (take i ts) → said_by k new ≡ told_by k (take (i + 1) ts)
+    → lines_said k ls ≡ told_by k (take i ts) → lines_said k new ≡ told_by k (take (i + 1) ts)
 said-more k ls new l ts i t is at one all =
-    let x = ap (said_by k) is ∙ sum_by_push (λ (m : Line). count_in k m.counts) ls l in
+    let x = ap (lines_said k) is ∙ sum_by_push (λ (m : Line). count_in k m.counts) ls l in
     let y = told-front k ts i t at in
     omega (arith, x, y, one, all)
   where

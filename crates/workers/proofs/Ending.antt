@@ -10,7 +10,7 @@ use Rattle.machine_definition.specs.Runs.{open_ones}
 use Rattle.machine_runs.specs.Batches.{batch_of}
 use Rattle.machine_runs.specs.Lines.{attempts_of}
 use Rattle.workers_core.specs.declared.job.Job.{Job}
-use Rattle.workers_core.specs.Opening.{part_of}
+use Rattle.workers_core.specs.Opening.{monitor_part}
 use Rattle.workers_core.specs.Values.{Says, job_value, rows_over}
 use Rattle.workers_lines.specs.declared.growing_line.GrowingLine.{GrowingLine}
 use Rattle.workers_lines.specs.Taken.{TookIn}
@@ -18,12 +18,12 @@ use Rattle.workers_lines.proofs.RunLaws.{ComesTo, comes-to}
 use Rattle.workers_lines.proofs.RoundLaws.{many-rows}
 use Rattle.workers_lines.proofs.CoreLaws.{same-traced}
 use Rattle.workers_lines.proofs.LineLaws.{job-traced}
-use Rattle.workers_bench.specs.declared.numbered.Numbered.{Numbered}
-use Rattle.workers_bench.specs.Monitors.{IsAt}
+use Rattle.workers_shared.specs.declared.numbered.Numbered.{Numbered}
+use Rattle.workers_shared.specs.Monitors.{IsMonitorAt}
 use Rattle.workers.specs.Between.{clocks_of, IsTold}
 use Rattle.workers.proofs.Telling.{program-at}
 
-module _ (j : Job) (x : Numbered) (p : ProgramData) (h : IsAt j (clocks_of j) x)
+module _ (j : Job) (x : Numbered) (p : ProgramData) (h : IsMonitorAt j (clocks_of j) x)
     (is : slice_get j.programs.items x.number ≡ Some p) where
   rows-are : (c : Contents) → Says (job_value j) c → length (rows_over (job_value j) c p) ≡ clocks_of j
   rows-are c says = many-rows (job_value j) c p ((job-traced j).ticks c says)
@@ -33,7 +33,7 @@ module _ (j : Job) (x : Numbered) (p : ProgramData) (h : IsAt j (clocks_of j) x)
       (batch_of p (rows_over (job_value j) c p) 0 (clocks_of j))
   came c says =
       let q = x.monitor.value.machine.program in
-      let same : q ≡ p = program-at 0 j.programs.items x.number p (part_of x.monitor.value) is h.part in
+      let same : q ≡ p = program-at 0 j.programs.items x.number p (monitor_part x.monitor.value) is h.part in
       subst (λ (r : ProgramData). ComesTo r (rows_over (job_value j) c r) x.monitor.value.machine.state
       (batch_of r (rows_over (job_value j) c r) 0 (clocks_of j))) same
       (comes-to q h.accepted (rows_over (job_value j) c q) (clocks_of j) x.monitor.value.machine.state

@@ -47,7 +47,7 @@ use Rattle.verdicts.specs.declared.line.Counts.{Counts}
 use Rattle.verdicts.specs.declared.line.Line.{Line}
 use Rattle.verdicts.specs.Lines.{LineData, ReportData, line, held_count, total_of, report_of}
 use Rattle.machine_runs.specs.Lines.{IsLineOver, attempts_of}
-use Rattle.machine_runs.specs.Reported.{IsBoundClock, HasSignals, rows_of, Reports, wanted_slot}
+use Rattle.machine_runs.specs.Reported.{IsBoundClock, HasSignals, rows_of, ReportsRun, wanted_slot}
 use Rattle.machine_runs.proofs.BoundLaws.{bound}
 use Rattle.workers_core.specs.declared.job.Job.{Job}
 use Rattle.workers_core.specs.Jobs.{sampled}
@@ -119,7 +119,7 @@ pub reports :
     (j : Job) (d : Dump) (clocks : Clocks) (c : Contents) (p : ProgramData) (r : ReportData) →
     j.programs.items ≡ p ∷ [] → j.dump ≡ d → j.clocks ≡ clocks → HoldsContents d c →
     IsClock (variables_of d) p.header.clock (code_in clocks) → HasSignals (variables_of d) p →
-    (Says (job_value j) c → IsJobReport (job_value j) c r) → Reports c p r
+    (Says (job_value j) c → IsJobReport (job_value j) c r) → ReportsRun c p r
 reports j d clocks c p r programs dump at holds (v, is_named, bit, code) signals told =
     let said = says j d c dump holds in
     let ls = r.lines in

@@ -10,14 +10,14 @@ use Rattle.cycle_window.specs.Held.{columns_in, places_in, size_in, first_in, en
 use Rattle.workers_core.specs.declared.job.Job.{Job}
 use Rattle.workers_lines.specs.declared.growing_line.GrowingLine.{GrowingLine}
 use Rattle.workers_lines.proofs.TakenLaws.{some-at}
-use Rattle.workers_board.specs.declared.board.Board.{Board}
-use Rattle.workers_board.specs.Receipts.{IsReceiptOf, shown_by}
-use Rattle.workers_bench.specs.declared.numbered.Numbered.{Numbered}
-use Rattle.workers_bench.specs.Windows.{IsWindowFor}
-use Rattle.workers_bench.specs.Monitors.{IsAt}
+use Rattle.workers_shared.specs.declared.board.Board.{Board}
+use Rattle.workers_shared.specs.Receipts.{IsReceiptOf, shown_by}
+use Rattle.workers_shared.specs.declared.numbered.Numbered.{Numbered}
+use Rattle.workers_shared.specs.Windows.{IsWindowFor}
+use Rattle.workers_shared.specs.Monitors.{IsMonitorAt}
 use Rattle.workers_rounds.specs.declared.work.Published.{Published}
 use Rattle.workers_rounds.specs.Works.{IsSized, IsPublished, published_count}
-use Rattle.workers_rounds.specs.Adding.{kind_of}
+use Rattle.workers_rounds.specs.Adding.{is_of_kind}
 use Rattle.workers.specs.Tallied.{told_by}
 use Rattle.workers.proofs.Adding.{sum-told, round-count}
 use Rattle.workers_rounds.specs.Runs.{upto, published_numbers}
@@ -45,8 +45,8 @@ module _ (j : Job) (v w : Window) (ms : List Numbered) (ls : List GrowingLine) (
   pub further : end_in v < end_in w
   further = let a = h.size.0 in omega (arith, end, more)
 
-  pub next-start : All (IsAt j (first_in w)) ms
-  next-start = subst (λ (n : ℕ). All (IsAt j n) ms) (sym first) h.at
+  pub next-start : All (IsMonitorAt j (first_in w)) ms
+  next-start = subst (λ (n : ℕ). All (IsMonitorAt j n) ms) (sym first) h.at
 
   module _ (board : Board) (ps : List Published) (order : published_numbers ps ≡ upto 0 (length ms))
       (published : All (IsPublished j w board) ps) where
@@ -98,7 +98,7 @@ module _ (j : Job) (v w : Window) (ms : List Numbered) (ls : List GrowingLine) (
     pub next-tallied : (new : List GrowingLine) → length new ≡ length ls →
         ((i : ℕ) (l m : GrowingLine) (p : Published) → slice_get ls i ≡ Some l → slice_get ps i ≡ Some p
         → slice_get new i ≡ Some m → Takes l (shown_by p.receipt).decided.items m) →
-        (k : ℕ) → told_by k new ≡ told_by k ls + published_count (kind_of k) ps
+        (k : ℕ) → told_by k new ≡ told_by k ls + published_count (is_of_kind k) ps
     next-tallied new long took k =
         sum-told k ls new ps as-many (long ∙ as-many) (λ i l m p at of to.
         round-count j w board i l m p (placed-number ps (length ms) i p order of)

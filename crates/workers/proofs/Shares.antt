@@ -1,8 +1,8 @@
 -- What shares have, kind by kind.
 use Rattle.std.proofs.Common.{◌≡◌, ℕ, zero, suc, ap}
 use Rattle.std.specs.List.{slice_index}
-use Rattle.workers_tally.specs.declared.tally.Share.{Share}
-use Rattle.workers_tally.specs.Shares.{IsFresh}
+use Rattle.workers_shared.specs.declared.tally.Share.{Share}
+use Rattle.workers_shared.specs.Shares.{IsFresh}
 use Rattle.workers_rounds.specs.Adding.{amount_of}
 
 pub fresh-amount : {L : Type 0} (k : ℕ) (s : Share L) → IsFresh s → amount_of k s ≡ 0

@@ -18,7 +18,7 @@ use Rattle.machine_runs.specs.Batches.{rows_between, decided_in, batch_of, HasCo
 use Rattle.machine_runs.proofs.JoinLaws.{come-to}
 use Rattle.workers_core.specs.declared.job.Job.{Job}
 use Rattle.workers_core.specs.declared.monitor.Monitor.{Monitor}
-use Rattle.workers_core.specs.Opening.{Part, part_at, part_of, parts_from, IsNew}
+use Rattle.workers_core.specs.Opening.{MonitorPart, part_at, monitor_part, parts_from, IsNew}
 use Rattle.workers_core.specs.Values.{Says, job_value, rows_over}
 use Rattle.workers_core.proofs.RunLaws.{all-up-to}
 use Rattle.workers_core.proofs.CorePartLaws.{get-some, get-mapped}
@@ -28,11 +28,11 @@ use Rattle.workers_lines.proofs.RunLaws.{runs, accepted-on, accepted-clocks}
 use Rattle.workers_lines.proofs.CoreLaws.{less-traced}
 use Rattle.workers_lines.proofs.LineLaws.{job-traced}
 use Rattle.workers_lines.proofs.TakenLaws.{some-at}
-use Rattle.workers_board.specs.declared.board.Board.{Board}
-use Rattle.workers_board.specs.Receipts.{shown_by}
-use Rattle.workers_bench.specs.declared.numbered.Numbered.{Numbered}
-use Rattle.workers_bench.specs.Monitors.{IsAt}
-use Rattle.workers_bench.specs.Hands.{number_of, numbers}
+use Rattle.workers_shared.specs.declared.board.Board.{Board}
+use Rattle.workers_shared.specs.Receipts.{shown_by}
+use Rattle.workers_shared.specs.declared.numbered.Numbered.{Numbered}
+use Rattle.workers_shared.specs.Monitors.{IsMonitorAt}
+use Rattle.workers_shared.specs.Hands.{monitor_number, numbers}
 use Rattle.workers_rounds.specs.declared.work.Published.{Published}
 use Rattle.workers_rounds.specs.Works.{IsPublished, published_number}
 use Rattle.workers_rounds.specs.Runs.{upto, published_numbers}
@@ -67,11 +67,11 @@ joined p accepted rows a b order =
     ∙ all-up-to p rows a b q.outcome.state q.outcome.decided order come
 
 -- the part of a number has the program of that number
-pub program-at : (a : ℕ) (ps : List ProgramData) (i : ℕ) (p : ProgramData) (q : Part) → slice_get ps i ≡ Some p
+pub program-at : (a : ℕ) (ps : List ProgramData) (i : ℕ) (p : ProgramData) (q : MonitorPart) → slice_get ps i ≡ Some p
     → slice_get (parts_from a ps) i ≡ Some q → q.program ≡ p
 program-at a [] i p q is at = absurd cc
 program-at a (x ∷ ps) zero p q is at =
-    let one : x ≡ p = cc in let two : part_at a x ≡ q = cc in sym (ap (λ (r : Part). r.program) two) ∙ one
+    let one : x ≡ p = cc in let two : part_at a x ≡ q = cc in sym (ap (λ (r : MonitorPart). r.program) two) ∙ one
 program-at a (x ∷ ps) (suc i) p q is at = program-at (a + length x.signals) ps i p q is at
 
 upto-at : (a n i v : ℕ) → slice_get (upto a n) i ≡ Some v → v ≡ a + i
@@ -96,7 +96,7 @@ length-published ps n order = sym (length-map ps published_number) ∙ (ap lengt
 pub placed-monitor : (ms : List Numbered) (n i : ℕ) (x : Numbered) → numbers ms ≡ upto 0 n → slice_get ms i ≡ Some x
     → x.number ≡ i
 placed-monitor ms n i x order is =
-    let at = sym (ap (λ (xs : List ℕ). slice_get xs i) order) ∙ get-mapped number_of ms i x is in
+    let at = sym (ap (λ (xs : List ℕ). slice_get xs i) order) ∙ get-mapped monitor_number ms i x is in
     omega (arith, upto-at 0 n i x.number at)
 
 pub some-is : {A : Type 0} (x y : A) → Some x ≡ Some y → x ≡ y
@@ -128,12 +128,12 @@ module _ (j : Job) (w : Window) (board : Board) (i : ℕ) (p : Published) (numbe
   own-program : (q : ProgramData) → slice_get j.programs.items i ≡ Some q
       → p.monitor.monitor.value.machine.program ≡ q
   own-program q at =
-      program-at 0 j.programs.items i q (part_of p.monitor.monitor.value) at
+      program-at 0 j.programs.items i q (monitor_part p.monitor.monitor.value) at
       (sym (ap (slice_get (parts_from 0 j.programs.items)) number) ∙ is.at_end.part)
 
   pub program-of : slice_get j.programs.items i ≡ Some p.monitor.monitor.value.machine.program
   program-of =
-      let lt = slice_get_within (parts_from 0 j.programs.items) i (part_of p.monitor.monitor.value)
+      let lt = slice_get_within (parts_from 0 j.programs.items) i (monitor_part p.monitor.monitor.value)
       (sym (ap (slice_get (parts_from 0 j.programs.items)) number) ∙ is.at_end.part) in
       let s = some-at j.programs.items i (omega (arith, length-parts 0 j.programs.items)) in
       s.1 ∙ ap (λ (q : ProgramData). Some q) (sym (own-program s.0 s.1))
@@ -207,18 +207,18 @@ all-back P (p ∷ ps) h zero x is = let same : p.monitor ≡ x = cc in subst P s
 all-back P (p ∷ ps) h (suc i) x is = all-back P ps (λ k q at. h (suc k) q at) i x is
 
 pub back-at : (j : Job) (w : Window) (board : Board) (ps : List Published) (ms : List Numbered) → ms
-    ≡ map numbered_of ps → All (IsPublished j w board) ps → All (IsAt j (end_in w)) ms
+    ≡ map numbered_of ps → All (IsPublished j w board) ps → All (IsMonitorAt j (end_in w)) ms
 back-at j w board ps ms is all =
-    subst (All (IsAt j (end_in w))) (sym is)
-    (all-each (IsAt j (end_in w)) (map numbered_of ps)
-    (all-back (IsAt j (end_in w)) ps (λ i p at. (all-at (IsPublished j w board) ps i p all at).at_end)))
+    subst (All (IsMonitorAt j (end_in w))) (sym is)
+    (all-each (IsMonitorAt j (end_in w)) (map numbered_of ps)
+    (all-back (IsMonitorAt j (end_in w)) ps (λ i p at. (all-at (IsPublished j w board) ps i p all at).at_end)))
 
 -- ---- before the first round
 
-pub first-at : (j : Job) (ms : List Monitor) (xs : List Numbered) (n : ℕ) → map part_of ms
+pub first-at : (j : Job) (ms : List Monitor) (xs : List Numbered) (n : ℕ) → map monitor_part ms
     ≡ parts_from 0 j.programs.items → ((i : ℕ) (m : Monitor) → slice_get ms i ≡ Some m → IsNew m)
-    → map monitor_of xs ≡ ms → numbers xs ≡ upto 0 n → All (IsAt j 0) xs
-first-at j ms xs n parts new same order = all-each (IsAt j 0) xs (λ i x is.
+    → map monitor_of xs ≡ ms → numbers xs ≡ upto 0 n → All (IsMonitorAt j 0) xs
+first-at j ms xs n parts new same order = all-each (IsMonitorAt j 0) xs (λ i x is.
     let m = x.monitor.value in
     let at : slice_get ms i ≡ Some m =
     sym (ap (λ (l : List Monitor). slice_get l i) same) ∙ get-mapped monitor_of xs i x is in
@@ -226,7 +226,7 @@ first-at j ms xs n parts new same order = all-each (IsAt j 0) xs (λ i x is.
     let number : x.number ≡ i = placed-monitor xs n i x order is in
     record {
       part = ap (slice_get (parts_from 0 j.programs.items)) number
-          ∙ (sym (ap (λ (qs : List Part). slice_get qs i) parts) ∙ get-mapped part_of ms i m at);
+          ∙ (sym (ap (λ (qs : List MonitorPart). slice_get qs i) parts) ∙ get-mapped monitor_part ms i m at);
       accepted = fresh.accepted;
       declared = fresh.declared;
       now = ap (λ (s : State). s.standing.now) fresh.state;

@@ -10,10 +10,10 @@ use Rattle.workers_core.specs.declared.job.Job.{Job}
 use Rattle.workers_core.specs.Values.{Says, job_value, rows_over}
 use Rattle.workers_lines.specs.declared.growing_line.GrowingLine.{GrowingLine}
 use Rattle.workers_lines.specs.Taken.{TookIn}
-use Rattle.workers_bench.specs.declared.numbered.Numbered.{Numbered}
-use Rattle.workers_bench.specs.Monitors.{IsAt}
-use Rattle.workers_bench.specs.Windows.{IsWindowFor}
-use Rattle.workers_bench.specs.Hands.{numbers}
+use Rattle.workers_shared.specs.declared.numbered.Numbered.{Numbered}
+use Rattle.workers_shared.specs.Monitors.{IsMonitorAt}
+use Rattle.workers_shared.specs.Windows.{IsWindowFor}
+use Rattle.workers_shared.specs.Hands.{numbers}
 use Rattle.workers_rounds.specs.Runs.{upto}
 
 -- The line in the making took in all that the program of its number decides before this clock.
@@ -35,6 +35,6 @@ pub record IsBetween (j : Job) (w : Window) (ms : List Numbered) (ls : List Grow
   pub inside : end_in w ≤ clocks_of j
   pub order : numbers ms ≡ upto 0 (length j.programs.items)
   pub many : length ms ≡ length j.programs.items
-  pub at : All (IsAt j (end_in w)) ms
+  pub at : All (IsMonitorAt j (end_in w)) ms
   pub lines : length ls ≡ length j.programs.items
   pub told : (i : ℕ) (l : GrowingLine) → slice_get ls i ≡ Some l → IsTold j (end_in w) i l

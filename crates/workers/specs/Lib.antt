@@ -2,4 +2,3 @@ pub mod Between
 pub mod Taking
 pub mod Tallied
 pub mod Reports
-pub mod Faults

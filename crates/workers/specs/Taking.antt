@@ -4,7 +4,7 @@ use Rattle.signals.specs.declared.verdict.Decided.{Decided}
 use Rattle.workers_core.specs.declared.monitor.Monitor.{Monitor}
 use Rattle.workers_lines.specs.declared.growing_line.GrowingLine.{GrowingLine}
 use Rattle.workers_lines.specs.Taken.{TookIn}
-use Rattle.workers_bench.specs.declared.numbered.Numbered.{Numbered}
+use Rattle.workers_shared.specs.declared.numbered.Numbered.{Numbered}
 use Rattle.workers_rounds.specs.declared.work.Published.{Published}
 
 -- the line took in these behind what it had

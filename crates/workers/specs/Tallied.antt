@@ -5,8 +5,8 @@ use Rattle.std.specs.List.{sum_by}
 use Rattle.verdicts.specs.declared.line.Counts.{Counts}
 use Rattle.verdicts.specs.declared.line.Line.{Line}
 use Rattle.workers_lines.specs.declared.growing_line.GrowingLine.{GrowingLine}
-use Rattle.workers_tally.specs.declared.tally.Share.{Share}
-use Rattle.workers_tally.specs.Shares.{each_capped}
+use Rattle.workers_shared.specs.declared.tally.Share.{Share}
+use Rattle.workers_shared.specs.Shares.{each_capped}
 use Rattle.workers_rounds.specs.declared.round.Member.{Member}
 use Rattle.workers_rounds.specs.Adding.{amount_of, added_by}
 
@@ -21,13 +21,14 @@ abbrev pub told_by : ℕ → List GrowingLine → ℕ
 told_by k ls = sum_by (λ (l : GrowingLine). count_in k l.counts) ls
 
 -- what lines say
-abbrev pub said_by : ℕ → List Line → ℕ
-said_by k ls = sum_by (λ (l : Line). count_in k l.counts) ls
+abbrev pub lines_said : ℕ → List Line → ℕ
+lines_said k ls = sum_by (λ (l : Line). count_in k l.counts) ls
 
 -- the four numbers are those of the lines, each held at the largest number
 abbrev pub AreTotals : List ℕ → List Line → Type 0
 AreTotals totals ls =
-    totals ≡ each_capped (said_by 0 ls ∷ said_by 1 ls ∷ said_by 2 ls ∷ said_by 3 ls ∷ [])
+    totals ≡ each_capped
+    (lines_said 0 ls ∷ lines_said 1 ls ∷ lines_said 2 ls ∷ lines_said 3 ls ∷ [])
 
 module _ {L : Type 0} where
   -- what all these shares have

@@ -7,18 +7,18 @@ ghost use Rattle.machine_runs.specs.Lines.{IsLineOver, attempts_of};
 ghost use Rattle.workers_core.specs.Values.{Says, job_value, rows_over};
 ghost use Rattle.workers_lines.specs.declared.growing_line.GrowingLine.{GrowingLine};
 ghost use Rattle.workers_lines.specs.Lines.{AreLinesOf};
-ghost use Rattle.workers_bench.specs.declared.numbered.Numbered.{Numbered};
-ghost use Rattle.workers_bench.specs.Monitors.{IsAt};
+ghost use Rattle.workers_shared.specs.declared.numbered.Numbered.{Numbered};
+ghost use Rattle.workers_shared.specs.Monitors.{IsMonitorAt};
 ghost use Rattle.workers.specs.Between.{IsTold, clocks_of};
-ghost use Rattle.workers.specs.Tallied.{count_in, told_by, said_by};
+ghost use Rattle.workers.specs.Tallied.{count_in, told_by, lines_said};
 
 use std::alloc::{AllocError, Global};
 use std::mem;
 use verdicts::Line;
 use verifier::Verified;
-use workers_bench::Numbered;
 use workers_core::Job;
 use workers_lines::GrowingLine;
+use workers_shared::Numbered;
 
 /// The line of the program of a number, of what its monitor published and of the attempts that are
 /// still live, as open.
@@ -29,7 +29,7 @@ fn program_line(
     stopped: &Numbered,
     told: GrowingLine,
 ) -> Result<Line, AllocError>
-    requires at { IsAt job.now (clocks_of job.now) stopped.now }
+    requires at { IsMonitorAt job.now (clocks_of job.now) stopped.now }
     requires program { slice_get job.now.programs.items stopped.now.number ≡ Some verified.now }
     requires told { IsTold job.now (clocks_of job.now) stopped.now.number told }
     ensures line { (c : Contents) → Says (job_value job.now) c → IfOk result (λ l.
@@ -56,7 +56,7 @@ pub(crate) fn lines_of(
     requires programs { programs.now ≡ job.now.programs.items }
     requires many { length stopped.now ≡ length job.now.programs.items }
     requires order { (i : ℕ) (x : Numbered) → slice_get stopped.now i ≡ Some x → x.number ≡ i }
-    requires at { All (IsAt job.now (clocks_of job.now)) stopped.now }
+    requires at { All (IsMonitorAt job.now (clocks_of job.now)) stopped.now }
     requires lines { length told.items ≡ length job.now.programs.items }
     requires told { (i : ℕ) (l : GrowingLine) → slice_get told.items i ≡ Some l
         → IsTold job.now (clocks_of job.now) i l }
@@ -64,7 +64,7 @@ pub(crate) fn lines_of(
         → IfOk result (λ ls. AreLinesOf (job_value job.now) c (map line ls.items)) }
     ensures count { IfOk result (λ ls.
         All (λ l. attempts_of l.counts ≡ clocks_of job.now) ls.items) }
-    ensures kinds { (k : ℕ) → IfOk result (λ ls. said_by k ls.items ≡ told_by k told.items) }
+    ensures kinds { (k : ℕ) → IfOk result (λ ls. lines_said k ls.items ≡ told_by k told.items) }
 {
     let mut told = told;
     let mut lines = Vec::with_capacity(alloc, programs.len())?;

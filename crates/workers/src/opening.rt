@@ -2,9 +2,9 @@
 
 ghost use Rattle.std.specs.Prelude.{◌≡◌, ℕ, [], All, IfOk, Some, length, map, vec_len};
 ghost use Rattle.std.specs.Prelude.{slice_get};
-ghost use Rattle.workers_tally.specs.Shares.{IsFresh};
-ghost use Rattle.workers_bench.specs.Monitors.{IsAt};
-ghost use Rattle.workers_bench.specs.Hands.{numbers};
+ghost use Rattle.workers_shared.specs.Shares.{IsFresh};
+ghost use Rattle.workers_shared.specs.Monitors.{IsMonitorAt};
+ghost use Rattle.workers_shared.specs.Hands.{numbers};
 ghost use Rattle.workers.specs.Taking.{monitor_of};
 ghost use Rattle.workers_rounds.specs.Runs.{upto, IsMember};
 ghost use Rattle.workers_rounds.specs.Adding.{added_by};
@@ -12,11 +12,10 @@ ghost use Rattle.workers_lines.specs.declared.growing_line.GrowingLine.{GrowingL
 ghost use Rattle.workers_lines.specs.Taken.{TookIn};
 
 use std::alloc::{AllocError, Global};
-use workers_bench::Numbered;
 use workers_core::{Job, Monitor, monitors_of};
 use workers_lines::GrowingLine;
 use workers_rounds::round::Member;
-use workers_tally::{Share, Tallying};
+use workers_shared::{Numbered, Share, Tallying};
 
 /// Monitors with their numbers.
 fn numbered(alloc: Global, monitors: Vec<Monitor>) -> Result<Vec<Numbered>, AllocError>
@@ -40,7 +39,7 @@ pub fn first_monitors(alloc: Global, job: &Job) -> Result<Vec<Numbered>, AllocEr
     ensures order { IfOk result (λ all.
         numbers all.items ≡ upto 0 (length job.now.programs.items)) }
     ensures count { IfOk result (λ all. vec_len all ≡ length job.now.programs.items) }
-    ensures start { IfOk result (λ all. All (IsAt job.now 0) all.items) }
+    ensures start { IfOk result (λ all. All (IsMonitorAt job.now 0) all.items) }
 {
     let monitors = monitors_of(alloc, job.programs())?;
     let all = numbered(alloc, monitors)?;

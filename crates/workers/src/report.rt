@@ -1,17 +1,13 @@
 //! The report of one program.
 
-ghost use Rattle.std.specs.Prelude.{◌≡◌, ◌∷◌, [], List, IfOk, IfErr, map};
-ghost use Rattle.bytecode.specs.Values.{ProgramData};
-ghost use Rattle.vcd_reader.specs.Variables.{Declared};
+ghost use Rattle.std.specs.Prelude.{◌≡◌, ◌∷◌, [], IfOk, IfErr, map};
 ghost use Rattle.vcd_reader.specs.Dump.{Contents};
 ghost use Rattle.vcd_reader.specs.Held.{HoldsContents, variables_of};
 ghost use Rattle.cycle_window.specs.Bound.{IsClock, IsClockFault, IsSignalFault};
 ghost use Rattle.cycle_window.specs.Held.{code_in, AreClocksOf};
 ghost use Rattle.verdicts.specs.Shown.{data_of};
 ghost use Rattle.machine_runs.specs.Lines.{attempts_of};
-ghost use Rattle.machine_runs.specs.Reported.{HasSignals, Reports, WhyNoRun, wanted_slot};
-ghost use Rattle.workers_core.specs.Wanted.{WhyUnfit};
-ghost use Rattle.workers.specs.Faults.{IsOfSignals};
+ghost use Rattle.machine_runs.specs.Reported.{HasSignals, ReportsRun, WhyNoRun, wanted_slot};
 
 use crate::runs::job_report;
 use cycle_window::{Clocks, WindowFault, WindowSize};
@@ -21,7 +17,7 @@ use std::thread::Threads;
 use vcd_reader::Dump;
 use verdicts::Report;
 use verifier::Verified;
-use workers_core::{Job, JobFault, TeamSize};
+use workers_core::{Job, TeamSize};
 use workers_rounds::work::Gate;
 
 /// The clock that a program names.
@@ -35,20 +31,6 @@ fn clocks_of(alloc: Global, dump: &Dump, verified: &Verified) -> Result<Clocks, 
     Clocks::of(alloc, dump, verified.program().clock.as_str())
 }
 
-/// The fault of a job of one program, on a clock that is there.
-fn signal_fault(fault: JobFault) -> WindowFault
-    requires { IsOfSignals fault }
-    ensures { (vs : List Declared) (p : ProgramData) → WhyUnfit vs (p ∷ []) fault
-        → IsSignalFault vs (map wanted_slot p.signals) result }
-{
-    match fault {
-        JobFault::NoSignal(path) => WindowFault::NoSignal(path),
-        JobFault::SignalWidth(path) => WindowFault::SignalWidth(path),
-        JobFault::Memory => WindowFault::Memory,
-        _ => unreachable!(),
-    }
-}
-
 /// The job of one program, at the ticks of these clocks of the dump.
 fn job_of(alloc: Global, dump: Dump, verified: Verified, clocks: Clocks) -> Result<Job, WindowFault>
     requires { AreClocksOf dump clocks }
@@ -59,13 +41,7 @@ fn job_of(alloc: Global, dump: Dump, verified: Verified, clocks: Clocks) -> Resu
     ensures fault { IfErr result
         (IsSignalFault (variables_of dump) (map wanted_slot verified.signals)) }
 {
-    let mut programs = Vec::new(alloc);
-    programs.push(verified)?;
-    // An arm knows that it is a fault of signals, as `signal_fault` asks; a `From` can't ask it.
-    match Job::over(alloc, programs, dump, clocks) {
-        Ok(job) => Ok(job),
-        Err(fault) => Err(signal_fault(fault)),
-    }
+    Job::of_one(alloc, verified, dump, clocks)
 }
 
 /// The report of a verified program over a dump, on the clock that it names, by a team through
@@ -84,7 +60,7 @@ pub fn report_run<G: Gate + Sync, R: Threads + Wait + Sync>(
     gate: &G,
 ) -> Result<Report, WindowFault>
     ensures report { (c : Contents) → HoldsContents dump c
-        → IfOk result (λ r. Reports c verified (data_of r)) }
+        → IfOk result (λ r. ReportsRun c verified (data_of r)) }
     // One attempt begins at each clock, and each is counted once.
     ensures count { IfOk result (λ r. attempts_of r.total ≡ r.clocks) }
     // The first cause that stands.

@@ -11,13 +11,11 @@ use cycle_window::Window;
 use std::alloc::{AllocError, Global};
 use std::sync::Wait;
 use std::thread::Threads;
-use workers_bench::Numbered;
-use workers_board::Board;
 use workers_core::Job;
 use workers_lines::GrowingLine;
 use workers_rounds::round::{Member, round};
 use workers_rounds::work::Gate;
-use workers_tally::{Tally, Tallying};
+use workers_shared::{Board, Numbered, Tally, Tallying};
 
 /// A round: all monitors through the next window. Its batches are gone after it.
 fn run_round<'j, L: Tallying + Send + Sync, G: Gate + Sync, R: Threads + Wait + Sync>(

@@ -5,7 +5,7 @@ ghost use Rattle.vcd_reader.specs.Dump.{Contents};
 ghost use Rattle.verdicts.specs.Shown.{data_of};
 ghost use Rattle.machine_runs.specs.Lines.{attempts_of};
 ghost use Rattle.workers_core.specs.Values.{Says, WhyNoCore, job_value};
-ghost use Rattle.workers_tally.specs.Blanks.{HaveParts, AreOf};
+ghost use Rattle.workers_shared.specs.Blanks.{HaveParts, HaveNames};
 ghost use Rattle.workers.specs.Between.{clocks_of};
 ghost use Rattle.workers.specs.Reports.{IsJobReport};
 
@@ -21,7 +21,7 @@ use std::thread::Threads;
 use verdicts::Report;
 use workers_core::{Job, RunFault, TeamSize, window_of};
 use workers_rounds::work::Gate;
-use workers_tally::{Blanks, Tally, Tallying};
+use workers_shared::{Blanks, Tally, Tallying};
 
 /// The run, with a tally of those names.
 fn run_in<L: Tallying + Send + Sync, G: Gate + Sync, R: Threads + Wait + Sync>(
@@ -35,7 +35,7 @@ fn run_in<L: Tallying + Send + Sync, G: Gate + Sync, R: Threads + Wait + Sync>(
 ) -> Result<Report, AllocError>
     requires workers { (0 < workers) × (workers ≤ 64) × (workers ≡ L.shares) }
     requires parts { HaveParts workers blanks }
-    requires names { AreOf L.holds L.vacuous L.fails L.disabled blanks }
+    requires names { HaveNames L.holds L.vacuous L.fails L.disabled blanks }
     ensures report { (c : Contents) → Says (job_value job.now) c
         → IfOk result (λ r. IsJobReport (job_value job.now) c (data_of r)) }
     ensures count { IfOk result (λ r.

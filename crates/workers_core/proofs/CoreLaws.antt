@@ -32,8 +32,8 @@ use Rattle.machine_runs.specs.Reported.{wanted_slot}
 use Rattle.workers_core.specs.declared.job.Job.{Job}
 use Rattle.workers_core.specs.declared.core_parts.CoreParts.{CoreParts}
 use Rattle.workers_core.specs.Standing.{variables_in}
-use Rattle.workers_core.specs.Parts.{core_state, IsSound, IsKept, SeeAs}
-use Rattle.workers_core.specs.Opening.{Part, part_of}
+use Rattle.workers_core.specs.Parts.{core_state, AreSoundParts, KeepsParts, SeeAs}
+use Rattle.workers_core.specs.Opening.{MonitorPart, monitor_part}
 use Rattle.workers_core.specs.Jobs.{sampled}
 use Rattle.workers_core.specs.Wanted.{wanted_in}
 use Rattle.workers_core.specs.Cores.{IsCore}
@@ -41,16 +41,16 @@ use Rattle.workers_core.specs.declared.step.Step.{Step}
 use Rattle.workers_core.specs.declared.step.Step.TheVariants as steps
 use Rattle.workers_core.specs.declared.step.Reply.{Reply}
 use Rattle.workers_core.specs.States.{CoreState, Setting, EachStandsOnce, Replies, next, next_slide, next_advance}
-use Rattle.workers_core.specs.Values.{CoreValue, Says, job_value, value_of, setting_of}
+use Rattle.workers_core.specs.Values.{CoreValue, Says, job_value, core_value_of, setting_of}
 use Rattle.workers_core.proofs.CorePartLaws.{get-mapped}
 use Rattle.workers_core.proofs.PartLaws.{IsPlaced, each-placed}
 
-pub kept-places : (j : Job) (old new : CoreParts) → IsKept old new
+pub kept-places : (j : Job) (old new : CoreParts) → KeepsParts old new
     → map Some (places_in (columns_in old.window)) ≡ places_of (variables_of j.dump) (wanted_in j.programs.items)
     → map Some (places_in (columns_in new.window)) ≡ places_of (variables_of j.dump) (wanted_in j.programs.items)
 kept-places j old new kept places = ap (λ (cs : Columns). map Some (places_in cs)) kept.columns ∙ places
 
-pub kept-core : (j : Job) (old new : CoreParts) → IsCore j old → IsSound new → IsKept old new
+pub kept-core : (j : Job) (old new : CoreParts) → IsCore j old → AreSoundParts new → KeepsParts old new
     → new.window ≡ old.window → EachStandsOnce (core_state new) → IsCore j new
 kept-core j old new h sound kept same once = record {
   sound = sound;
@@ -74,14 +74,14 @@ named-are vs (s ∷ ss) (x ∷ xs) are =
 
 -- a monitor sees the trace's rows of its program
 pub sees : (j : Job) (f : CoreParts) (c : Contents) → IsCore j f → Says (job_value j) c
-    → SeeAs (setting_of (value_of j f) c) f.window c f.monitors.items
+    → SeeAs (setting_of (core_value_of j f) c) f.window c f.monitors.items
 sees j f c h says i m is =
     let vs = variables_of j.dump in
     let places = places_in (columns_in f.window) in
-    let part : IsPlaced vs places (part_of m) =
-    each-placed vs places j.programs.items 0 (omega arith) h.places i (part_of m)
-    (sym (ap (λ (qs : List Part). slice_get qs i) h.parts)
-    ∙ get-mapped part_of f.monitors.items i m is) in
+    let part : IsPlaced vs places (monitor_part m) =
+    each-placed vs places j.programs.items 0 (omega arith) h.places i (monitor_part m)
+    (sym (ap (λ (qs : List MonitorPart). slice_get qs i) h.parts)
+    ∙ get-mapped monitor_part f.monitors.items i m is) in
     let named : sampled c.variables m.machine.program ≡ variables_in f.window m =
     ap (λ (ds : List Declared). sampled ds m.machine.program) (sym says.variables)
     ∙ named-are vs m.machine.program.signals (variables_in f.window m) part.are in
@@ -102,29 +102,29 @@ AnswersTo v step new reply =
     (c : Contents) → Says v.job c → Replies v.state (next (setting_of v c) v.state step) new reply
 
 to-value : (v : CoreValue) (j : Job) (old : CoreParts) (step s : Step) (new : CoreState) (reply : Reply)
-    → value_of j old ≡ v → step ≡ s → AnswersTo (value_of j old) s new reply
+    → core_value_of j old ≡ v → step ≡ s → AnswersTo (core_value_of j old) s new reply
     → AnswersTo v step new reply
 to-value v j old step s new reply is at h =
     subst (λ (x : CoreValue). AnswersTo x step new reply) is
-    (subst (λ (t : Step). AnswersTo (value_of j old) t new reply) (sym at) h)
+    (subst (λ (t : Step). AnswersTo (core_value_of j old) t new reply) (sym at) h)
 
 pub slide-reply :
     (v : CoreValue) (j : Job) (old : CoreParts) (step : Step) (new : CoreState) (reply : Reply) →
-    value_of j old ≡ v → step ≡ steps.Slide →
+    core_value_of j old ≡ v → step ≡ steps.Slide →
     ((g : Setting) → g.clocks ≡ length (ticks_in j.clocks) → g.size ≡ size_in old.window →
     Replies (core_state old) (next_slide g (core_state old)) new reply) →
     AnswersTo v step new reply
 slide-reply v j old step new reply is at h =
     to-value v j old step steps.Slide new reply is at
-    (λ c says. h (setting_of (value_of j old) c) refl refl)
+    (λ c says. h (setting_of (core_value_of j old) c) refl refl)
 
 pub advance-reply :
     (v : CoreValue) (j : Job) (old : CoreParts) (step : Step) (w k : ℕ) (new : CoreState)
-    (reply : Reply) → IsCore j old → value_of j old ≡ v → step ≡ steps.Advance w k →
+    (reply : Reply) → IsCore j old → core_value_of j old ≡ v → step ≡ steps.Advance w k →
     ((g : Setting) (c : Contents) → IsOver old.window c → SeeAs g old.window c old.monitors.items →
     Replies (core_state old) (next_advance g (core_state old) w k) new reply) →
     AnswersTo v step new reply
 advance-reply v j old step w k new reply core is at h =
     to-value v j old step (steps.Advance w k) new reply is at
-    (λ c says. h (setting_of (value_of j old) c) c (core.window.over c (holds j c says))
+    (λ c says. h (setting_of (core_value_of j old) c) c (core.window.over c (holds j c says))
     (sees j old c core says))

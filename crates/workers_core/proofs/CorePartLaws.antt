@@ -71,7 +71,7 @@ use Rattle.workers_core.specs.States.{
   advance_one,
   next_advance,
   BatchState,
-  cleared,
+  monitor_cleared,
   batch,
   publish_by,
   publish_one,
@@ -84,7 +84,7 @@ use Rattle.cycle_window.specs.declared.window.Window.{Window}
 use Rattle.cycle_window.specs.Ticks.{ticks_of, row_of}
 use Rattle.cycle_window.specs.Held.{columns_in, places_in, clock_in}
 use Rattle.machine_runs.specs.declared.batch.Batch.{Batch}
-use Rattle.workers_core.specs.Standing.{seen, Stands, IsSame, IsUnmoved, IsCleared}
+use Rattle.workers_core.specs.Standing.{seen, MonitorStands, IsSame, IsUnmoved, IsCleared}
 use Rattle.workers_core.specs.Parts.{
   worker_state,
   batch_state,
@@ -93,7 +93,7 @@ use Rattle.workers_core.specs.Parts.{
   EachIsKnown,
   IsRight,
 }
-use Rattle.workers_core.specs.Opening.{Part, part_of}
+use Rattle.workers_core.specs.Opening.{MonitorPart, monitor_part}
 use Rattle.bytecode.specs.Values.{ProgramData}
 use Rattle.std.proofs.lemmas.List.{length-set}
 use Rattle.workers_core.proofs.PlaceLaws.{same-part, unmoved-same, right-same, stands-unmoved}
@@ -286,8 +286,8 @@ advanced-is w c g m r new k n u see is h =
     ∙ ap (advanced (seen w c r) n) (sym (unmoved-state m r u)) ∙ h
 
 pub stands-set : (w : Window) (ms : List Monitor) (i : ℕ) (new : Monitor) → EachStands w ms
-    → Stands w new → EachStands w (slice_set ms i new)
-stands-set w ms i new all one = each-set (λ j x. Stands w x) ms i new all one
+    → MonitorStands w new → EachStands w (slice_set ms i new)
+stands-set w ms i new all one = each-set (λ j x. MonitorStands w x) ms i new all one
 
 pub right-set : (w : Window) (ms : List Monitor) (bs : List Batch) (i : ℕ) (old new : Monitor)
     → slice_get ms i ≡ Some old → IsSame old new → EachIsRight w ms bs
@@ -363,7 +363,7 @@ abbrev published : CoreState → ℕ → ℕ → MonitorState → CoreState
 published s w i m = record {
   first = s.first;
   end = s.end;
-  monitors = slice_set s.monitors i (cleared m);
+  monitors = slice_set s.monitors i (monitor_cleared m);
   waiting = s.waiting;
   workers = slice_set s.workers w
       (record { hand = None; done = done_of (slice_get s.workers w) ++ i ∷ [] });
@@ -396,7 +396,7 @@ same-parts s ms ns ws vs bs cs h k l =
     ap (λ (x : List MonitorState). parts s x ws bs) h
     ∙ ap (λ (x : List WorkerState). parts s ns x bs) k ∙ ap (parts s ns vs) l
 
-pub cleared-state : (m r : Monitor) → IsCleared m r → monitor_state r ≡ cleared (monitor_state m)
+pub cleared-state : (m r : Monitor) → IsCleared m r → monitor_state r ≡ monitor_cleared (monitor_state m)
 cleared-state m r u =
     let of : Running → ℕ → List Decided → MonitorState = λ machine since decided.
     record {
@@ -410,7 +410,7 @@ cleared-state m r u =
     ∙ ap (of m.machine m.machine.state.standing.now) u.decided
 
 pub cleared-set : (ms : List Monitor) (i : ℕ) (m new : Monitor) → IsCleared m new
-    → slice_set (map monitor_state ms) i (cleared (monitor_state m))
+    → slice_set (map monitor_state ms) i (monitor_cleared (monitor_state m))
     ≡ map monitor_state (slice_set ms i new)
 cleared-set ms i m new u =
     ap (slice_set (map monitor_state ms) i) (sym (cleared-state m new u))
@@ -426,7 +426,7 @@ each-push Q (z ∷ xs) y h k zero x e = h 0 x e
 each-push Q (z ∷ xs) y h k (suc n) x e = each-push Q xs y (λ m. h (suc m)) k n x e
 
 -- a batch that was taken is right
-pub right-taken : (w : Window) (m : Monitor) (i : ℕ) (b : Batch) → Stands w m
+pub right-taken : (w : Window) (m : Monitor) (i : ℕ) (b : Batch) → MonitorStands w m
     → batch_state b ≡ batch i (monitor_state m) → IsRight w m b
 right-taken w m i b h is =
     let first : b.first ≡ m.since = ap (λ (x : BatchState). x.first) is in
@@ -444,7 +444,7 @@ right-taken w m i b h is =
     }
 
 -- with its batch taken, a monitor stands where it stood
-pub stands-cleared : (w : Window) (m new : Monitor) → Stands w m → IsCleared m new → Stands w new
+pub stands-cleared : (w : Window) (m new : Monitor) → MonitorStands w m → IsCleared m new → MonitorStands w new
 stands-cleared w m new h u =
     let vs = places_in (columns_in w) in
     let now = m.machine.state.standing.now in
@@ -468,7 +468,7 @@ stands-cleared w m new h u =
       since = u.since;
       decided = refl;
     } in
-    let stands : Stands w bare = record {
+    let stands : MonitorStands w bare = record {
       accepted = h.accepted;
       room = h.room;
       declared = h.declared;
@@ -523,7 +523,7 @@ right-cleared w m new b u h =
 
 pub right-more :
     (w : Window) (ms : List Monitor) (bs : List Batch) (i : ℕ) (m new : Monitor) (b : Batch) →
-    slice_get ms i ≡ Some m → Stands w m → IsCleared m new →
+    slice_get ms i ≡ Some m → MonitorStands w m → IsCleared m new →
     batch_state b ≡ batch i (monitor_state m) → EachIsRight w ms bs →
     EachIsRight w (slice_set ms i new) (bs ++ b ∷ [])
 right-more w ms bs i m new b at stands u is all =
@@ -557,24 +557,24 @@ known-more ms bs i new b below is all =
     each-push (λ (a : Batch). a.monitor < length (slice_set ms i new)) bs b
     (known-set ms bs i new all) (omega (arith, below, is, length-set ms i new))
 
-abbrev part : ProgramData → ℕ → ℕ → Part
+abbrev part : ProgramData → ℕ → ℕ → MonitorPart
 part p a b = record { program = p; from = a; to = b }
 
 -- a monitor that goes on keeps its part of a row
-part-same : (old new : Monitor) → IsSame old new → part_of new ≡ part_of old
+part-same : (old new : Monitor) → IsSame old new → monitor_part new ≡ monitor_part old
 part-same old new same =
     ap (λ (p : ProgramData). part p new.from new.to) same.program
     ∙ ap (λ (n : ℕ). part old.machine.program n new.to) same.from
     ∙ ap (part old.machine.program old.from) same.to
 
 pub parts-set : (ms : List Monitor) (i : ℕ) (old new : Monitor) → slice_get ms i ≡ Some old
-    → IsSame old new → map part_of (slice_set ms i new) ≡ map part_of ms
-parts-set ms i old new at same = set-same part_of ms i old new at (part-same old new same)
+    → IsSame old new → map monitor_part (slice_set ms i new) ≡ map monitor_part ms
+parts-set ms i old new at same = set-same monitor_part ms i old new at (part-same old new same)
 
 pub parts-cleared : (ms : List Monitor) (i : ℕ) (old new : Monitor) → slice_get ms i ≡ Some old
-    → IsCleared old new → map part_of (slice_set ms i new) ≡ map part_of ms
+    → IsCleared old new → map monitor_part (slice_set ms i new) ≡ map monitor_part ms
 parts-cleared ms i old new at u =
-    set-same part_of ms i old new at
+    set-same monitor_part ms i old new at
     (ap (λ (r : Running). part r.program new.from new.to) u.machine
     ∙ ap (λ (n : ℕ). part old.machine.program n new.to) u.from
     ∙ ap (part old.machine.program old.from) u.to)

@@ -35,10 +35,10 @@ use Rattle.workers_core.specs.declared.monitor.Monitor.{Monitor}
 use Rattle.workers_core.specs.States.{MonitorState, BatchState, place}
 use Rattle.workers_core.specs.Standing.{monitor_state, seen}
 use Rattle.workers_core.specs.Parts.{batch_state}
-use Rattle.workers_core.specs.Opening.{Part, part_of, parts_from}
+use Rattle.workers_core.specs.Opening.{MonitorPart, monitor_part, parts_from}
 use Rattle.workers_core.specs.Cores.{IsCore}
-use Rattle.workers_core.specs.Values.{Says, job_value, value_of}
-use Rattle.workers_core.specs.Following.{IsInState, IsBatchOf, IsWhole, FollowsMachine}
+use Rattle.workers_core.specs.Values.{Says, job_value, core_value_of}
+use Rattle.workers_core.specs.Following.{IsInState, IsBatchOf, PublishesAll, FollowsMachine}
 use Rattle.workers_core.proofs.CorePartLaws.{get-mapped}
 use Rattle.workers_core.proofs.CoreLaws.{holds, sees}
 use Rattle.workers_core.proofs.RunLaws.{all-up-to}
@@ -71,14 +71,14 @@ there (x ∷ ms) zero h = (x, refl)
 there (x ∷ ms) (suc i) h = there ms i (omega (arith, h))
 
 parts-programs : (a : ℕ) (ps : List ProgramData)
-    → map (λ (q : Part). q.program) (parts_from a ps) ≡ ps
+    → map (λ (q : MonitorPart). q.program) (parts_from a ps) ≡ ps
 parts-programs a [] = refl
 parts-programs a (p ∷ ps) =
     ap (λ (xs : List ProgramData). p ∷ xs) (parts-programs (a + length p.signals) ps)
 
 of-parts : (ms : List Monitor)
     → map (λ (m : MonitorState). m.program) (map monitor_state ms)
-    ≡ map (λ (q : Part). q.program) (map part_of ms)
+    ≡ map (λ (q : MonitorPart). q.program) (map monitor_part ms)
 of-parts [] = refl
 of-parts (m ∷ ms) = ap (λ (xs : List ProgramData). m.machine.program ∷ xs) (of-parts ms)
 
@@ -87,7 +87,7 @@ module _ (j : Job) (f : CoreParts) (c : Contents) (core : IsCore j f)
   programs-are : map (λ (m : MonitorState). m.program) (map monitor_state f.monitors.items)
       ≡ j.programs.items
   programs-are =
-      of-parts f.monitors.items ∙ ap (map (λ (q : Part). q.program)) core.parts
+      of-parts f.monitors.items ∙ ap (map (λ (q : MonitorPart). q.program)) core.parts
       ∙ parts-programs 0 j.programs.items
 
   in-state : (i : ℕ) (m : Monitor) → slice_get f.monitors.items i ≡ Some m
@@ -108,7 +108,7 @@ module _ (j : Job) (f : CoreParts) (c : Contents) (core : IsCore j f)
       (over-end f.window c (core.window.over c (holds j c says)))
 
   whole-at : (i : ℕ) (m : Monitor) → slice_get f.monitors.items i ≡ Some m
-      → IsWhole (value_of j f) c i (monitor_state m)
+      → PublishesAll (core_value_of j f) c i (monitor_state m)
   whole-at i m at =
       let p = m.machine.program in
       let now = m.machine.state.standing.now in
@@ -142,7 +142,7 @@ module _ (j : Job) (f : CoreParts) (c : Contents) (core : IsCore j f)
         },
       )
 
-  pub core-follows : FollowsMachine (value_of j f) c
+  pub core-follows : FollowsMachine (core_value_of j f) c
   core-follows = record {
     ticks = j.ticks c (holds j c says);
     once = core.once;
@@ -158,7 +158,7 @@ module _ (j : Job) (f : CoreParts) (c : Contents) (core : IsCore j f)
         (omega (arith, high, ticks-left));
     whole = λ i s is.
         let r = found monitor_state f.monitors.items i s is in
-        subst (IsWhole (value_of j f) c i) r.is (whole-at i r.item r.at);
+        subst (PublishesAll (core_value_of j f) c i) r.is (whole-at i r.item r.at);
     monitors = λ i s is.
         let r = found monitor_state f.monitors.items i s is in
         subst (IsInState (job_value j) c) r.is (in-state i r.item r.at);

@@ -13,14 +13,14 @@ use Rattle.workers_core.specs.declared.monitor.Monitor.{Monitor}
 use Rattle.workers_core.specs.declared.worker.Worker.{Worker}
 use Rattle.workers_core.specs.declared.step.Reply.{Reply}
 use Rattle.workers_core.specs.declared.step.Reply.TheVariants as replies
-use Rattle.workers_core.specs.States.{MonitorState, WorkerState, BatchState, CoreState, numbers_of, all_numbers}
-use Rattle.workers_core.specs.States.{times_in, EachStandsOnce, Replies, place, cleared, batch, emptied}
-use Rattle.workers_core.specs.States.{is_empty, is_none, is_free, is_free_one, front_below, hand_of, held, done_of}
+use Rattle.workers_core.specs.States.{MonitorState, WorkerState, BatchState, CoreState, numbers_of, monitor_numbers}
+use Rattle.workers_core.specs.States.{times_in, EachStandsOnce, Replies, place, monitor_cleared, batch, emptied}
+use Rattle.workers_core.specs.States.{holds_none, is_none, is_free, is_free_one, front_below, hand_of, held, done_of}
 use Rattle.workers_core.specs.States.{next_claim, may_claim, next_publish, publish_by, publish_one, next_gather}
 use Rattle.workers_core.specs.States.{put, put_each, put_done}
 use Rattle.workers_core.specs.Standing.{monitor_state}
-use Rattle.workers_core.specs.Parts.{core_state, worker_state, IsKept}
-use Rattle.workers_core.specs.Opening.{Part, part_of, opened_monitor}
+use Rattle.workers_core.specs.Parts.{core_state, worker_state, KeepsParts}
+use Rattle.workers_core.specs.Opening.{MonitorPart, monitor_part, opened_monitor}
 use Rattle.workers_core.specs.Cores.{opening_state}
 
 -- what one number counts
@@ -69,7 +69,7 @@ both-true : (a b : Bool) → (a && b) ≡ true → (a ≡ true) × (b ≡ true)
 both-true true b h = (refl, h)
 both-true false b h = absurd (false≢true h)
 
-empty-hand : (h : Option ℕ) → is_empty h ≡ true → h ≡ None
+empty-hand : (h : Option ℕ) → holds_none h ≡ true → h ≡ None
 empty-hand None is = refl
 empty-hand (Some i) is = absurd (false≢true is)
 
@@ -98,7 +98,7 @@ front t ms (j ∷ rest) h = (j, rest, refl)
 -- A state with as many monitors, in which each number stands as often.
 record IsAlike (old new : CoreState) : Type 0 where
   long : length new.monitors ≡ length old.monitors
-  each : (i : ℕ) → times_in i (all_numbers new) ≡ times_in i (all_numbers old)
+  each : (i : ℕ) → times_in i (monitor_numbers new) ≡ times_in i (monitor_numbers old)
 
 alike-once : (old new : CoreState) → IsAlike old new → EachStandsOnce old → EachStandsOnce new
 alike-once old new alike h = record {
@@ -162,7 +162,7 @@ publish-one-alike s w j (Some m) new holds h =
     let made : CoreState = record {
       first = s.first;
       end = s.end;
-      monitors = slice_set s.monitors j (cleared m);
+      monitors = slice_set s.monitors j (monitor_cleared m);
       waiting = s.waiting;
       workers = slice_set s.workers w laid;
       board = s.board ++ batch j m ∷ [];
@@ -171,7 +171,7 @@ publish-one-alike s w j (Some m) new holds h =
     let x = holding (slice_get s.workers w) j holds in
     subst (IsAlike s) pick.1
     (record {
-      long = length-set s.monitors j (cleared m);
+      long = length-set s.monitors j (monitor_cleared m);
       each = λ i.
           let last : times_in i (j ∷ []) ≡ one i j + 0 = in-front i j [] in
           let has : times_in i (numbers_of laid) ≡ times_in i x.0.done + times_in i (j ∷ []) =
@@ -262,16 +262,16 @@ pub gather-once : (old new : CoreState) (r : Reply) → Replies old (next_gather
 gather-once old new r h = replied-once old new (next_gather old) r h (gather-alike old)
 
 -- nothing moves between the lists
-pub unmoved-once : (old new : CoreParts) → IsKept old new → new.waiting ≡ old.waiting → new.workers ≡ old.workers
+pub unmoved-once : (old new : CoreParts) → KeepsParts old new → new.waiting ≡ old.waiting → new.workers ≡ old.workers
     → EachStandsOnce (core_state old) → EachStandsOnce (core_state new)
 unmoved-once old new kept waiting workers =
     alike-once (core_state old) (core_state new)
     (record {
       long =
           length-map new.monitors.items monitor_state
-          ∙ sym (length-map new.monitors.items part_of)
-          ∙ ap (λ (qs : List Part). length qs) kept.parts
-          ∙ length-map old.monitors.items part_of
+          ∙ sym (length-map new.monitors.items monitor_part)
+          ∙ ap (λ (qs : List MonitorPart). length qs) kept.parts
+          ∙ length-map old.monitors.items monitor_part
           ∙ sym (length-map old.monitors.items monitor_state);
       each = λ i.
           ap (λ q. times_in i (q.items ++ flat_map numbers_of (map worker_state new.workers.items))) waiting

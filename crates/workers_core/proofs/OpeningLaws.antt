@@ -24,7 +24,7 @@ use Rattle.std.specs.List.{range_with_len}
 use Rattle.std.proofs.lemmas.List.{take_more, map-append}
 use Rattle.bytecode.specs.Values.{ProgramData}
 use Rattle.workers_core.specs.States.{MonitorState}
-use Rattle.workers_core.specs.Opening.{Part, part_at, parts_from, opened_monitor}
+use Rattle.workers_core.specs.Opening.{MonitorPart, part_at, parts_from, opened_monitor}
 
 -- how many signals programs have
 abbrev pub signals_in : List ProgramData → ℕ
@@ -42,7 +42,7 @@ parts-more a [] p = let e : a ≡ a + 0 = omega arith in ap (λ (n : ℕ). part_
 parts-more a (x ∷ xs) p =
     let e : (a + length x.signals) + signals_in xs ≡ a + (length x.signals + signals_in xs) =
     omega arith in
-    ap (λ (qs : List Part). part_at a x ∷ qs)
+    ap (λ (qs : List MonitorPart). part_at a x ∷ qs)
     (parts-more (a + length x.signals) xs p
     ∙ ap (λ (n : ℕ). parts_from (a + length x.signals) xs ++ part_at n p ∷ []) e)
 
@@ -56,14 +56,14 @@ signals-next ps i from to d p lt at is end =
     ∙ sym (ap signals_in (take_more ps i d lt))
 
 pub parts-next :
-    (ps : List ProgramData) (i from : ℕ) (d p : ProgramData) (qs : List Part) (q : Part) →
+    (ps : List ProgramData) (i from : ℕ) (d p : ProgramData) (qs : List MonitorPart) (q : MonitorPart) →
     i < length ps → p ≡ get_or ps i d → from ≡ signals_in (take i ps) →
     qs ≡ parts_from 0 (take i ps) →
     q ≡ part_at from p → qs ++ q ∷ [] ≡ parts_from 0 (take (i + 1) ps)
 parts-next ps i from d p qs q lt at is are one =
     let e : from ≡ 0 + signals_in (take i ps) = is ∙ omega arith in
-    ap (λ (xs : List Part). xs ++ q ∷ []) are
-    ∙ ap (λ (x : Part). parts_from 0 (take i ps) ++ x ∷ [])
+    ap (λ (xs : List MonitorPart). xs ++ q ∷ []) are
+    ∙ ap (λ (x : MonitorPart). parts_from 0 (take i ps) ++ x ∷ [])
     (one ∙ ap (λ (n : ℕ). part_at n p) e)
     ∙ sym (parts-more 0 (take i ps) p)
     ∙ ap (λ (x : ProgramData). parts_from 0 (take i ps ++ x ∷ [])) at

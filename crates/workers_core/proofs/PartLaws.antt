@@ -39,7 +39,7 @@ use Rattle.cycle_window.specs.Bound.{
   places_of,
 }
 use Rattle.machine_runs.specs.Reported.{wanted_slot}
-use Rattle.workers_core.specs.Opening.{Part, part_at, parts_from}
+use Rattle.workers_core.specs.Opening.{MonitorPart, part_at, parts_from}
 use Rattle.workers_core.specs.Wanted.{wanted_in}
 
 -- the variables of the first signals, and those of the rest
@@ -65,7 +65,7 @@ splits vs (s ∷ ss) more (x ∷ xs) are =
     }
 
 -- a part lies inside of the row, and has its signals' variables
-pub record IsPlaced (vs : List Declared) (places : List ℕ) (q : Part) : Type 0 where
+pub record IsPlaced (vs : List Declared) (places : List ℕ) (q : MonitorPart) : Type 0 where
   pub order : q.from ≤ q.to
   pub inside : q.to ≤ length places
   pub are : map Some (slice_range places q.from q.to)
@@ -87,7 +87,7 @@ drops (suc a) d (x ∷ xs) =
 
 pub each-placed : (vs : List Declared) (places : List ℕ) (ps : List ProgramData) (from : ℕ) →
     from ≤ length places → map Some (drop from places) ≡ places_of vs (wanted_in ps) →
-    (i : ℕ) (q : Part) → slice_get (parts_from from ps) i ≡ Some q → IsPlaced vs places q
+    (i : ℕ) (q : MonitorPart) → slice_get (parts_from from ps) i ≡ Some q → IsPlaced vs places q
 each-placed vs places [] from le are i q is = absurd cc
 each-placed vs places (p ∷ ps) from le are zero q is =
     let same : part_at from p ≡ q = cc in
@@ -130,13 +130,13 @@ accepts vs (s ∷ ss) more none =
     }
 
 pub each-accepted : (vs : List Declared) (ps : List ProgramData) (from : ℕ) →
-    first_refused vs (wanted_in ps) ≡ None → (i : ℕ) (q : Part) →
+    first_refused vs (wanted_in ps) ≡ None → (i : ℕ) (q : MonitorPart) →
     slice_get (parts_from from ps) i ≡ Some q →
     first_refused vs (map wanted_slot q.program.signals) ≡ None
 each-accepted vs [] from none i q is = absurd cc
 each-accepted vs (p ∷ ps) from none zero q is =
     let same : part_at from p ≡ q = cc in
-    subst (λ (x : Part). first_refused vs (map wanted_slot x.program.signals) ≡ None) same
+    subst (λ (x : MonitorPart). first_refused vs (map wanted_slot x.program.signals) ≡ None) same
     (accepts vs p.signals (wanted_in ps) none).front
 each-accepted vs (p ∷ ps) from none (suc i) q is =
     each-accepted vs ps (from + length p.signals) (accepts vs p.signals (wanted_in ps) none).rest i

@@ -27,7 +27,7 @@ use Rattle.std.proofs.Common.{
 use Rattle.std.specs.Prelude.{slice_index, slice_range}
 use Rattle.std.proofs.lemmas.List.{append-nil}
 use Rattle.vcd_reader.specs.Variables.{size_of}
-use Rattle.machine.specs.Running.{Running, IsClock}
+use Rattle.machine.specs.Running.{Running, IsOneClock}
 use Rattle.machine_runs.proofs.CountLaws.{CountsAll, clock-counts}
 use Rattle.signals.specs.declared.verdict.Decided.{Decided}
 use Rattle.bytecode.specs.Values.{ProgramData}
@@ -58,14 +58,14 @@ use Rattle.std.proofs.Math.Logic.{∥∥₁_elim}
 use Rattle.std.proofs.Math.Bridge.{le_prop}
 use Rattle.machine_runs.proofs.JoinLaws.{between-joins, come-on, ends-in}
 use Rattle.workers_core.specs.declared.monitor.Monitor.{Monitor}
-use Rattle.workers_core.specs.States.{MonitorState, moved}
+use Rattle.workers_core.specs.States.{MonitorState, monitor_moved}
 use Rattle.workers_core.specs.Standing.{
   monitor_state,
   part,
   variables_in,
   seen,
   IsSame,
-  Stands,
+  MonitorStands,
   IsOneMore,
   HasGone,
   IsUnmoved,
@@ -92,11 +92,11 @@ none-between b rows = let e : b - b ≡ 0 = omega arith in ap (λ (n : ℕ). tak
 
 -- what a clock of the machine comes to
 abbrev outcome : {before after : Running} {row : List ℕ} {out more : List Decided}
-    → IsClock before row out after more → Outcome
+    → IsOneClock before row out after more → Outcome
 outcome {after = after} h = record { state = after.state; decided = h.decided }
 
 module _ (old : Monitor) (row : List ℕ) (out more : List Decided) (machine : Running)
-    (h : IsClock old.machine row out machine more) (none : out ≡ []) where
+    (h : IsOneClock old.machine row out machine more) (none : out ≡ []) where
   decided-is : more ≡ h.decided
   decided-is = h.told ∙ ap (λ (o : List Decided). o ++ h.decided) none
 
@@ -198,10 +198,10 @@ some-state p q s a b xs ys h k l =
 -- what went on is the checked machine's
 pub gone-moved : (rows : List (List ℕ)) (old new : Monitor) → IsSame old new →
     HasGone rows old new →
-    moved (monitor_state old) (run_from old.machine.program old.machine.state rows)
+    monitor_moved (monitor_state old) (run_from old.machine.program old.machine.state rows)
     ≡ monitor_state new
 gone-moved rows old new same gone =
-    ap (moved (monitor_state old)) gone.ran
+    ap (monitor_moved (monitor_state old)) gone.ran
     ∙ some-state old.machine.program new.machine.program new.machine.state old.since new.since
     (old.decided.items ++ gone.decided) new.decided.items
     (sym same.program) (sym same.since) (sym gone.told)
@@ -253,11 +253,11 @@ row-seen w c old mid row k same is =
     is ∙ ap (λ (vs : List ℕ). row_of c vs k) (same-part (places_in (columns_in w)) old mid same)
 
 -- a monitor that went on stands where it came to
-pub stands-on : (w : Window) (old new : Monitor) (to : ℕ) → Stands w old → IsSame old new →
+pub stands-on : (w : Window) (old new : Monitor) (to : ℕ) → MonitorStands w old → IsSame old new →
     new.machine.state.standing.now ≡ to → old.machine.state.standing.now ≤ to → to ≤ end_in w →
     ((c : Contents) → IsOver w c →
     HasGone (rows_between (seen w c old) old.machine.state.standing.now to) old new) →
-    Stands w new
+    MonitorStands w new
 stands-on w old new to h same at ahead inside gone =
     let vs = places_in (columns_in w) in
     let parts = same-part vs old new same in
@@ -316,7 +316,7 @@ unmoved-gone rows old new u =
     }
 
 -- few attempts are live
-pub few-live : (w : Window) (m : Monitor) → Stands w m
+pub few-live : (w : Window) (m : Monitor) → MonitorStands w m
     → length m.machine.state.standing.attempts ≤ m.machine.program.header.limits.attempts
 few-live w m h =
     ∥∥₁_elim h.fits le_prop (λ f.
@@ -332,8 +332,8 @@ few-live w m h =
     omega (arith, n.0, h.accepted.attempts))
 
 -- room for more changes nothing else
-pub stands-unmoved : (w : Window) (old new : Monitor) → Stands w old → IsUnmoved old new
-    → Stands w new
+pub stands-unmoved : (w : Window) (old new : Monitor) → MonitorStands w old → IsUnmoved old new
+    → MonitorStands w new
 stands-unmoved w old new h u =
     let same : IsSame old new = unmoved-same old new u in
     let now = old.machine.state.standing.now in
@@ -349,7 +349,7 @@ same-seen v w c m is =
 
 -- a monitor at the end of a window stands at the first clock of the next
 pub stands-slid : (v w : Window) (m : Monitor) → columns_in w ≡ columns_in v → first_in w ≡ end_in v
-    → end_in v ≤ end_in w → m.machine.state.standing.now ≡ end_in v → Stands v m → Stands w m
+    → end_in v ≤ end_in w → m.machine.state.standing.now ≡ end_in v → MonitorStands v m → MonitorStands w m
 stands-slid v w m is first longer at h =
     let parts : variables_in v m ≡ variables_in w m =
     ap (λ (cs : Columns). part m (places_in cs)) (sym is) in

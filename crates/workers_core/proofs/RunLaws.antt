@@ -4,7 +4,7 @@ use Rattle.signals.specs.declared.verdict.Decided.{Decided}
 use Rattle.bytecode.specs.Values.{ProgramData}
 use Rattle.machine_definition.specs.Outcomes.{Ran, done, trapped, and_then}
 use Rattle.machine_definition.specs.Machine.{State, Outcome, opening, clock, clocks}
-use Rattle.machine_definition.specs.Runs.{behind, run_from}
+use Rattle.machine_definition.specs.Runs.{outcome_behind, run_from}
 use Rattle.machine_runs.proofs.CutLaws.{ends-as}
 use Rattle.machine_runs.specs.Batches.{rows_between, decided_in, batch_of, HasCome}
 use Rattle.machine_runs.proofs.JoinLaws.{came, split-at, joins}
@@ -15,7 +15,7 @@ LeavesNone (done o left) = left ≡ 0
 LeavesNone (trapped t) = Unit {0}
 
 none-behind : (ds : List Decided) (r : Ran Outcome) → LeavesNone r
-    → LeavesNone (and_then r (λ rest left. done (behind ds rest) left))
+    → LeavesNone (and_then r (λ rest left. done (outcome_behind ds rest) left))
 unfolding LeavesNone
 none-behind ds (done o left) h = h
 none-behind ds (trapped t) h = tt
@@ -25,7 +25,7 @@ none-after : (p : ProgramData) (later : List (List ℕ)) (r : Ran Outcome) →
     LeavesNone (and_then r
     (λ first left.
     and_then (run_from p first.state later)
-    (λ rest left. done (behind first.decided rest) left)))
+    (λ rest left. done (outcome_behind first.decided rest) left)))
 unfolding LeavesNone
 none-after p later (done o left) h = none-behind o.decided (run_from p o.state later) (h o.state)
 none-after p later (trapped t) h = tt

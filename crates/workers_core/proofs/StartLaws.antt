@@ -44,9 +44,9 @@ use Rattle.workers_core.specs.declared.job.Job.{Job}
 use Rattle.workers_core.specs.declared.core_parts.CoreParts.{CoreParts}
 use Rattle.workers_core.specs.declared.monitor.Monitor.{Monitor}
 use Rattle.workers_core.specs.States.{CoreState, MonitorState, WorkerState, BatchState, EachStandsOnce, published_by}
-use Rattle.workers_core.specs.Standing.{monitor_state, variables_in, seen, Stands}
+use Rattle.workers_core.specs.Standing.{monitor_state, variables_in, seen, MonitorStands}
 use Rattle.workers_core.specs.Parts.{core_state, worker_state, batch_state, AreAllBefore}
-use Rattle.workers_core.specs.Opening.{Part, IsNew, part_of, parts_from, opened_monitor}
+use Rattle.workers_core.specs.Opening.{MonitorPart, IsNew, monitor_part, parts_from, opened_monitor}
 use Rattle.workers_core.specs.Wanted.{wanted_in}
 use Rattle.workers_core.specs.Cores.{IsFirstWindow, IsOpened, opening_state}
 use Rattle.workers_core.proofs.CorePartLaws.{get-mapped}
@@ -81,16 +81,16 @@ first-window j n cs asked (Err e) is places fits dump clock rows columns size fi
 
 -- before its first clock a monitor stands in the first window
 pub stands-new : (j : Job) (n : ℕ) (w : Window) (m : Monitor) (i : ℕ) → IsFirstWindow j n w
-    → slice_get (parts_from 0 j.programs.items) i ≡ Some (part_of m) → IsNew m → Stands w m
+    → slice_get (parts_from 0 j.programs.items) i ≡ Some (monitor_part m) → IsNew m → MonitorStands w m
 stands-new j n w m i h part new =
     let vs = variables_of j.dump in
     let places = places_in (columns_in w) in
     let ps = j.programs.items in
     let p = m.machine.program in
-    let at : IsPlaced vs places (part_of m) =
-    each-placed vs places ps 0 (omega arith) h.places i (part_of m) part in
+    let at : IsPlaced vs places (monitor_part m) =
+    each-placed vs places ps 0 (omega arith) h.places i (monitor_part m) part in
     let fit : first_refused vs (map wanted_slot p.signals) ≡ None =
-    each-accepted vs ps 0 h.fits i (part_of m) part in
+    each-accepted vs ps 0 h.fits i (monitor_part m) part in
     let wide =
     (bound vs p.signals (map wanted_slot p.signals) (slice_range places m.from m.to) refl at.are
     fit).wide in
@@ -127,7 +127,7 @@ state a b ms is ws bs =
 -- the parts of a core before its first step
 pub opened : (j : Job) (n most : ℕ) (f : CoreParts) → IsFirstWindow j most f.window →
     map monitor_state f.monitors.items ≡ map opened_monitor j.programs.items →
-    map part_of f.monitors.items ≡ parts_from 0 j.programs.items →
+    map monitor_part f.monitors.items ≡ parts_from 0 j.programs.items →
     ((i : ℕ) (m : Monitor) → slice_get f.monitors.items i ≡ Some m → IsNew m) →
     f.waiting.items ≡ range_with_len 0 (length f.monitors.items) →
     map worker_state f.workers.items ≡ replicate n (record { hand = None; done = [] }) →
@@ -163,8 +163,8 @@ opened j n most f h states parts new waiting workers board =
         sound = record {
           monitors = λ i m is.
               stands-new j most f.window m i h
-              (sym (ap (λ (qs : List Part). slice_get qs i) parts)
-              ∙ get-mapped part_of ms i m is) (new i m is);
+              (sym (ap (λ (qs : List MonitorPart). slice_get qs i) parts)
+              ∙ get-mapped monitor_part ms i m is) (new i m is);
           known = λ i b is. absurd (cc (is, board));
           batches = λ i b m is there. absurd (cc (is, board));
           told = λ i m is.

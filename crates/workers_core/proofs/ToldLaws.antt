@@ -18,7 +18,7 @@ use Rattle.machine_runs.specs.Batches.{batch_of, decided_in}
 use Rattle.machine_runs.proofs.JoinLaws.{come-first}
 use Rattle.workers_core.specs.declared.monitor.Monitor.{Monitor}
 use Rattle.workers_core.specs.States.{BatchState, batch, published_by}
-use Rattle.workers_core.specs.Standing.{monitor_state, seen, IsSame, Stands, IsCleared}
+use Rattle.workers_core.specs.Standing.{monitor_state, seen, IsSame, MonitorStands, IsCleared}
 use Rattle.workers_core.specs.Parts.{batch_state, AreAllBefore, EachIsTold}
 use Rattle.workers_core.specs.Opening.{IsNew}
 use Rattle.workers_core.proofs.PlaceLaws.{same-part, over-same, same-seen}
@@ -93,7 +93,7 @@ more-own bs b i is =
     (λ (t : Bool). published_by (map batch_state bs) i ++ cond t b.decided.items []) yes
 
 -- with its batch, a monitor has published all up to its place
-told-taken : (w : Window) (m new : Monitor) (ds : List Decided) → Stands w m → IsCleared m new
+told-taken : (w : Window) (m new : Monitor) (ds : List Decided) → MonitorStands w m → IsCleared m new
     → AreAllBefore w m ds → AreAllBefore w new (ds ++ m.decided.items)
 told-taken w m new ds stands u h = λ c over.
     let now = m.machine.state.standing.now in
@@ -123,7 +123,7 @@ told-taken w m new ds stands u h = λ c over.
 
 pub told-more :
     (w : Window) (ms : List Monitor) (bs : List Batch) (i : ℕ) (m new : Monitor) (b : Batch) →
-    slice_get ms i ≡ Some m → Stands w m → IsCleared m new →
+    slice_get ms i ≡ Some m → MonitorStands w m → IsCleared m new →
     batch_state b ≡ batch i (monitor_state m) → EachIsTold w ms bs →
     EachIsTold w (slice_set ms i new) (bs ++ b ∷ [])
 told-more w ms bs i m new b at stands u is all =

@@ -9,8 +9,8 @@ use Rattle.cycle_window.specs.Held.{columns_in, places_in, size_in, first_in, en
 use Rattle.workers_core.specs.declared.job.Job.{Job}
 use Rattle.workers_core.specs.declared.core_parts.CoreParts.{CoreParts}
 use Rattle.workers_core.specs.States.{CoreState, EachStandsOnce}
-use Rattle.workers_core.specs.Opening.{part_of, parts_from, opened_monitor}
-use Rattle.workers_core.specs.Parts.{core_state, IsSound}
+use Rattle.workers_core.specs.Opening.{monitor_part, parts_from, opened_monitor}
+use Rattle.workers_core.specs.Parts.{core_state, AreSoundParts}
 use Rattle.workers_core.specs.Wanted.{wanted_in}
 
 -- Before the first step: an empty window at clock 0, all monitors waiting in source order, and
@@ -38,12 +38,12 @@ pub record IsFirstWindow (j : Job) (n : ℕ) (w : Window) : Type 0 where
 -- It is sound, each monitor stands once in its lists, its window is over the rows of the job's
 -- signals, and monitor i has program i with its part of a row.
 pub record IsCore (j : Job) (f : CoreParts) : Type 0 where
-  pub sound : IsSound f
+  pub sound : AreSoundParts f
   pub once : EachStandsOnce (core_state f)
   pub window : IsWindowOf f.window j.dump j.clocks
   pub places : map Some (places_in (columns_in f.window))
       ≡ places_of (variables_of j.dump) (wanted_in j.programs.items)
-  pub parts : map part_of f.monitors.items ≡ parts_from 0 j.programs.items
+  pub parts : map monitor_part f.monitors.items ≡ parts_from 0 j.programs.items
 
 -- the parts of a core before its first step, of so many workers and by windows of so many clocks
 pub record IsOpened (j : Job) (n most : ℕ) (f : CoreParts) : Type 0 where

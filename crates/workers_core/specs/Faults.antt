@@ -4,9 +4,7 @@ use Rattle.cycle_window.specs.declared.fault.WindowFault.TheVariants as windows
 use Rattle.workers_core.specs.declared.job_fault.JobFault.{JobFault}
 use Rattle.workers_core.specs.declared.job_fault.JobFault.TheVariants as faults
 
+-- want of memory is one fault, wherever it came up
 abbrev pub window_fault : WindowFault → JobFault
-window_fault windows.NoClock = faults.NoClock
-window_fault windows.ClockWidth = faults.ClockWidth
-window_fault (windows.NoSignal path) = faults.NoSignal path
-window_fault (windows.SignalWidth path) = faults.SignalWidth path
 window_fault windows.Memory = faults.Memory
+window_fault e = faults.Window e

@@ -27,8 +27,8 @@ pub record IsBatchOf (j : JobValue) (c : Contents) (p : ProgramData) (b : BatchS
 
 -- What the monitor of a number has published, and behind it what it has not yet, is all that its
 -- program decides at the clocks up to its place. So nothing is lost, or told twice.
-abbrev pub IsWhole : CoreValue → Contents → ℕ → MonitorState → Type 0
-IsWhole v c number m =
+abbrev pub PublishesAll : CoreValue → Contents → ℕ → MonitorState → Type 0
+PublishesAll v c number m =
     published_by v.state.board number ++ m.decided
     ≡ batch_of m.program (rows_over v.job c m.program) 0 (place m)
 
@@ -50,4 +50,4 @@ pub record FollowsMachine (v : CoreValue) (c : Contents) : Type 0 where
   pub batches : (n : ℕ) (b : BatchState) → slice_get v.state.board n ≡ Some b →
       (p : ProgramData) × IsBatchOf v.job c p b
   pub whole : (i : ℕ) (m : MonitorState) → slice_get v.state.monitors i ≡ Some m →
-      IsWhole v c i m
+      PublishesAll v c i m

@@ -8,19 +8,19 @@ use Rattle.workers_core.specs.States.{MonitorState}
 
 -- A monitor's program, and its part of a row of all signals: from the first place up to the second,
 -- which is not in it.
-pub record Part : Type 0 where
+pub record MonitorPart : Type 0 where
   pub program : ProgramData
   pub from : ℕ
   pub to : ℕ
 
-abbrev pub part_of : Monitor → Part
-part_of m = record { program = m.machine.program; from = m.from; to = m.to }
+abbrev pub monitor_part : Monitor → MonitorPart
+monitor_part m = record { program = m.machine.program; from = m.from; to = m.to }
 
-abbrev pub part_at : ℕ → ProgramData → Part
+abbrev pub part_at : ℕ → ProgramData → MonitorPart
 part_at from p = record { program = p; from = from; to = from + length p.signals }
 
 -- those of programs, whose signals lie one behind the other in a row
-abbrev pub parts_from : ℕ → List ProgramData → List Part
+abbrev pub parts_from : ℕ → List ProgramData → List MonitorPart
 parts_from from [] = []
 parts_from from (p ∷ ps) = part_at from p ∷ parts_from (from + length p.signals) ps
 

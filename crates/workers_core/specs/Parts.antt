@@ -10,8 +10,8 @@ use Rattle.workers_core.specs.declared.monitor.Monitor.{Monitor}
 use Rattle.workers_core.specs.declared.worker.Worker.{Worker}
 use Rattle.workers_core.specs.declared.core_parts.CoreParts.{CoreParts}
 use Rattle.workers_core.specs.States.{CoreState, WorkerState, BatchState, Setting, published_by}
-use Rattle.workers_core.specs.Standing.{monitor_state, seen, Stands}
-use Rattle.workers_core.specs.Opening.{part_of}
+use Rattle.workers_core.specs.Standing.{monitor_state, seen, MonitorStands}
+use Rattle.workers_core.specs.Opening.{monitor_part}
 
 abbrev pub worker_state : Worker → WorkerState
 worker_state w = record { hand = w.hand; done = w.done.items }
@@ -36,7 +36,7 @@ core_state f = record {
 
 -- each monitor stands in the window
 abbrev pub EachStands : Window → List Monitor → Type 0
-EachStands w ms = (i : ℕ) (m : Monitor) → slice_get ms i ≡ Some m → Stands w m
+EachStands w ms = (i : ℕ) (m : Monitor) → slice_get ms i ≡ Some m → MonitorStands w m
 
 -- the batch is that of its monitor for its clocks
 pub record IsRight (w : Window) (m : Monitor) (b : Batch) : Type 0 where
@@ -66,7 +66,7 @@ EachIsTold w ms bs =
     AreAllBefore w m (published_by (map batch_state bs) i)
 
 -- each monitor stands in the window, each batch is right, and none is missing
-pub record IsSound (f : CoreParts) : Type 0 where
+pub record AreSoundParts (f : CoreParts) : Type 0 where
   pub monitors : EachStands f.window f.monitors.items
   pub known : EachIsKnown f.monitors.items f.board.items
   pub batches : EachIsRight f.window f.monitors.items f.board.items
@@ -74,10 +74,10 @@ pub record IsSound (f : CoreParts) : Type 0 where
 
 -- What every step keeps: the window's columns and size, and each monitor's program and part of a
 -- row.
-pub record IsKept (old new : CoreParts) : Type 0 where
+pub record KeepsParts (old new : CoreParts) : Type 0 where
   pub columns : columns_in new.window ≡ columns_in old.window
   pub size : size_in new.window ≡ size_in old.window
-  pub parts : map part_of new.monitors.items ≡ map part_of old.monitors.items
+  pub parts : map monitor_part new.monitors.items ≡ map monitor_part old.monitors.items
 
 -- the trace's rows of each monitor's program are those that it sees
 abbrev pub SeeAs : Setting → Window → Contents → List Monitor → Type 0

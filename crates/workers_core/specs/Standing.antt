@@ -51,7 +51,7 @@ pub record IsSame (old new : Monitor) : Type 0 where
 
 -- The monitor has its part of the rows, stands in the window or at its end, and there in the
 -- checked machine's state over the trace's first rows, with what was decided since a clock.
-pub record Stands (w : Window) (m : Monitor) : Type 0 where
+pub record MonitorStands (w : Window) (m : Monitor) : Type 0 where
   pub accepted : IsAccepted m.machine.program
   pub room : m.machine.program.header.limits.attempts ≤ 1024
   pub declared : m.machine.program.header.limits.attempts ≤ m.attempts

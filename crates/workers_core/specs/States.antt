@@ -27,19 +27,19 @@ abbrev pub place : MonitorState → ℕ
 place m = m.state.standing.now
 
 -- the monitor behind further clocks; a trap, which an accepted program never meets, moves nothing
-abbrev pub moved : MonitorState → Ran Outcome → MonitorState
-moved m (done o left) = record {
+abbrev pub monitor_moved : MonitorState → Ran Outcome → MonitorState
+monitor_moved m (done o left) = record {
   program = m.program;
   state = o.state;
   since = m.since;
   decided = m.decided ++ o.decided;
 }
-moved m (trapped t) = m
+monitor_moved m (trapped t) = m
 
 -- so many clocks of the checked machine more, over the trace's rows from its place on
 abbrev pub advanced : List (List ℕ) → ℕ → MonitorState → MonitorState
 advanced rows k m =
-    moved m (run_from m.program m.state (rows_between rows (place m) (place m + k)))
+    monitor_moved m (run_from m.program m.state (rows_between rows (place m) (place m + k)))
 
 -- A worker: the monitor in its hand, by its number, and its done list.
 pub record WorkerState : Type 0 where
@@ -74,8 +74,8 @@ abbrev pub numbers_of : WorkerState → List ℕ
 numbers_of w = option_to_list w.hand ++ w.done
 
 -- the numbers of all monitors, where they stand: those that wait, then those of the workers
-abbrev pub all_numbers : CoreState → List ℕ
-all_numbers s = s.waiting ++ flat_map numbers_of s.workers
+abbrev pub monitor_numbers : CoreState → List ℕ
+monitor_numbers s = s.waiting ++ flat_map numbers_of s.workers
 
 -- how often a number stands in a list
 abbrev pub times_in : ℕ → List ℕ → ℕ
@@ -84,8 +84,8 @@ times_in number numbers = count_by (λ x. x == number) numbers
 -- The number of each monitor stands once among those that wait, in the workers' hands and in their
 -- done lists, and no other number does.
 pub record EachStandsOnce (s : CoreState) : Type 0 where
-  pub once : (i : ℕ) → i < length s.monitors → times_in i (all_numbers s) ≡ 1
-  pub other : (i : ℕ) → length s.monitors ≤ i → times_in i (all_numbers s) ≡ 0
+  pub once : (i : ℕ) → i < length s.monitors → times_in i (monitor_numbers s) ≡ 1
+  pub other : (i : ℕ) → length s.monitors ≤ i → times_in i (monitor_numbers s) ≡ 0
 
 -- What doesn't change: the number of the trace's clocks, the core's window size, and the trace's
 -- rows of a program's signals.
@@ -94,9 +94,9 @@ pub record Setting : Type 0 where
   pub size : ℕ
   pub rows : ProgramData → List (List ℕ)
 
-abbrev pub is_empty : Option ℕ → Bool
-is_empty None = true
-is_empty (Some i) = false
+abbrev pub holds_none : Option ℕ → Bool
+holds_none None = true
+holds_none (Some i) = false
 
 abbrev pub is_none : List ℕ → Bool
 is_none [] = true
@@ -104,11 +104,11 @@ is_none (i ∷ is) = false
 
 -- its hand is empty
 abbrev pub is_free : WorkerState → Bool
-is_free w = is_empty w.hand
+is_free w = holds_none w.hand
 
 -- it has no monitor
 abbrev pub is_idle : WorkerState → Bool
-is_idle w = is_empty w.hand && is_none w.done
+is_idle w = holds_none w.hand && is_none w.done
 
 abbrev pub is_at : ℕ → MonitorState → Bool
 is_at t m = place m == t
@@ -196,8 +196,8 @@ abbrev pub next_advance : Setting → CoreState → ℕ → ℕ → Option CoreS
 next_advance g s w k = advance_by g s k (held s.workers w)
 
 -- the monitor with nothing decided since its place
-abbrev pub cleared : MonitorState → MonitorState
-cleared m = record { program = m.program; state = m.state; since = place m; decided = [] }
+abbrev pub monitor_cleared : MonitorState → MonitorState
+monitor_cleared m = record { program = m.program; state = m.state; since = place m; decided = [] }
 
 -- what was decided since its last batch
 abbrev pub batch : ℕ → MonitorState → BatchState
@@ -209,7 +209,7 @@ publish_one s w i None = None
 publish_one s w i (Some m) = if place m == s.end then Some (record {
   first = s.first;
   end = s.end;
-  monitors = slice_set s.monitors i (cleared m);
+  monitors = slice_set s.monitors i (monitor_cleared m);
   waiting = s.waiting;
   workers = slice_set s.workers w
       (record { hand = None; done = done_of (slice_get s.workers w) ++ i ∷ [] });

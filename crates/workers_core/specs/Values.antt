@@ -49,8 +49,8 @@ pub record CoreValue : Type 0 where
   pub size : ℕ
   pub state : CoreState
 
-abbrev pub value_of : Job → CoreParts → CoreValue
-value_of j f = record { job = job_value j; size = size_in f.window; state = core_state f }
+abbrev pub core_value_of : Job → CoreParts → CoreValue
+core_value_of j f = record { job = job_value j; size = size_in f.window; state = core_state f }
 
 -- before the first step
 abbrev pub opening_core : JobValue → ℕ → ℕ → CoreValue

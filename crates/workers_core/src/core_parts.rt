@@ -37,7 +37,7 @@ pub(crate) struct CoreParts<'j> {
 }
 
 impl<'j> CoreParts<'j> {
-    ghost use Rattle.workers_core.specs.Parts.{core_state, IsSound, IsKept, SeeAs};
+    ghost use Rattle.workers_core.specs.Parts.{core_state, AreSoundParts, KeepsParts, SeeAs};
     ghost use Rattle.workers_core.specs.Cores.{IsOpened};
 
     /// All monitors wait before the first clock, at an empty window of a size.
@@ -69,8 +69,8 @@ impl<'j> CoreParts<'j> {
     pub(crate) fn claim(&mut self, worker: usize) -> Reply
         ensures reply { Replies (core_state self.old) (next_claim (core_state self.old) worker)
             (core_state self.new) result }
-        ensures sound { IsSound self.old → IsSound self.new }
-        ensures kept { IsKept self.old self.new }
+        ensures sound { AreSoundParts self.old → AreSoundParts self.new }
+        ensures kept { KeepsParts self.old self.new }
         ensures window { self.new.window ≡ self.old.window }
     {
         if self.waiting.is_empty() {
@@ -89,13 +89,13 @@ impl<'j> CoreParts<'j> {
 
     /// A worker's monitor runs so many clocks.
     pub(crate) fn advance(&mut self, worker: usize, clocks: u64) -> Reply
-        requires sound { IsSound self.old }
+        requires sound { AreSoundParts self.old }
         ensures reply { (g : Setting) (c : Contents) → IsOver self.old.window c
             → SeeAs g self.old.window c self.old.monitors.items
             → Replies (core_state self.old) (next_advance g (core_state self.old) worker clocks)
             (core_state self.new) result }
-        ensures sound { IsSound self.new }
-        ensures kept { IsKept self.old self.new }
+        ensures sound { AreSoundParts self.new }
+        ensures kept { KeepsParts self.old self.new }
         ensures window { self.new.window ≡ self.old.window }
         ensures waiting { self.new.waiting ≡ self.old.waiting }
         ensures workers { self.new.workers ≡ self.old.workers }
@@ -122,11 +122,11 @@ impl<'j> CoreParts<'j> {
 
     /// A worker's monitor publishes its batch, and goes into the worker's done list.
     pub(crate) fn publish(&mut self, alloc: Global, worker: usize) -> Reply
-        requires sound { IsSound self.old }
+        requires sound { AreSoundParts self.old }
         ensures reply { Replies (core_state self.old) (next_publish (core_state self.old) worker)
             (core_state self.new) result }
-        ensures sound { IsSound self.new }
-        ensures kept { IsKept self.old self.new }
+        ensures sound { AreSoundParts self.new }
+        ensures kept { KeepsParts self.old self.new }
         ensures window { self.new.window ≡ self.old.window }
     {
         let Some(number) = held_by(self.workers.as_slice(), worker) else {
@@ -156,8 +156,8 @@ impl<'j> CoreParts<'j> {
     pub(crate) fn gather(&mut self, alloc: Global) -> Reply
         ensures reply { Replies (core_state self.old) (next_gather (core_state self.old))
             (core_state self.new) result }
-        ensures sound { IsSound self.old → IsSound self.new }
-        ensures kept { IsKept self.old self.new }
+        ensures sound { AreSoundParts self.old → AreSoundParts self.new }
+        ensures kept { KeepsParts self.old self.new }
         ensures window { self.new.window ≡ self.old.window }
     {
         if !self.waiting.is_empty() || !are_free(self.workers.as_slice()) {
@@ -180,9 +180,9 @@ impl<'j> CoreParts<'j> {
             → g.size ≡ size_in self.old.window
             → Replies (core_state self.old) (next_slide g (core_state self.old))
             (core_state self.new) result }
-        ensures sound { IsSound self.old → IsSound self.new }
+        ensures sound { AreSoundParts self.old → AreSoundParts self.new }
         ensures same { IsWindowOf self.new.window dump.now clocks.now }
-        ensures kept { IsKept self.old self.new }
+        ensures kept { KeepsParts self.old self.new }
         ensures waiting { self.new.waiting ≡ self.old.waiting }
         ensures workers { self.new.workers ≡ self.old.workers }
     {

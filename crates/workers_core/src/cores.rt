@@ -25,12 +25,12 @@ pub struct Core<'j> {
 }
 
 impl<'j> Model for Core<'j> {
-    ghost use Rattle.workers_core.specs.Values.{CoreValue, value_of};
+    ghost use Rattle.workers_core.specs.Values.{CoreValue, core_value_of};
     ghost use Rattle.workers_core.specs.Cores.{IsCore};
 
     ghost Value = { CoreValue };
 
-    ghost view = { λ core. value_of core.job.now core.parts };
+    ghost view = { λ core. core_value_of core.job.now core.parts };
 
     ghost invariant = { λ core. IsCore core.job.now core.parts };
 }

@@ -1,13 +1,15 @@
 //! A job: programs over a dump.
 
-ghost use Rattle.std.specs.Prelude.{◌≡◌, ◌≤◌, IfOk, IfErr, None, length};
+ghost use Rattle.std.specs.Prelude.{◌≡◌, ◌≤◌, [], ◌∷◌, IfOk, IfErr, None, length, map};
 ghost use Rattle.vcd_reader.specs.Held.{variables_of};
-ghost use Rattle.cycle_window.specs.Bound.{first_refused};
+ghost use Rattle.cycle_window.specs.Bound.{first_refused, IsSignalFault};
 ghost use Rattle.cycle_window.specs.Held.{code_in, AreClocksOf};
 
-use crate::job_check::check_job;
+use crate::bad_job::BadJob;
+use crate::job_check::{check_count, check_job};
 use crate::job_fault::JobFault;
-use cycle_window::Clocks;
+use crate::program_signals::check_programs;
+use cycle_window::{Clocks, WindowFault};
 use std::alloc::Global;
 use vcd_reader::Dump;
 use verifier::Verified;
@@ -25,8 +27,9 @@ pub struct Job {
 }
 
 impl Job {
+    ghost use Rattle.machine_runs.specs.Reported.{wanted_slot};
     ghost use Rattle.workers_core.specs.Jobs.{IsJobOf};
-    ghost use Rattle.workers_core.specs.Wanted.{wanted_in, WhyNoJob, WhyUnfit};
+    ghost use Rattle.workers_core.specs.Wanted.{wanted_in, IsBadCount, WhyNoJob, WhyUnfit};
     ghost use Rattle.workers_core.specs.Values.{job_value};
 
     /// A job of 1 to 4,096 programs on the clock that a path names. Each signal of each program
@@ -47,7 +50,7 @@ impl Job {
 
     /// A job of 1 to 4,096 programs at the ticks of these clocks of the dump. Each signal of each
     /// program names a variable of its width.
-    pub fn over(
+    fn over(
         alloc: Global,
         programs: Vec<Verified>,
         dump: Dump,
@@ -63,6 +66,58 @@ impl Job {
         ensures fault { IfErr result (WhyUnfit (variables_of dump) programs.items) }
     {
         check_job(alloc, &dump, programs.as_slice())?;
+        Ok(Job {
+            programs,
+            dump,
+            clocks,
+        })
+    }
+
+    /// The job of one program at the ticks of these clocks of the dump.
+    ///
+    /// # Errors
+    ///
+    /// C4 and C5 of the first signal that has one, and want of memory.
+    pub fn of_one(
+        alloc: Global,
+        program: Verified,
+        dump: Dump,
+        clocks: Clocks,
+    ) -> Result<Job, WindowFault>
+        requires { AreClocksOf dump clocks }
+        ensures programs { IfOk result (λ j. j.programs.items ≡ program ∷ []) }
+        ensures dump { IfOk result (λ j. j.dump ≡ dump) }
+        ensures clocks { IfOk result (λ j. j.clocks ≡ clocks) }
+        ensures fits { IfOk result (λ _.
+            first_refused (variables_of dump) (map wanted_slot program.signals) ≡ None) }
+        ensures fault { IfErr result
+            (IsSignalFault (variables_of dump) (map wanted_slot program.signals)) }
+    {
+        let mut programs = Vec::new(alloc);
+        programs.push(program)?;
+        check_programs(alloc, &dump, programs.as_slice())?;
+        Ok(Job {
+            programs,
+            dump,
+            clocks,
+        })
+    }
+
+    /// The job of programs whose signals all name variables of their widths, at the ticks of these
+    /// clocks of the dump.
+    ///
+    /// # Errors
+    ///
+    /// U3: no program, or more than 4,096.
+    pub fn fitting(programs: Vec<Verified>, dump: Dump, clocks: Clocks) -> Result<Job, BadJob>
+        requires clocks { AreClocksOf dump clocks }
+        requires fits { first_refused (variables_of dump) (wanted_in programs.items) ≡ None }
+        ensures programs { IfOk result (λ j. j.programs.items ≡ programs.items) }
+        ensures dump { IfOk result (λ j. j.dump ≡ dump) }
+        ensures clocks { IfOk result (λ j. j.clocks ≡ clocks) }
+        ensures fault { IfErr result (λ _. IsBadCount programs.items) }
+    {
+        check_count(programs.as_slice())?;
         Ok(Job {
             programs,
             dump,

@@ -3,6 +3,7 @@
 ghost use Rattle.std.specs.Prelude.{◌≡◌};
 ghost use Rattle.workers_core.specs.declared.job_fault.JobFault.TheVariants.{Memory};
 
+use crate::bad_job::BadJob;
 use cycle_window::WindowFault;
 use std::alloc::{AllocError, AllocFailed};
 use thiserror::Error;
@@ -10,21 +11,12 @@ use thiserror::Error;
 /// Why there is no job.
 #[derive(Debug, Drop, Error)]
 pub enum JobFault {
-    /// C1: the clock's path names no variable that can be bound.
-    #[error("C1 NoClock")]
-    NoClock,
-    /// C2: the clock is wider than one bit.
-    #[error("C2 ClockWidth")]
-    ClockWidth,
+    /// C1 and C2 of the clock, C4 and C5 of a signal.
+    #[error("{0}")]
+    Window(WindowFault),
     /// U3: no program, or more than 4,096.
     #[error("U3 BadJob")]
     BadJob,
-    /// C4: the path of a signal that names no variable that can be bound.
-    #[error("C4 NoSignal {0}")]
-    NoSignal(String),
-    /// C5: the path of a signal whose variable has another width.
-    #[error("C5 SignalWidth {0}")]
-    SignalWidth(String),
     /// There was no memory.
     #[error("OutOfMemory")]
     Memory,
@@ -37,12 +29,19 @@ impl From<WindowFault> for JobFault {
 
     fn from(fault: WindowFault) -> JobFault {
         match fault {
-            WindowFault::NoClock => JobFault::NoClock,
-            WindowFault::ClockWidth => JobFault::ClockWidth,
-            WindowFault::NoSignal(path) => JobFault::NoSignal(path),
-            WindowFault::SignalWidth(path) => JobFault::SignalWidth(path),
             WindowFault::Memory => JobFault::Memory,
+            other => JobFault::Window(other),
         }
+    }
+}
+
+impl From<BadJob> for JobFault {
+    ghost use Rattle.workers_core.specs.declared.job_fault.JobFault.TheVariants as faults;
+
+    ghost from_gives = { λ _ e. e ≡ faults.BadJob };
+
+    fn from(_fault: BadJob) -> JobFault {
+        JobFault::BadJob
     }
 }
 

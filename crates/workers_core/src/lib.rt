@@ -29,6 +29,7 @@
 //! Not promised: that any monitor is ever claimed, or that a foreign program means anything.
 #![tactic(auto)]
 
+mod bad_job;
 mod conditions;
 mod core_parts;
 mod cores;
@@ -44,6 +45,7 @@ mod step;
 mod team_size;
 mod worker;
 
+pub use bad_job::BadJob;
 pub use cores::Core;
 pub use job::Job;
 pub use job_fault::JobFault;

@@ -39,11 +39,12 @@ pub struct Monitor {
 }
 
 impl Monitor {
-    ghost use Rattle.workers_core.specs.Standing.{monitor_state, seen, AreSampled, IsSame, Stands};
+    ghost use Rattle.workers_core.specs.Standing.{monitor_state, seen, AreSampled, IsSame};
+    ghost use Rattle.workers_core.specs.Standing.{MonitorStands};
     ghost use Rattle.workers_core.specs.Standing.{IsOneMore, IsUnmoved, IsCleared};
     ghost use Rattle.workers_core.specs.Parts.{batch_state};
     ghost use Rattle.workers_core.specs.States.{batch};
-    ghost use Rattle.workers_core.specs.Opening.{IsNew, part_of, part_at, opened_monitor};
+    ghost use Rattle.workers_core.specs.Opening.{IsNew, monitor_part, part_at, opened_monitor};
 
     /// A program before its first clock, with its part of a row from a place on.
     pub(crate) fn new(
@@ -52,7 +53,7 @@ impl Monitor {
         from: usize,
     ) -> Result<Monitor, AllocError>
         ensures opened { IfOk result (λ m. monitor_state m ≡ opened_monitor verified.now) }
-        ensures part { IfOk result (λ m. part_of m ≡ part_at from verified.now) }
+        ensures part { IfOk result (λ m. monitor_part m ≡ part_at from verified.now) }
         ensures new { IfOk result IsNew }
     {
         let width = verified.program().signals.len();
@@ -106,12 +107,12 @@ impl Monitor {
     /// The clocks up to one of the window's. There is room for what they decide. What the buffer
     /// holds is lost: each clock's verdicts go through it.
     pub fn advance(&mut self, window: &Window<'_>, to: u64, decided: &mut ArrayVec<Decided, 1024>)
-        requires stands { Stands window.now self.old }
+        requires stands { MonitorStands window.now self.old }
         requires ahead { self.old.machine.state.standing.now ≤ to }
         requires inside { to ≤ end_in window.now }
         requires spare { length self.old.machine.state.standing.attempts
             + (to - self.old.machine.state.standing.now) ≤ self.old.decided.room }
-        ensures stands { Stands window.now self.new }
+        ensures stands { MonitorStands window.now self.new }
         ensures same { IsSame self.old self.new }
         ensures place { self.new.machine.state.standing.now ≡ to }
         ensures moved { (c : Contents) → IsOver window.now c →
@@ -140,7 +141,8 @@ impl Monitor {
         ensures batch { batch_state result ≡ batch number (monitor_state self.old) }
         ensures cleared { IsCleared self.old self.new }
     {
-        let decided = mem::replace(&mut self.decided, Streaks::new(alloc));
+        let mut decided = mem::replace(&mut self.decided, Streaks::new(alloc));
+        decided.shrink_to_fit();
         let first = self.since;
         let end = self.machine.now();
         self.since = end;

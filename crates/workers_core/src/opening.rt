@@ -7,7 +7,7 @@ ghost use Rattle.workers_core.specs.States.{WorkerState};
 ghost use Rattle.workers_core.specs.declared.monitor.Monitor.{Monitor};
 ghost use Rattle.workers_core.specs.Standing.{monitor_state};
 ghost use Rattle.workers_core.specs.Parts.{worker_state};
-ghost use Rattle.workers_core.specs.Opening.{IsNew, part_of, parts_from, opened_monitor};
+ghost use Rattle.workers_core.specs.Opening.{IsNew, monitor_part, parts_from, opened_monitor};
 ghost use Rattle.workers_core.specs.Cores.{IsFirstWindow};
 
 use crate::job::Job;
@@ -36,7 +36,7 @@ pub fn window_of<'j>(
 pub fn monitors_of(alloc: Global, programs: &[Verified]) -> Result<Vec<Monitor>, AllocError>
     ensures opened { IfOk result (λ ms.
         map monitor_state ms.items ≡ map opened_monitor programs.now) }
-    ensures parts { IfOk result (λ ms. map part_of ms.items ≡ parts_from 0 programs.now) }
+    ensures parts { IfOk result (λ ms. map monitor_part ms.items ≡ parts_from 0 programs.now) }
     ensures new { IfOk result (λ ms. (i : ℕ) (m : Monitor) → slice_get ms.items i ≡ Some m
         → IsNew m) }
 {

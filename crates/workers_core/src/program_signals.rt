@@ -4,14 +4,13 @@ ghost use Rattle.std.specs.Prelude.{◌≡◌, ◌++◌, None, IfOk, IfErr, OnOk
 ghost use Rattle.bytecode.specs.Views.{slot_data};
 ghost use Rattle.vcd_reader.specs.Variables.{variable_named};
 ghost use Rattle.vcd_reader.specs.Held.{variables_of};
-ghost use Rattle.cycle_window.specs.Bound.{misfit, first_refused};
+ghost use Rattle.cycle_window.specs.Bound.{misfit, first_refused, IsMisfit, IsSignalFault};
 ghost use Rattle.cycle_window.specs.Signals.{wanted_of};
 ghost use Rattle.machine_runs.specs.Reported.{wanted_slot};
-ghost use Rattle.workers_core.specs.Wanted.{wanted_in, SaysMisfit, SaysRefused};
+ghost use Rattle.workers_core.specs.Wanted.{wanted_in};
 
-use crate::job_fault::JobFault;
 use bytecode::Slot;
-use cycle_window::WatchedSignal;
+use cycle_window::{WatchedSignal, WindowFault};
 use std::alloc::{AllocError, Global};
 use vcd_reader::Dump;
 use verifier::Verified;
@@ -45,31 +44,35 @@ pub(crate) fn signals_of<'p>(
 }
 
 /// Whether a signal names a variable of its width.
-fn check_signal(alloc: Global, dump: &Dump, signal: &WatchedSignal<'_>) -> Result<(), JobFault>
+fn check_signal(alloc: Global, dump: &Dump, signal: &WatchedSignal<'_>) -> Result<(), WindowFault>
     ensures fits { IfOk result (λ _. misfit (variables_of dump.now)
         (variable_named (variables_of dump.now) signal.now.path.now) signal.now.width ≡ None) }
-    ensures fault { IfErr result (SaysMisfit (misfit (variables_of dump.now)
+    ensures fault { IfErr result (IsMisfit (misfit (variables_of dump.now)
         (variable_named (variables_of dump.now) signal.now.path.now) signal.now.width)
         signal.now.path.now) }
 {
     match dump.var(signal.path) {
-        None => Err(JobFault::NoSignal(String::from_str(alloc, signal.path)?)),
+        None => Err(WindowFault::NoSignal(String::from_str(alloc, signal.path)?)),
         Some(variable) => {
             if dump.width(variable) == signal.width {
                 Ok(())
             } else {
-                Err(JobFault::SignalWidth(String::from_str(alloc, signal.path)?))
+                Err(WindowFault::SignalWidth(String::from_str(alloc, signal.path)?))
             }
         }
     }
 }
 
 /// Whether each signal names a variable of its width, or the first that doesn't.
-fn check_signals(alloc: Global, dump: &Dump, signals: &[WatchedSignal<'_>]) -> Result<(), JobFault>
+fn check_signals(
+    alloc: Global,
+    dump: &Dump,
+    signals: &[WatchedSignal<'_>],
+) -> Result<(), WindowFault>
     ensures fits { IfOk result (λ _.
         first_refused (variables_of dump.now) (map wanted_of signals.now) ≡ None) }
-    ensures fault { IfErr result (SaysRefused
-        (first_refused (variables_of dump.now) (map wanted_of signals.now))) }
+    ensures fault { IfErr result
+        (IsSignalFault (variables_of dump.now) (map wanted_of signals.now)) }
 {
     for signal in signals {
         check_signal(alloc, dump, signal)?;
@@ -83,11 +86,11 @@ pub(crate) fn check_programs(
     alloc: Global,
     dump: &Dump,
     programs: &[Verified],
-) -> Result<(), JobFault>
+) -> Result<(), WindowFault>
     ensures fits { IfOk result (λ _.
         first_refused (variables_of dump.now) (wanted_in programs.now) ≡ None) }
-    ensures fault { IfErr result (SaysRefused
-        (first_refused (variables_of dump.now) (wanted_in programs.now))) }
+    ensures fault { IfErr result
+        (IsSignalFault (variables_of dump.now) (wanted_in programs.now)) }
 {
     let signals = signals_of(alloc, programs)?;
     check_signals(alloc, dump, signals.as_slice())

@@ -36,7 +36,7 @@ use Rattle.workers_core.specs.States.{CoreState, MonitorState, Replies, next}
 use Rattle.workers_core.specs.Values.{JobValue, CoreValue, Says, setting_of, opening_core}
 use Rattle.workers_core.specs.Following.{FollowsMachine}
 use Rattle.workers_lines.specs.Rounds.{
-  IsAt,
+  StandsAtClock,
   IsResting,
   IsAmid,
   HasTrace,
@@ -44,7 +44,7 @@ use Rattle.workers_lines.specs.Rounds.{
   HasDone,
   IsSameWindow,
   Allows,
-  LeadsTo,
+  StepLeadsTo,
 }
 use Rattle.workers_lines.proofs.RoundLaws.{
   Comes,
@@ -93,7 +93,7 @@ not-refused v step new reply trace may h is =
 
 pub led-to : (v : CoreValue) (step : Step) (new : CoreState) (reply : Reply) →
     ForContents v.job (λ c. Replies v.state (next (setting_of v c) v.state step) new reply) →
-    reply ≡ replies.Done → LeadsTo v step new
+    reply ≡ replies.Done → StepLeadsTo v step new
 led-to v step new reply h is = λ c says.
     subst (Replies v.state (next (setting_of v c) v.state step) new) is (h c says)
 
@@ -106,7 +106,7 @@ pub allows : (P : JobValue → CoreState → Type 0) (v : CoreValue) (step : Ste
 allows P v step h = λ c says. allowed (next (setting_of v c) v.state step) (h c says)
 
 pub behind : (P : JobValue → CoreState → Type 0) (v new : CoreValue) (step : Step) → Steps v step P
-    → LeadsTo v step new.state → new.job ≡ v.job → ForContents new.job (λ c. P new.job new.state)
+    → StepLeadsTo v step new.state → new.job ≡ v.job → ForContents new.job (λ c. P new.job new.state)
 behind P v new step h led same = λ c says.
     let says_old : Says v.job c = subst (λ (j : JobValue). Says j c) same says in
     subst (λ (j : JobValue). P j new.state) (sym same)
@@ -157,11 +157,11 @@ gathering v h = λ c says. gathers (setting_of v c) (length v.job.programs) v.st
 
 -- a core before its first step rests
 at-first : (ps : List ProgramData) (i : ℕ) (m : MonitorState)
-    → slice_get (map opened_monitor ps) i ≡ Some m → IsAt 0 m
+    → slice_get (map opened_monitor ps) i ≡ Some m → StandsAtClock 0 m
 at-first [] i m is = absurd cc
 at-first (p ∷ ps) zero m is =
     let same : opened_monitor p ≡ m = cc in
-    subst (IsAt 0) same (record { at = refl; told = refl })
+    subst (StandsAtClock 0) same (record { at = refl; told = refl })
 at-first (p ∷ ps) (suc i) m is = at-first ps i m is
 
 pub opening-rests : (j : JobValue) (size : ℕ) → Rests (opening_core j 1 size)
@@ -175,7 +175,7 @@ opening-rests j size = λ c says. record {
 
 -- behind a slide the window's clocks are further ones
 pub opened-window : (v new : CoreValue) → HasTrace v.job → Rests v →
-    v.state.end < length v.job.ticks → 1 ≤ v.size → LeadsTo v steps.Slide new.state →
+    v.state.end < length v.job.ticks → 1 ≤ v.size → StepLeadsTo v steps.Slide new.state →
     new.job ≡ v.job →
     (new.state.first ≤ new.state.end) × (v.state.end < new.state.end)
 opened-window v new trace rests more some led same =
@@ -189,6 +189,6 @@ opened-window v new trace rests more some led same =
     )
 
 pub begun : (v new : CoreValue) → Rests v → v.state.end < length v.job.ticks → 1 ≤ v.size
-    → LeadsTo v steps.Slide new.state → new.job ≡ v.job → HasDone 0 new
+    → StepLeadsTo v steps.Slide new.state → new.job ≡ v.job → HasDone 0 new
 begun v new rests more some led same = λ c says.
     (behind (Opened v.state) v new steps.Slide (sliding v rests more some) led same c says).0

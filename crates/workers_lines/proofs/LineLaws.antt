@@ -40,7 +40,7 @@ use Rattle.workers_core.specs.Values.{CoreValue, job_value, rows_over}
 use Rattle.workers_core.specs.Following.{FollowsMachine}
 use Rattle.workers_core.proofs.CoreLaws.{holds, says-something}
 use Rattle.workers_core.proofs.CorePartLaws.{get-mapped}
-use Rattle.workers_lines.specs.Rounds.{IsAt, IsResting, HasTrace}
+use Rattle.workers_lines.specs.Rounds.{StandsAtClock, IsResting, HasTrace}
 use Rattle.workers_lines.proofs.CoreLaws.{ForContents, same-traced}
 use Rattle.workers_lines.proofs.RunLaws.{ComesTo, comes-to}
 use Rattle.workers_lines.proofs.RoundLaws.{there, many-rows}
@@ -60,7 +60,7 @@ over v c i p ticks f h all is =
     let one = there s.monitors i (omega (arith, h.many, slice_get_within v.job.programs i p is)) in
     let m = one.monitor in
     let rows = rows_over v.job c m.program in
-    let at : IsAt s.end m = h.monitors i m one.is in
+    let at : StandsAtClock s.end m = h.monitors i m one.is in
     let long : length rows ≡ length v.job.ticks = many-rows v.job c m.program ticks in
     let named : Some m.program ≡ Some p =
     sym (get-mapped (λ (x : MonitorState). x.program) s.monitors i m one.is)

@@ -53,10 +53,10 @@ use Rattle.workers_core.specs.States.{
   is_below,
   held,
   done_of,
-  cleared,
+  monitor_cleared,
   batch,
   advanced,
-  moved,
+  monitor_moved,
   with_monitor,
   put,
   put_each,
@@ -73,7 +73,7 @@ use Rattle.workers_core.specs.Jobs.{sampled}
 use Rattle.workers_core.specs.Values.{JobValue, CoreValue, rows_over, setting_of}
 use Rattle.workers_core.specs.Following.{FollowsMachine}
 use Rattle.workers_lines.proofs.RunLaws.{accepted-on, length-between}
-use Rattle.workers_lines.specs.Rounds.{one_worker, IsAt, IsResting, IsAmid, IsSameWindow}
+use Rattle.workers_lines.specs.Rounds.{one_worker, StandsAtClock, IsResting, IsAmid, IsSameWindow}
 
 -- there is a next state, and this holds of it
 pub record Comes (after : Option CoreState) (P : CoreState → Type 0) : Type 0 where
@@ -145,7 +145,7 @@ puts-all n =
 
 -- all monitors stand at a clock
 all-at : (t : ℕ) (ms : List MonitorState)
-    → ((i : ℕ) (m : MonitorState) → slice_get ms i ≡ Some m → IsAt t m)
+    → ((i : ℕ) (m : MonitorState) → slice_get ms i ≡ Some m → StandsAtClock t m)
     → list_all (is_at t) ms ≡ true
 all-at t [] h = refl
 all-at t (m ∷ ms) h =
@@ -191,9 +191,9 @@ pub record IsClaimed (count clocks behind : ℕ) (s : CoreState) : Type 0 where
   pub waiting : s.waiting ≡ range_with_len (behind + 1) (count - (behind + 1))
   pub workers : s.workers ≡ one_worker (Some behind) (range_with_len 0 behind)
   pub front : (i : ℕ) (m : MonitorState) → slice_get s.monitors i ≡ Some m → i < behind
-      → IsAt s.end m
+      → StandsAtClock s.end m
   pub rest : (i : ℕ) (m : MonitorState) → slice_get s.monitors i ≡ Some m → behind ≤ i
-      → IsAt s.first m
+      → StandsAtClock s.first m
 
 -- It is in the worker's hand, and stands at the window's end.
 pub record IsThrough (count clocks behind : ℕ) (s : CoreState) : Type 0 where
@@ -207,9 +207,9 @@ pub record IsThrough (count clocks behind : ℕ) (s : CoreState) : Type 0 where
   pub held : slice_get s.monitors behind ≡ Some monitor
   pub at : place monitor ≡ s.end
   pub front : (i : ℕ) (m : MonitorState) → slice_get s.monitors i ≡ Some m → i < behind
-      → IsAt s.end m
+      → StandsAtClock s.end m
   pub rest : (i : ℕ) (m : MonitorState) → slice_get s.monitors i ≡ Some m → behind < i
-      → IsAt s.first m
+      → StandsAtClock s.first m
 
 module _ (g : Setting) (count : ℕ) where
   -- a round opens
@@ -337,13 +337,13 @@ module _ (g : Setting) (count : ℕ) where
       slice_set ws 0 (record { hand = None; done = done_of (slice_get ws 0) ++ behind ∷ [] }) in
       let hand : held s.workers 0 ≡ Some behind =
       ap (λ (ws : List WorkerState). held ws 0) h.workers in
-      let quiet : IsAt s.end (cleared m) = record { at = h.at; told = refl } in
+      let quiet : StandsAtClock s.end (monitor_cleared m) = record { at = h.at; told = refl } in
       record {
         next =
             record {
               first = s.first;
               end = s.end;
-              monitors = slice_set s.monitors behind (cleared m);
+              monitors = slice_set s.monitors behind (monitor_cleared m);
               waiting = s.waiting;
               workers = down s.workers;
               board = s.board ++ batch behind m ∷ [];
@@ -351,17 +351,17 @@ module _ (g : Setting) (count : ℕ) where
         is = publishing s 0 behind m hand h.held h.at;
         holds = (
           record {
-            many = length-set s.monitors behind (cleared m) ∙ h.many;
+            many = length-set s.monitors behind (monitor_cleared m) ∙ h.many;
             some = h.some;
             inside = h.inside;
             few = omega (arith, h.few);
             waiting = h.waiting;
             workers = ap down h.workers ∙ ap (one_worker None) (range-next behind);
             front = λ i x is lt.
-                each-other (λ n y. n < behind + 1 → IsAt s.end y) s.monitors behind (cleared m)
+                each-other (λ n y. n < behind + 1 → StandsAtClock s.end y) s.monitors behind (monitor_cleared m)
                 (λ n y ne e le. h.front n y e (omega (arith, ne, le))) (λ le. quiet) i x is lt;
             rest = λ i x is le.
-                each-other (λ n y. behind + 1 ≤ n → IsAt s.first y) s.monitors behind (cleared m)
+                each-other (λ n y. behind + 1 ≤ n → StandsAtClock s.first y) s.monitors behind (monitor_cleared m)
                 (λ n y ne e more. h.rest n y e (omega (arith, more)))
                 (λ more. absurd (omega (arith, more))) i x is le;
           },
@@ -377,8 +377,8 @@ many-rows j c p ticks =
 
 -- a monitor behind a run without a trap
 moved-to : (m : MonitorState) (r : Ran Outcome) (o : Outcome) (to : ℕ) → r ≡ done o 0
-    → o.state.standing.now ≡ to → place (moved m r) ≡ to
-moved-to m r o to is at = ap (λ (x : Ran Outcome). place (moved m x)) is ∙ at
+    → o.state.standing.now ≡ to → place (monitor_moved m r) ≡ to
+moved-to m r o to is at = ap (λ (x : Ran Outcome). place (monitor_moved m x)) is ∙ at
 
 -- the monitor in the hand runs to the window's end
 pub advances : (v : CoreValue) (c : Contents) (count behind k : ℕ) →
@@ -421,11 +421,11 @@ advances v c count behind k ticks f h all =
           held = written s.monitors behind m new one.is;
           at = at;
           front = λ i x is lt.
-              each-other (λ n y. n < behind → IsAt s.end y) s.monitors behind new
+              each-other (λ n y. n < behind → StandsAtClock s.end y) s.monitors behind new
               (λ n y ne e less. h.front n y e less) (λ less. absurd (omega (arith, less))) i x is
               lt;
           rest = λ i x is lt.
-              each-other (λ n y. behind < n → IsAt s.first y) s.monitors behind new
+              each-other (λ n y. behind < n → StandsAtClock s.first y) s.monitors behind new
               (λ n y ne e more. h.rest n y e (omega (arith, more)))
               (λ more. absurd (omega (arith, more))) i x is lt;
         },

@@ -42,9 +42,9 @@ use Rattle.verdicts.specs.declared.line.Counts.{Counts}
 use Rattle.verdicts.specs.declared.line.Failure.{Failure}
 use Rattle.verdicts.specs.Tallies.{tally_of, is_holds, is_vacuous, is_fails, is_disabled, is_open}
 use Rattle.machine_runs.specs.declared.streak.Streak.{Streak}
-use Rattle.machine_runs.specs.Ages.{later, nth}
+use Rattle.machine_runs.specs.Ages.{verdict_moved, nth}
 use Rattle.machine_runs.specs.Lines.{failure_of}
-use Rattle.machine_runs.specs.Streaks.{attempts_in, attempts_in_all}
+use Rattle.machine_runs.specs.Streaks.{streak_attempts, attempts_in_all}
 use Rattle.machine_runs.proofs.StreakLaws.{streak-count, IsKind}
 use Rattle.machine_runs.proofs.StreakLaws.{kind-holds, kind-vacuous, kind-fails, kind-disabled}
 use Rattle.machine_runs.proofs.StreakLaws.{kind-open}
@@ -62,12 +62,12 @@ verdicts-counted is (d ∷ ds) =
 
 -- how many are of a kind, with a streak more
 with-streak : (is : Verdict → Bool) → IsKind is → (before : List Decided) (s : Streak) →
-    count_by is (map (λ (d : Decided). d.verdict) (before ++ attempts_in s))
+    count_by is (map (λ (d : Decided). d.verdict) (before ++ streak_attempts s))
     ≡ count_by is (map (λ (d : Decided). d.verdict) before)
     + cond (is s.first.verdict) s.count 0
 with-streak is kind before s =
-    let all = verdicts-counted is (before ++ attempts_in s) in
-    let split = sum_by-append (λ (d : Decided). cond (is d.verdict) 1 0) before (attempts_in s) in
+    let all = verdicts-counted is (before ++ streak_attempts s) in
+    let split = sum_by-append (λ (d : Decided). cond (is d.verdict) 1 0) before (streak_attempts s) in
     let first = verdicts-counted is before in
     let more = streak-count is kind s in
     omega (arith, all, split, first, more)
@@ -82,7 +82,7 @@ same-counts a b c d e f g h i j k l m n o = cc
 pub more-tally : (before : List Decided) (s : Streak) (c : Counts) →
     c ≡ tally_of (map (λ (d : Decided). d.verdict) before) →
     more_of c s.first.verdict s.count
-    ≡ tally_of (map (λ (d : Decided). d.verdict) (before ++ attempts_in s))
+    ≡ tally_of (map (λ (d : Decided). d.verdict) (before ++ streak_attempts s))
 more-tally before s c is =
     let holds = with-streak is_holds kind-holds before s in
     let vacuous = with-streak is_vacuous kind-vacuous before s in
@@ -129,6 +129,6 @@ streaks-few xs i =
     ≡ length (attempts_in_all (take i xs)) + length (attempts_in_all (drop i xs)) =
     ap (λ (zs : List Streak). length (attempts_in_all zs)) (sym (take-append-drop i xs))
     ∙ ap (λ (ds : List Decided). length ds)
-    (flat_map-append attempts_in (take i xs) (drop i xs))
+    (flat_map-append streak_attempts (take i xs) (drop i xs))
     ∙ length-append (attempts_in_all (take i xs)) (attempts_in_all (drop i xs)) in
     omega (arith, split)

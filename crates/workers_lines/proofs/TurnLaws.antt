@@ -5,7 +5,7 @@ use Rattle.vcd_reader.specs.Dump.{Contents}
 use Rattle.workers_core.specs.declared.step.Step.TheVariants as steps
 use Rattle.workers_core.specs.Values.{JobValue, CoreValue, Says}
 use Rattle.workers_core.specs.Following.{FollowsMachine}
-use Rattle.workers_lines.specs.Rounds.{HasTrace, Rests, HasDone, IsSameWindow, KeepsWindow, LeadsTo}
+use Rattle.workers_lines.specs.Rounds.{HasTrace, Rests, HasDone, IsSameWindow, KeepsWindow, StepLeadsTo}
 use Rattle.workers_lines.proofs.CoreLaws.{
   ForContents,
   Steps,
@@ -49,7 +49,7 @@ module _ (first v : CoreValue) (n k : ℕ) (turn : IsTurn first v n k) where
       claiming v n (omega (arith, turn.less, ap (λ (j : JobValue). length j.programs) turn.job))
       turn.done
 
-  module _ (v1 : CoreValue) (led : LeadsTo v (steps.Claim 0) v1.state) (same : v1.job ≡ v.job) where
+  module _ (v1 : CoreValue) (led : StepLeadsTo v (steps.Claim 0) v1.state) (same : v1.job ≡ v.job) where
     to-first : (c : Contents) → Says v1.job c → Says first.job c
     to-first c says = subst (λ (j : JobValue). Says j c) (same ∙ turn.job) says
 
@@ -70,7 +70,7 @@ module _ (first v : CoreValue) (n k : ℕ) (turn : IsTurn first v n k) where
         (λ c says. let w = in-window c says in omega (arith, w.first, w.end, turn.clocks))
 
     module _ (follows : ForContents v1.job (FollowsMachine v1)) (v2 : CoreValue)
-        (led2 : LeadsTo v1 (steps.Advance 0 k) v2.state) (same2 : v2.job ≡ v1.job) where
+        (led2 : StepLeadsTo v1 (steps.Advance 0 k) v2.state) (same2 : v2.job ≡ v1.job) where
       through : ForContents v2.job (λ c. Through n v1.state v2.job v2.state)
       through =
           behind (Through n v1.state) v1 v2 (steps.Advance 0 k) (advance-steps follows) led2 same2
@@ -78,7 +78,7 @@ module _ (first v : CoreValue) (n k : ℕ) (turn : IsTurn first v n k) where
       pub publish-steps : Steps v2 (steps.Publish 0) (Published n v2.state)
       publish-steps = publishing v2 n (λ c says. (through c says).0)
 
-      module _ (v3 : CoreValue) (led3 : LeadsTo v2 (steps.Publish 0) v3.state)
+      module _ (v3 : CoreValue) (led3 : StepLeadsTo v2 (steps.Publish 0) v3.state)
           (same3 : v3.job ≡ v2.job) where
         told : ForContents v3.job (λ c. Published n v2.state v3.job v3.state)
         told = behind (Published n v2.state) v2 v3 (steps.Publish 0) publish-steps led3 same3
@@ -103,15 +103,15 @@ on-ok (Err e) go h = tt
 -- the round's end
 module _ (v new : CoreValue) (done : HasDone (length v.job.programs) v)
     (same : new.job ≡ v.job) where
-  gathered : LeadsTo v steps.Gather new.state
+  gathered : StepLeadsTo v steps.Gather new.state
       → ForContents new.job (λ c. Gathered v.state new.job new.state)
   gathered led = behind (Gathered v.state) v new steps.Gather (gathering v done) led same
 
-  pub rests-again : LeadsTo v steps.Gather new.state → Rests new
+  pub rests-again : StepLeadsTo v steps.Gather new.state → Rests new
   rests-again led c says = (gathered led c says).0
 
   pub further : (old first : CoreValue) → HasTrace first.job → v.job ≡ first.job
-      → old.state.end < first.state.end → KeepsWindow first v → LeadsTo v steps.Gather new.state
+      → old.state.end < first.state.end → KeepsWindow first v → StepLeadsTo v steps.Gather new.state
       → old.state.end < new.state.end
   further old first trace is less kept led =
       less-traced first.job (suc old.state.end) new.state.end trace (λ c says.

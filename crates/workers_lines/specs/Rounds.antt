@@ -13,7 +13,7 @@ abbrev pub one_worker : Option ℕ → List ℕ → List WorkerState
 one_worker hand done = record { hand = hand; done = done } ∷ []
 
 -- The monitor stands at a clock, and has published all that it decided.
-pub record IsAt (clock : ℕ) (m : MonitorState) : Type 0 where
+pub record StandsAtClock (clock : ℕ) (m : MonitorState) : Type 0 where
   pub at : place m ≡ clock
   pub told : m.decided ≡ []
 
@@ -24,7 +24,8 @@ pub record IsResting (count clocks : ℕ) (s : CoreState) : Type 0 where
   pub inside : s.end ≤ clocks
   pub waiting : s.waiting ≡ range_with_len 0 count
   pub workers : s.workers ≡ one_worker None []
-  pub monitors : (i : ℕ) (m : MonitorState) → slice_get s.monitors i ≡ Some m → IsAt s.end m
+  pub monitors : (i : ℕ) (m : MonitorState) → slice_get s.monitors i ≡ Some m
+      → StandsAtClock s.end m
 
 -- In a round the first so many monitors are done, and stand at the window's end. The others wait at
 -- its first clock.
@@ -36,9 +37,9 @@ pub record IsAmid (count clocks behind : ℕ) (s : CoreState) : Type 0 where
   pub waiting : s.waiting ≡ range_with_len behind (count - behind)
   pub workers : s.workers ≡ one_worker None (range_with_len 0 behind)
   pub front : (i : ℕ) (m : MonitorState) → slice_get s.monitors i ≡ Some m → i < behind →
-      IsAt s.end m
+      StandsAtClock s.end m
   pub rest : (i : ℕ) (m : MonitorState) → slice_get s.monitors i ≡ Some m → behind ≤ i →
-      IsAt s.first m
+      StandsAtClock s.first m
 
 -- The job's dump has some contents, and whatever they are, the job's ticks are those of its clock.
 pub record HasTrace (j : JobValue) : Type 0 where
@@ -69,6 +70,6 @@ Allows v step = (c : Contents) → Says v.job c →
     is_some (next (setting_of v c) v.state step) ≡ true
 
 -- the step leads to this state
-abbrev pub LeadsTo : CoreValue → Step → CoreState → Type 0
-LeadsTo v step s = (c : Contents) → Says v.job c →
+abbrev pub StepLeadsTo : CoreValue → Step → CoreState → Type 0
+StepLeadsTo v step s = (c : Contents) → Says v.job c →
     next (setting_of v c) v.state step ≡ Some s

@@ -4,7 +4,7 @@ ghost use Rattle.std.specs.Prelude.{◌≡◌, ◌≢◌, ◌+◌, ◌<◌, ◌�
 ghost use Rattle.workers_core.specs.declared.step.Step.TheVariants as steps;
 ghost use Rattle.workers_core.specs.declared.step.Reply.TheVariants as replies;
 ghost use Rattle.workers_lines.specs.Rounds.{HasTrace, Rests, HasDone, KeepsWindow, Allows};
-ghost use Rattle.workers_lines.specs.Rounds.{LeadsTo};
+ghost use Rattle.workers_lines.specs.Rounds.{StepLeadsTo};
 
 use std::alloc::{AllocError, Global};
 use workers_core::{Core, Reply, Step};
@@ -25,7 +25,7 @@ fn done(reply: Reply) -> Result<(), AllocError>
 fn take(alloc: Global, core: &mut Core<'_>, step: Step) -> Result<(), AllocError>
     requires trace { HasTrace core.old.job }
     requires allowed { Allows core.old step }
-    ensures led { OnOk result (LeadsTo core.old step core.new.state) }
+    ensures led { OnOk result (StepLeadsTo core.old step core.new.state) }
     ensures job { core.new.job ≡ core.old.job }
     ensures size { core.new.size ≡ core.old.size }
 {

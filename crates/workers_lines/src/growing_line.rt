@@ -6,7 +6,7 @@ ghost use Rattle.signals.specs.declared.verdict.Decided.{Decided};
 ghost use Rattle.verdicts.specs.Lines.{line};
 ghost use Rattle.verdicts.specs.Tallies.{is_fails};
 ghost use Rattle.machine_runs.specs.Lines.{failure_of, line_over, attempts_of};
-ghost use Rattle.machine_runs.specs.Streaks.{attempts_in};
+ghost use Rattle.machine_runs.specs.Streaks.{streak_attempts};
 ghost use Rattle.workers_lines.specs.Growing.{more_of};
 
 use machine_runs::{Streak, Streaks};
@@ -78,7 +78,7 @@ fn is_failure(verdict: Verdict) -> bool
 /// Adds the attempts of the streak where they failed.
 fn push_failures(fails: &mut Vec<Failure>, streak: &Streak) -> Result<(), AllocError>
     ensures { OnOk result (fails.new.items
-        ≡ fails.old.items ++ filter_map failure_of (attempts_in streak.now)) }
+        ≡ fails.old.items ++ filter_map failure_of (streak_attempts streak.now)) }
 {
     if !is_failure(streak.first.verdict) {
         return Ok(());
@@ -108,7 +108,7 @@ impl GrowingLine {
         ensures count { OnOk result
             (attempts_of self.new.counts ≡ attempts_of self.old.counts + streak.now.count) }
         ensures took { (before : List Decided) → TookIn self.old before
-            → OnOk result (TookIn self.new (before ++ attempts_in streak.now)) }
+            → OnOk result (TookIn self.new (before ++ streak_attempts streak.now)) }
     {
         push_failures(&mut self.fails, streak)?;
         self.counts = counts_with(self.counts, streak.first.verdict, streak.count);

@@ -8,18 +8,18 @@ use Rattle.std.proofs.lemmas.List.Sorted.{sum_by-IsPermutation}
 use Rattle.signals.specs.declared.verdict.Verdict.{Verdict}
 use Rattle.signals.specs.declared.verdict.Decided.{Decided}
 use Rattle.cycle_window.specs.declared.window.Window.{Window}
-use Rattle.workers_board.specs.declared.board.Board.{Board}
-use Rattle.workers_board.specs.Receipts.{shown_by}
-use Rattle.workers_tally.specs.declared.tally.Share.{Share}
-use Rattle.workers_tally.specs.Counts.{count_of, counts_of}
-use Rattle.workers_tally.specs.Shares.{amounts, plus}
-use Rattle.workers_bench.specs.declared.bench.Bench.{Bench}
+use Rattle.workers_shared.specs.declared.board.Board.{Board}
+use Rattle.workers_shared.specs.Receipts.{shown_by}
+use Rattle.workers_shared.specs.declared.tally.Share.{Share}
+use Rattle.workers_shared.specs.Counts.{count_of, counts_of}
+use Rattle.workers_shared.specs.Shares.{amounts, plus}
+use Rattle.workers_shared.specs.declared.bench.Bench.{Bench}
 use Rattle.workers_rounds.specs.declared.crew.Task.{Task}
 use Rattle.workers_rounds.specs.declared.work.Published.{Published}
 use Rattle.workers_rounds.specs.declared.work.Worked.{Worked}
 use Rattle.workers_rounds.specs.Works.{published_count, published_counts}
 use Rattle.workers_rounds.specs.Crews.{WorksFrom}
-use Rattle.workers_rounds.specs.Adding.{kind_of, amount_of, added_by_tasks, added_by_worked, counted_by}
+use Rattle.workers_rounds.specs.Adding.{is_of_kind, amount_of, added_by_tasks, added_by_worked, kind_counted}
 
 module _ {L : Type 0} where
   pub same-amount : (k : ℕ) (s t : Share L) → amounts s ≡ amounts t → amount_of k s ≡ amount_of k t
@@ -29,14 +29,14 @@ module _ {L : Type 0} where
   same-amount (suc (suc (suc k))) s t is = ap (λ l. slice_index l 3) is
 
   pub more-amount : (k : ℕ) (s t : Share L) (ds : List Decided) → amounts t ≡ plus (amounts s) (counts_of ds)
-      → amount_of k t ≡ amount_of k s + count_of (kind_of k) ds
+      → amount_of k t ≡ amount_of k s + count_of (is_of_kind k) ds
   more-amount zero s t ds is = ap (λ l. slice_index l 0) is
   more-amount (suc zero) s t ds is = ap (λ l. slice_index l 1) is
   more-amount (suc (suc zero)) s t ds is = ap (λ l. slice_index l 2) is
   more-amount (suc (suc (suc k))) s t ds is = ap (λ l. slice_index l 3) is
 
   worked-amount : (k : ℕ) (s t : Share L) (ps : List Published) → amounts t ≡ plus (amounts s) (published_counts ps)
-      → amount_of k t ≡ amount_of k s + published_count (kind_of k) ps
+      → amount_of k t ≡ amount_of k s + published_count (is_of_kind k) ps
   worked-amount zero s t ps is = ap (λ l. slice_index l 0) is
   worked-amount (suc zero) s t ps is = ap (λ l. slice_index l 1) is
   worked-amount (suc (suc zero)) s t ps is = ap (λ l. slice_index l 2) is
@@ -46,7 +46,7 @@ module _ {L : Type 0} where
       (all : List (Worked L)) → length all ≡ length tasks
       → ((i : ℕ) (t : Task L) (w : Worked L) → i < length tasks
       → WorksFrom bench board window (get_or tasks i t) (get_or all i w))
-      → added_by_worked k all ≡ added_by_tasks k tasks + counted_by k all
+      → added_by_worked k all ≡ added_by_tasks k tasks + kind_counted k all
   works-add bench board window k [] [] same h = omega arith
   works-add bench board window k [] (w ∷ ws) same h = absurd (omega arith)
   works-add bench board window k (t ∷ ts) [] same h = absurd (omega arith)

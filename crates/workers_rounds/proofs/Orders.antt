@@ -7,17 +7,17 @@ use Rattle.std.proofs.lemmas.List.Sums.{sum_by-cons}
 use Rattle.std.proofs.lemmas.List.Sorted.{sum_by-IsPermutation}
 use native.Mathlib.Decide.{dec_le}
 use Rattle.std.proofs.lemmas.List.Elements.{All-head, All-tail}
-use Rattle.workers_bench.specs.declared.numbered.Numbered.{Numbered}
+use Rattle.workers_shared.specs.declared.numbered.Numbered.{Numbered}
 use Rattle.workers_rounds.specs.declared.work.Published.{Published}
-use Rattle.workers_bench.specs.Hands.{numbers, total, RisesFrom, hand}
+use Rattle.workers_shared.specs.Hands.{numbers, total, NumbersRiseFrom, hand}
 use Rattle.workers_rounds.specs.Works.{published_number, numbers_back, IsPublished}
-use Rattle.workers_bench.proofs.Keeps.{total-append}
-use Rattle.workers_rounds.specs.Runs.{upto, published_numbers, Begins, Ends}
+use Rattle.workers_shared.proofs.Keeps.{total-append}
+use Rattle.workers_rounds.specs.Runs.{upto, published_numbers, Begins, EndsRound}
 use Rattle.workers_rounds.specs.Crews.{WorksFrom}
 use Rattle.crossbeam_queue.specs.Passes.{view}
-use Rattle.workers_board.specs.declared.board.Board.{Board}
-use Rattle.workers_bench.specs.declared.hand.Hand.{Hand}
-use Rattle.workers_bench.specs.declared.bench.Bench.{Bench}
+use Rattle.workers_shared.specs.declared.board.Board.{Board}
+use Rattle.workers_shared.specs.declared.hand.Hand.{Hand}
+use Rattle.workers_shared.specs.declared.bench.Bench.{Bench}
 use Rattle.workers_rounds.specs.declared.crew.Task.{Task}
 use Rattle.cycle_window.specs.declared.window.Window.{Window}
 use Rattle.workers_rounds.specs.declared.work.Worked.{Worked}
@@ -129,16 +129,17 @@ pub moved : (h : ℕ → ℕ) (ps qs : List Published) → IsPermutation ps qs �
 moved h ps qs m = total_is_sum h qs
     ∙ (sum_by-IsPermutation (λ (p : Published). h p.monitor.number) ps qs m ∙ sym (total_is_sum h ps))
 
-pub rises_upto : (low n : ℕ) → RisesFrom low (upto low n)
+pub rises_upto : (low n : ℕ) → NumbersRiseFrom low (upto low n)
 rises_upto low zero = tt
 rises_upto low (suc n) = (
   omega arith,
   let e : low + 1 ≡ suc low = omega arith in
-      subst (λ k. RisesFrom k (upto (suc low) n)) (sym e) (rises_upto (suc low) n),
+      subst (λ k. NumbersRiseFrom k (upto (suc low) n)) (sym e) (rises_upto (suc low) n),
 )
 
 module _ {L : Type 0} (bench : Bench) (board : Board) (window : Window) where
-  ends_one : (t : Task L) (w : Worked L) → Begins bench t → WorksFrom bench board window t w → Ends bench board window w
+  ends_one : (t : Task L) (w : Worked L) → Begins bench t → WorksFrom bench board window t w
+      → EndsRound bench board window w
   ends_one t w b h = record {
     of = h.of;
     taken = h.taken ∙ ap (λ (v : Hand). hand v.parts v.puts v.round v.put
@@ -149,7 +150,7 @@ module _ {L : Type 0} (bench : Bench) (board : Board) (window : Window) where
 
   pub ends_all : (tasks : List (Task L)) (all : List (Worked L)) → length all ≡ length tasks → All (Begins bench) tasks
       → ((i : ℕ) (t : Task L) (w : Worked L) → i < length tasks
-      → WorksFrom bench board window (get_or tasks i t) (get_or all i w)) → All (Ends bench board window) all
+      → WorksFrom bench board window (get_or tasks i t) (get_or all i w)) → All (EndsRound bench board window) all
   ends_all [] all same b h = λ k d below. absurd (omega arith)
   ends_all (t ∷ ts) all same b h =
       λ k d below. ends_one (get_or (t ∷ ts) k t) (get_or all k d) (b k t (omega arith)) (h k t d (omega arith))

@@ -30,9 +30,9 @@ use Rattle.machine_runs.proofs.JoinLaws.{come-to, come-anew, ends-in, came}
 use Rattle.workers_core.specs.declared.job.Job.{Job}
 use Rattle.workers_core.specs.declared.monitor.Monitor.{Monitor}
 use Rattle.workers_core.specs.States.{BatchState, batch}
-use Rattle.workers_core.specs.Standing.{monitor_state, variables_in, seen, Stands, IsSame, IsUnmoved, IsCleared}
+use Rattle.workers_core.specs.Standing.{monitor_state, variables_in, seen, MonitorStands, IsSame, IsUnmoved, IsCleared}
 use Rattle.workers_core.specs.Parts.{batch_state}
-use Rattle.workers_core.specs.Opening.{Part, part_of, parts_from}
+use Rattle.workers_core.specs.Opening.{MonitorPart, monitor_part, parts_from}
 use Rattle.workers_core.specs.Jobs.{sampled}
 use Rattle.workers_core.specs.Values.{Says, job_value, rows_over}
 use Rattle.workers_core.proofs.CoreLaws.{holds, says-something}
@@ -41,9 +41,9 @@ use Rattle.workers_core.proofs.PlaceLaws.{few-live}
 use Rattle.workers_lines.proofs.RunLaws.{Runs, runs, accepted-on, accepted-clocks}
 use Rattle.workers_lines.proofs.CoreLaws.{less-traced}
 use Rattle.workers_lines.proofs.LineLaws.{job-traced}
-use Rattle.workers_bench.specs.declared.numbered.Numbered.{Numbered}
-use Rattle.workers_bench.specs.Monitors.{IsAt}
-use Rattle.workers_bench.specs.Windows.{IsWindowFor}
+use Rattle.workers_shared.specs.declared.numbered.Numbered.{Numbered}
+use Rattle.workers_shared.specs.Monitors.{IsMonitorAt}
+use Rattle.workers_shared.specs.Windows.{IsWindowFor}
 use Rattle.workers_rounds.specs.Works.{IsSized, IsBatch}
 
 length-parts : (a : ℕ) (ps : List ProgramData) → length (parts_from a ps) ≡ length ps
@@ -51,10 +51,10 @@ length-parts a [] = refl
 length-parts a (p ∷ ps) = omega (arith, length-parts (a + length p.signals) ps)
 
 -- its number is one of the job's programs'
-pub below : (j : Job) (at : ℕ) (x : Numbered) → IsAt j at x → x.number < length j.programs.items
+pub below : (j : Job) (at : ℕ) (x : Numbered) → IsMonitorAt j at x → x.number < length j.programs.items
 below j at x h = omega (
   arith,
-  slice_get_within (parts_from 0 j.programs.items) x.number (part_of x.monitor.value) h.part,
+  slice_get_within (parts_from 0 j.programs.items) x.number (monitor_part x.monitor.value) h.part,
   length-parts 0 j.programs.items,
 )
 
@@ -85,11 +85,11 @@ module _ (j : Job) (w : Window) (h : IsWindowFor j w) where
       record { variables = held.variables; steps = held.steps }
 
   module _ (m : Monitor) (i : ℕ)
-      (part : slice_get (parts_from 0 j.programs.items) i ≡ Some (part_of m)) where
-    pub placed : IsPlaced (variables_of j.dump) (places_in (columns_in w)) (part_of m)
+      (part : slice_get (parts_from 0 j.programs.items) i ≡ Some (monitor_part m)) where
+    pub placed : IsPlaced (variables_of j.dump) (places_in (columns_in w)) (monitor_part m)
     placed =
         each-placed (variables_of j.dump) (places_in (columns_in w)) j.programs.items 0
-        (omega arith) h.places i (part_of m) part
+        (omega arith) h.places i (monitor_part m) part
 
     -- a monitor sees the trace's rows of its program
     pub sees : (c : Contents) → Says (job_value j) c
@@ -109,7 +109,7 @@ module _ (j : Job) (w : Window) (h : IsWindowFor j w) where
         let vs = variables_of j.dump in
         let p = m.machine.program in
         let fit : first_refused vs (map wanted_slot p.signals) ≡ None =
-        each-accepted vs j.programs.items 0 h.fits i (part_of m) part in
+        each-accepted vs j.programs.items 0 h.fits i (monitor_part m) part in
         subst (λ (ds : List Declared).
         map (λ (v : ℕ). size_of ds v) (variables_in w m)
         ≡ map (λ (s : SlotData). s.width) p.signals) says.variables
@@ -120,7 +120,7 @@ none-between b rows = let e : b - b ≡ 0 = omega arith in ap (λ (n : ℕ). tak
 
 -- a monitor of the job stands in each of its windows that begins or ends at its clock
 pub stands-at : (j : Job) (w : Window) (at : ℕ) (x : Numbered) → IsWindowFor j w → first_in w ≤ at
-    → at ≤ end_in w → IsAt j at x → Stands w x.monitor.value
+    → at ≤ end_in w → IsMonitorAt j at x → MonitorStands w x.monitor.value
 stands-at j w at x h low high here =
     let m = x.monitor.value in
     let p = m.machine.program in
@@ -151,7 +151,7 @@ stands-at j w at x h low high here =
 
 -- only its room is another
 pub unmoved-at : (j : Job) (at : ℕ) (x y : Numbered) → y.number ≡ x.number
-    → IsUnmoved x.monitor.value y.monitor.value → IsAt j at x → IsAt j at y
+    → IsUnmoved x.monitor.value y.monitor.value → IsMonitorAt j at x → IsMonitorAt j at y
 unmoved-at j at x y number u here =
     let p = ap (λ (r : Running). r.program) u.machine in
     record {
@@ -195,22 +195,22 @@ few-between p rows a b s t ds accepted order here come =
 
 -- A monitor that ran through the window, and gave its batch.
 module _ (j : Job) (w : Window) (x y : Numbered) (m : Monitor) (b : Batch) (h : IsWindowFor j w)
-    (sized : IsSized w) (here : IsAt j (first_in w) x) (number : y.number ≡ x.number)
-    (same : IsSame x.monitor.value m) (stands : Stands w m)
+    (sized : IsSized w) (here : IsMonitorAt j (first_in w) x) (number : y.number ≡ x.number)
+    (same : IsSame x.monitor.value m) (stands : MonitorStands w m)
     (now : m.machine.state.standing.now ≡ end_in w) (cleared : IsCleared m y.monitor.value)
     (is : batch_state b ≡ batch x.number (monitor_state m)) where
-  part-is : part_of m ≡ part_of x.monitor.value
+  part-is : monitor_part m ≡ monitor_part x.monitor.value
   part-is = λ i. record { program = same.program i; from = same.from i; to = same.to i }
 
-  part-now : part_of y.monitor.value ≡ part_of m
+  part-now : monitor_part y.monitor.value ≡ monitor_part m
   part-now = λ i. record {
     program = ap (λ (r : Running). r.program) cleared.machine i;
     from = cleared.from i;
     to = cleared.to i;
   }
 
-  part-m : slice_get (parts_from 0 j.programs.items) x.number ≡ Some (part_of m)
-  part-m = here.part ∙ ap (λ (q : Part). Some q) (sym part-is)
+  part-m : slice_get (parts_from 0 j.programs.items) x.number ≡ Some (monitor_part m)
+  part-m = here.part ∙ ap (λ (q : MonitorPart). Some q) (sym part-is)
 
   come-m : (c : Contents) → Says (job_value j) c →
       HasCome m.machine.program (rows_over (job_value j) c m.machine.program) m.since
@@ -221,10 +221,10 @@ module _ (j : Job) (w : Window) (x y : Numbered) (m : Monitor) (b : Batch) (h : 
       m.machine.state) (sym (sees j w h m x.number part-m c says))
       (stands.come c (over-of j w h c says))
 
-  pub at-end : IsAt j (end_in w) y
+  pub at-end : IsMonitorAt j (end_in w) y
   at-end = record {
     part = ap (slice_get (parts_from 0 j.programs.items)) number ∙ part-m
-        ∙ ap (λ (q : Part). Some q) (sym part-now);
+        ∙ ap (λ (q : MonitorPart). Some q) (sym part-now);
     accepted = subst (λ (r : Running). IsAccepted r.program) (sym cleared.machine) stands.accepted;
     declared = omega (
       arith,

@@ -11,21 +11,21 @@ use Rattle.cycle_window.specs.Held.{first_in, end_in}
 use Rattle.machine_runs.specs.declared.batch.Batch.{Batch}
 use Rattle.workers_core.specs.declared.job.Job.{Job}
 use Rattle.crossbeam_queue.specs.Passes.{Pass, view}
-use Rattle.workers_board.specs.declared.board.Board.{Board}
-use Rattle.workers_board.specs.Receipts.{shown_by}
-use Rattle.workers_tally.specs.declared.tally.Share.{Share}
-use Rattle.workers_tally.specs.Counts.{count_of, counts_of}
-use Rattle.workers_tally.specs.Shares.{parts, amounts, plus, EachAtMost}
-use Rattle.workers_bench.specs.declared.numbered.Numbered.{Numbered}
-use Rattle.workers_bench.specs.declared.hand.Hand.{Hand}
-use Rattle.workers_bench.specs.declared.bench.Bench.{Bench}
-use Rattle.workers_bench.specs.Monitors.{IsAt}
-use Rattle.workers_bench.specs.Hands.{hand, with_taken, TakesOne, Rises, RisesFrom, end_of}
-use Rattle.workers_bench.specs.Benches.{IsOf}
-use Rattle.workers_bench.proofs.Keeps.{all_pushed, none_fail, end_push}
+use Rattle.workers_shared.specs.declared.board.Board.{Board}
+use Rattle.workers_shared.specs.Receipts.{shown_by}
+use Rattle.workers_shared.specs.declared.tally.Share.{Share}
+use Rattle.workers_shared.specs.Counts.{count_of, counts_of}
+use Rattle.workers_shared.specs.Shares.{parts, amounts, plus, EachAtMost}
+use Rattle.workers_shared.specs.declared.numbered.Numbered.{Numbered}
+use Rattle.workers_shared.specs.declared.hand.Hand.{Hand}
+use Rattle.workers_shared.specs.declared.bench.Bench.{Bench}
+use Rattle.workers_shared.specs.Monitors.{IsMonitorAt}
+use Rattle.workers_shared.specs.Hands.{hand, with_taken, TakesOne, NumbersRise, NumbersRiseFrom, end_after}
+use Rattle.workers_shared.specs.Benches.{IsPassOfBench}
+use Rattle.workers_shared.proofs.Keeps.{all_pushed, none_fail, end_push}
 use Rattle.workers_rounds.specs.declared.work.Published.{Published}
 use Rattle.workers_rounds.specs.Works.{IsPublished, published_number, kept_number, numbers_back, published_count}
-use Rattle.workers_rounds.specs.Works.{published_counts, clock_of, Has}
+use Rattle.workers_rounds.specs.Works.{published_counts, monitor_clock_of, HasWorked}
 
 four : {a b c d a' b' c' d' : ℕ} → a ≡ a' → b ≡ b' → c ≡ c' → d ≡ d' → a ∷ b ∷ c ∷ d ∷ [] ≡ a' ∷ b' ∷ c' ∷ d' ∷ []
 four p q r s = λ i. p i ∷ q i ∷ r i ∷ s i ∷ []
@@ -51,7 +51,7 @@ longer [] x = refl
 longer (y ∷ ys) x = omega (arith, longer ys x)
 
 -- rising numbers are no more than they rise
-few : (low : ℕ) (xs : List ℕ) → RisesFrom low xs → length xs + low ≤ end_of low xs
+few : (low : ℕ) (xs : List ℕ) → NumbersRiseFrom low xs → length xs + low ≤ end_after low xs
 few low [] h = omega arith
 few low (x ∷ xs) h = omega (arith, few (x + 1) xs h.1, h.0)
 
@@ -91,17 +91,17 @@ fits-one j w board have p room at =
 module _ {L : Type 0} (bench : Bench) (board : Board) (window : Window) (from : Hand) (given : Share L)
     (claimed : ℕ) where
   abbrev pub Now : Pass Numbered Hand → Share L → ℕ → List Published → Option Numbered → Type 0
-  Now = Has bench board window from given claimed
+  Now = HasWorked bench board window from given claimed
 
   -- nothing was done yet
-  pub begins_with : (pass : Pass Numbered Hand) → view pass ≡ from → IsOf bench pass → Rises from.taken
-      × (end_of 0 from.taken ≤ length bench.job.now.programs.items) → (ps : List Published) → ps ≡ []
-      → Has bench board window from given claimed pass given claimed ps None
+  pub begins_with : (pass : Pass Numbered Hand) → view pass ≡ from → IsPassOfBench bench pass → NumbersRise from.taken
+      × (end_after 0 from.taken ≤ length bench.job.now.programs.items) → (ps : List Published) → ps ≡ []
+      → HasWorked bench board window from given claimed pass given claimed ps None
   begins_with pass is of rising ps none = record {
     of = of;
     taken = is ∙ (λ i. hand from.parts from.puts from.round from.put (back i));
-    rises = subst (λ (v : Hand). Rises v.taken
-        × (end_of 0 v.taken ≤ length bench.job.now.programs.items)) (sym is) rising;
+    rises = subst (λ (v : Hand). NumbersRise v.taken
+        × (end_after 0 v.taken ≤ length bench.job.now.programs.items)) (sym is) rising;
     at_end = none_fail (IsPublished bench.job.now window board) ps none;
     at_own = tt;
     shared = (
@@ -124,13 +124,13 @@ module _ {L : Type 0} (bench : Bench) (board : Board) (window : Window) (from : 
       → view pass ≡ hand from.parts from.puts from.round from.put (from.taken ++ before)
       → after ≡ before ++ x.number ∷ []
       → (view pass' ≡ hand from.parts from.puts from.round from.put (from.taken ++ after))
-      × (Rises (view pass').taken × (end_of 0 (view pass').taken ≤ length bench.job.now.programs.items))
+      × (NumbersRise (view pass').taken × (end_after 0 (view pass').taken ≤ length bench.job.now.programs.items))
   took pass pass' x before after t below takes is grown =
       let here : view pass'
       ≡ with_taken (hand from.parts from.puts from.round from.put (from.taken ++ before)) x.number =
       t.0 ∙ ap (λ (v : Hand). with_taken v x.number) is in
-      let ended : end_of 0 (view pass').taken ≡ x.number + 1 =
-      ap (λ (v : Hand). end_of 0 v.taken) here ∙ end_push 0 (from.taken ++ before) x.number in (
+      let ended : end_after 0 (view pass').taken ≡ x.number + 1 =
+      ap (λ (v : Hand). end_after 0 v.taken) here ∙ end_push 0 (from.taken ++ before) x.number in (
         here ∙ ap (λ l. hand from.parts from.puts from.round from.put l)
             (back_one from.taken before x.number after grown),
         (t.2 (ap (λ (v : Hand). v.puts) is ∙ takes), omega arith),
@@ -139,8 +139,8 @@ module _ {L : Type 0} (bench : Bench) (board : Board) (window : Window) (from : 
   pub keeps_one : (pass pass' : Pass Numbered Hand) (share : Share L) (claims : ℕ) (ps qs : List Published)
       (x m : Numbered) → Now pass share claims ps None → TakesOne (view pass) x (view pass')
       → x.number < length bench.job.now.programs.items → from.puts ≡ false
-      → IsOf bench pass' → m.number ≡ x.number → IsAt bench.job.now (clock_of m) m → qs ≡ ps
-      → Has bench board window from given claimed pass' share (claims + 1) qs (Some m)
+      → IsPassOfBench bench pass' → m.number ≡ x.number → IsMonitorAt bench.job.now (monitor_clock_of m) m → qs ≡ ps
+      → HasWorked bench board window from given claimed pass' share (claims + 1) qs (Some m)
   keeps_one pass pass' share claims ps qs x m h t below takes of number at same =
       let grown : numbers_back qs (Some m) ≡ numbers_back ps None ++ x.number ∷ [] =
       ap (λ l. numbers_back l (Some m)) same
@@ -158,10 +158,11 @@ module _ {L : Type 0} (bench : Bench) (board : Board) (window : Window) (from : 
 
   pub publishes : (pass pass' : Pass Numbered Hand) (share share' : Share L) (claims : ℕ) (ps qs : List Published)
       (x : Numbered) (p : Published) → Now pass share claims ps None → TakesOne (view pass) x (view pass')
-      → x.number < length bench.job.now.programs.items → from.puts ≡ false → IsOf bench pass' → p.monitor.number
+      → x.number < length bench.job.now.programs.items → from.puts ≡ false → IsPassOfBench bench pass'
+      → p.monitor.number
       ≡ x.number → IsPublished bench.job.now window board p → parts share' ≡ parts share
       → amounts share' ≡ plus (amounts share) (counts_of (shown_by p.receipt).decided.items) → qs ≡ ps ++ p ∷ []
-      → Has bench board window from given claimed pass' share' (claims + 1) qs None
+      → HasWorked bench board window from given claimed pass' share' (claims + 1) qs None
   publishes pass pass' share share' claims ps qs x p h t below takes of number at same_parts grows pushed =
       let grown : numbers_back qs None ≡ numbers_back ps None ++ x.number ∷ [] =
       ap (λ l. numbers_back l None) pushed

@@ -3,19 +3,19 @@
 use Rattle.std.specs.Prelude.{◌≡◌, ℕ, zero, suc, ◌+◌, Bool, List}
 use Rattle.signals.specs.declared.verdict.Verdict.{Verdict}
 use Rattle.verdicts.specs.Tallies.{is_holds, is_vacuous, is_fails, is_disabled}
-use Rattle.workers_tally.specs.declared.tally.Share.{Share}
-use Rattle.workers_bench.specs.Hands.{total}
+use Rattle.workers_shared.specs.declared.tally.Share.{Share}
+use Rattle.workers_shared.specs.Hands.{total}
 use Rattle.workers_rounds.specs.declared.crew.Task.{Task}
 use Rattle.workers_rounds.specs.declared.round.Member.{Member}
 use Rattle.workers_rounds.specs.declared.work.Published.{Published}
 use Rattle.workers_rounds.specs.declared.work.Worked.{Worked}
 use Rattle.workers_rounds.specs.Works.{published_count}
 
-abbrev pub kind_of : ℕ → Verdict → Bool
-kind_of zero = is_holds
-kind_of (suc zero) = is_vacuous
-kind_of (suc (suc zero)) = is_fails
-kind_of (suc (suc (suc k))) = is_disabled
+abbrev pub is_of_kind : ℕ → Verdict → Bool
+is_of_kind zero = is_holds
+is_of_kind (suc zero) = is_vacuous
+is_of_kind (suc (suc zero)) = is_fails
+is_of_kind (suc (suc (suc k))) = is_disabled
 
 module _ {L : Type 0} where
   abbrev pub amount_of : ℕ → Share L → ℕ
@@ -35,9 +35,10 @@ module _ {L : Type 0} where
   added_by_worked k ws = total (λ (w : Worked L). amount_of k w.share) ws
 
   -- how many of a kind they published
-  abbrev pub counted_by : ℕ → List (Worked L) → ℕ
-  counted_by k ws = total (λ (w : Worked L). published_count (kind_of k) w.published.items) ws
+  abbrev pub kind_counted : ℕ → List (Worked L) → ℕ
+  kind_counted k ws = total (λ (w : Worked L). published_count (is_of_kind k) w.published.items) ws
 
   -- the workers added these batches
   abbrev pub HaveAdded : List (Member L) → List (Member L) → List Published → Type 0
-  HaveAdded old new ps = (k : ℕ) → added_by k new ≡ added_by k old + published_count (kind_of k) ps
+  HaveAdded old new ps = (k : ℕ) → added_by k new
+      ≡ added_by k old + published_count (is_of_kind k) ps

@@ -2,22 +2,23 @@
 use Rattle.std.specs.Prelude.{◌≡◌, ◌^◌, ◌<◌, ◌≤◌, false, length}
 use Rattle.crossbeam_queue.specs.Passes.{view}
 use Rattle.cycle_window.specs.declared.window.Window.{Window}
-use Rattle.workers_board.specs.declared.board.Board.{Board}
-use Rattle.workers_tally.specs.Shares.{parts, amounts, EachAtMost}
-use Rattle.workers_bench.specs.declared.bench.Bench.{Bench}
-use Rattle.workers_bench.specs.Hands.{Rises, end_of}
-use Rattle.workers_bench.specs.Passes.{parts_of}
-use Rattle.workers_bench.specs.Benches.{IsOf}
+use Rattle.workers_shared.specs.declared.board.Board.{Board}
+use Rattle.workers_shared.specs.Shares.{parts, amounts, EachAtMost}
+use Rattle.workers_shared.specs.declared.bench.Bench.{Bench}
+use Rattle.workers_shared.specs.Hands.{NumbersRise, end_after}
+use Rattle.workers_shared.specs.Passes.{pass_parts}
+use Rattle.workers_shared.specs.Benches.{IsPassOfBench}
 use Rattle.workers_rounds.specs.declared.crew.Task.{Task}
 use Rattle.workers_rounds.specs.declared.work.Worked.{Worked}
 use Rattle.workers_rounds.specs.Works.{Works}
 
 module _ {L : Type 0} where
   -- the worker may work at this bench
-  pub record IsReady (bench : Bench) (task : Task L) : Type 0 where
-    pub pass : IsOf bench task.pass × ((view task.pass).puts ≡ false) × (0 < parts_of task.pass)
-    pub taken : Rises (view task.pass).taken
-        × (end_of 0 (view task.pass).taken ≤ length bench.job.now.programs.items)
+  pub record MayWork (bench : Bench) (task : Task L) : Type 0 where
+    pub pass : IsPassOfBench bench task.pass × ((view task.pass).puts ≡ false)
+        × (0 < pass_parts task.pass)
+    pub taken : NumbersRise (view task.pass).taken
+        × (end_after 0 (view task.pass).taken ≤ length bench.job.now.programs.items)
     pub share : (0 < parts task.share) × EachAtMost (amounts task.share) (2 ^ 55)
     pub claims : task.claims ≤ 2 ^ 55
 

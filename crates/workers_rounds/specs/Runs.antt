@@ -2,14 +2,14 @@
 use Rattle.std.specs.Prelude.{◌≡◌, ℕ, zero, suc, ◌≤◌, ◌^◌, false, All, List, [], ◌∷◌, map}
 use Rattle.crossbeam_queue.specs.Passes.{Pass, view}
 use Rattle.cycle_window.specs.declared.window.Window.{Window}
-use Rattle.workers_board.specs.declared.board.Board.{Board}
-use Rattle.workers_tally.specs.Shares.{parts, amounts, plus, EachAtMost}
-use Rattle.workers_bench.specs.declared.numbered.Numbered.{Numbered}
-use Rattle.workers_bench.specs.declared.hand.Hand.{Hand}
-use Rattle.workers_bench.specs.declared.bench.Bench.{Bench}
-use Rattle.workers_bench.specs.Hands.{hand, fresh, total}
-use Rattle.workers_bench.specs.Passes.{taken_of}
-use Rattle.workers_bench.specs.Benches.{IsOf, round_of}
+use Rattle.workers_shared.specs.declared.board.Board.{Board}
+use Rattle.workers_shared.specs.Shares.{parts, amounts, plus, EachAtMost}
+use Rattle.workers_shared.specs.declared.numbered.Numbered.{Numbered}
+use Rattle.workers_shared.specs.declared.hand.Hand.{Hand}
+use Rattle.workers_shared.specs.declared.bench.Bench.{Bench}
+use Rattle.workers_shared.specs.Hands.{hand, fresh, total}
+use Rattle.workers_shared.specs.Passes.{taken_of}
+use Rattle.workers_shared.specs.Benches.{IsPassOfBench, round_of}
 use Rattle.workers_rounds.specs.declared.crew.Task.{Task}
 use Rattle.workers_rounds.specs.declared.round.Member.{Member}
 use Rattle.workers_rounds.specs.declared.work.Published.{Published}
@@ -31,14 +31,15 @@ module _ {L : Type 0} where
 
   -- a worker at the start of the round
   pub record Begins (bench : Bench) (t : Task L) : Type 0 where
-    pub of : IsOf bench t.pass
+    pub of : IsPassOfBench bench t.pass
     pub none : view t.pass ≡ fresh 1 false (round_of bench)
     pub share : (parts t.share ≡ 1) × EachAtMost (amounts t.share) (2 ^ 55)
     pub claims : t.claims ≤ 2 ^ 55
 
   -- a worker at the end of the round: it gives back what its pass took
-  pub record Ends (bench : Bench) (board : Board) (window : Window) (w : Worked L) : Type 0 where
-    pub of : IsOf bench w.pass
+  pub record EndsRound (bench : Bench) (board : Board) (window : Window)
+      (w : Worked L) : Type 0 where
+    pub of : IsPassOfBench bench w.pass
     pub taken : view w.pass
         ≡ hand 1 false (round_of bench) [] (numbers_back w.published.items w.kept)
     pub at_end : All (IsPublished bench.job.now window board) w.published.items

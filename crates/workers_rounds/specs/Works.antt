@@ -12,18 +12,18 @@ use Rattle.machine_runs.specs.declared.batch.Batch.{Batch}
 use Rattle.machine_runs.specs.Batches.{batch_of}
 use Rattle.workers_core.specs.declared.job.Job.{Job}
 use Rattle.workers_core.specs.Values.{Says, job_value, rows_over}
-use Rattle.workers_board.specs.declared.board.Board.{Board}
-use Rattle.workers_board.specs.Receipts.{IsReceiptOf, shown_by}
-use Rattle.workers_tally.specs.declared.tally.Share.{Share}
-use Rattle.workers_tally.specs.Counts.{count_of}
-use Rattle.workers_tally.specs.Shares.{parts, amounts, plus}
+use Rattle.workers_shared.specs.declared.board.Board.{Board}
+use Rattle.workers_shared.specs.Receipts.{IsReceiptOf, shown_by}
+use Rattle.workers_shared.specs.declared.tally.Share.{Share}
+use Rattle.workers_shared.specs.Counts.{count_of}
+use Rattle.workers_shared.specs.Shares.{parts, amounts, plus}
 use Rattle.crossbeam_queue.specs.Passes.{Pass, view}
-use Rattle.workers_bench.specs.declared.numbered.Numbered.{Numbered}
-use Rattle.workers_bench.specs.declared.hand.Hand.{Hand}
-use Rattle.workers_bench.specs.declared.bench.Bench.{Bench}
-use Rattle.workers_bench.specs.Monitors.{IsAt}
-use Rattle.workers_bench.specs.Hands.{hand, Rises, end_of}
-use Rattle.workers_bench.specs.Benches.{IsOf}
+use Rattle.workers_shared.specs.declared.numbered.Numbered.{Numbered}
+use Rattle.workers_shared.specs.declared.hand.Hand.{Hand}
+use Rattle.workers_shared.specs.declared.bench.Bench.{Bench}
+use Rattle.workers_shared.specs.Monitors.{IsMonitorAt}
+use Rattle.workers_shared.specs.Hands.{hand, NumbersRise, end_after}
+use Rattle.workers_shared.specs.Benches.{IsPassOfBench}
 use Rattle.workers_rounds.specs.declared.work.Published.{Published}
 use Rattle.workers_rounds.specs.declared.work.Worked.{Worked}
 
@@ -31,8 +31,8 @@ use Rattle.workers_rounds.specs.declared.work.Worked.{Worked}
 abbrev pub IsSized : Window → Type 0
 IsSized w = (first_in w ≤ end_in w) × (end_in w - first_in w ≤ 65536)
 
-abbrev pub clock_of : Numbered → ℕ
-clock_of x = x.monitor.value.machine.state.standing.now
+abbrev pub monitor_clock_of : Numbered → ℕ
+monitor_clock_of x = x.monitor.value.machine.state.standing.now
 
 -- The batch of the job's monitor over the clocks from a to b.
 pub record IsBatch (j : Job) (a b : ℕ) (x : Numbered) (batch : Batch) : Type 0 where
@@ -47,7 +47,7 @@ pub record IsBatch (j : Job) (a b : ℕ) (x : Numbered) (batch : Batch) : Type 0
 
 -- The job's monitor at the end of the window, with a receipt of this board for its batch.
 pub record IsPublished (j : Job) (w : Window) (board : Board) (p : Published) : Type 0 where
-  pub at_end : IsAt j (end_in w) p.monitor
+  pub at_end : IsMonitorAt j (end_in w) p.monitor
   pub of_board : IsReceiptOf board p.receipt
   pub batch : IsBatch j (first_in w) (end_in w) p.monitor (shown_by p.receipt)
 
@@ -74,20 +74,20 @@ numbers_back published kept = map published_number published ++ kept_number kept
 
 -- What a worker that began with the view `from`, the share `given` and so many claims has come to.
 -- It has each monitor that its pass took since then, once.
-pub record Has {L : Type 0} (bench : Bench) (board : Board) (w : Window) (from : Hand)
+pub record HasWorked {L : Type 0} (bench : Bench) (board : Board) (w : Window) (from : Hand)
     (given : Share L) (claimed : ℕ) (pass : Pass Numbered Hand) (share : Share L) (claims : ℕ)
     (published : List Published) (kept : Option Numbered) : Type 0 where
-  pub of : IsOf bench pass
+  pub of : IsPassOfBench bench pass
   pub taken : view pass
       ≡ hand from.parts from.puts from.round from.put (from.taken ++ numbers_back published kept)
-  pub rises : Rises (view pass).taken
-      × (end_of 0 (view pass).taken ≤ length bench.job.now.programs.items)
+  pub rises : NumbersRise (view pass).taken
+      × (end_after 0 (view pass).taken ≤ length bench.job.now.programs.items)
   pub at_end : All (IsPublished bench.job.now w board) published
-  pub at_own : IfSome kept (λ m. IsAt bench.job.now (clock_of m) m)
+  pub at_own : IfSome kept (λ m. IsMonitorAt bench.job.now (monitor_clock_of m) m)
   pub shared : (parts share ≡ parts given)
       × (amounts share ≡ plus (amounts given) (published_counts published))
   pub counted : claims ≡ claimed + length (numbers_back published kept)
 
 abbrev pub Works : {L : Type 0} → Bench → Board → Window → Hand → Share L → ℕ → Worked L → Type 0
 Works bench board window from given claimed w =
-    Has bench board window from given claimed w.pass w.share w.claims w.published.items w.kept
+    HasWorked bench board window from given claimed w.pass w.share w.claims w.published.items w.kept

@@ -3,9 +3,9 @@
 ghost use Rattle.std.specs.Prelude.{◌≡◌, ◌≤◌, ◌<◌, ℕ, All, IfOk, length};
 ghost use Rattle.std.specs.List.{slice_index_or};
 ghost use Rattle.cycle_window.specs.Held.{first_in};
-ghost use Rattle.workers_bench.specs.Windows.{IsWindowFor};
+ghost use Rattle.workers_shared.specs.Windows.{IsWindowFor};
 ghost use Rattle.workers_rounds.specs.Works.{IsSized};
-ghost use Rattle.workers_rounds.specs.Crews.{IsReady, WorksFrom};
+ghost use Rattle.workers_rounds.specs.Crews.{MayWork, WorksFrom};
 
 use crate::work::{Gate, Worked, work};
 use cycle_window::Window;
@@ -13,9 +13,7 @@ use std::alloc::{AllocError, Global};
 use std::sync::Wait;
 use std::thread;
 use std::thread::Threads;
-use workers_bench::{Bench, Pass};
-use workers_board::Board;
-use workers_tally::{Share, Tally, Tallying};
+use workers_shared::{Bench, Board, Pass, Share, Tally, Tallying};
 
 /// What a worker begins a round with.
 #[derive(Drop)]
@@ -39,7 +37,7 @@ pub fn work_all<L: Tallying + Send + Sync, G: Gate + Sync, R: Threads + Wait + S
 ) -> Result<Vec<Worked<L>>, AllocError>
     requires window { IsWindowFor bench.now.job.now window.now × IsSized window.now }
     requires round { bench.now.at ≡ first_in window.now }
-    requires tasks { All (IsReady bench.now) tasks.items }
+    requires tasks { All (MayWork bench.now) tasks.items }
     ensures count { IfOk result (λ all. length all.items ≡ length tasks.items) }
     ensures each { IfOk result (λ all. (i : ℕ) (t : _) (w : _) → i < length tasks.items
         → WorksFrom bench.now board.now window.now (slice_index_or tasks.items i t)
@@ -47,7 +45,7 @@ pub fn work_all<L: Tallying + Send + Sync, G: Gate + Sync, R: Threads + Wait + S
 {
     let one = |task: Task<L>| -> Worked<L>
         requires { IsWindowFor bench.now.job.now window.now × IsSized window.now
-            × (bench.now.at ≡ first_in window.now) × IsReady bench.now task }
+            × (bench.now.at ≡ first_in window.now) × MayWork bench.now task }
         ensures { WorksFrom bench.entry.now board.entry.now window.entry.now task result }
     {
         let Task {

@@ -15,8 +15,8 @@
 //!
 //! The definitions: what one worker's round gives back in `specs/Works.antt`, the workers of a
 //! round in `specs/Crews.antt`, a whole round in `specs/Runs.antt`, what workers add to the tally
-//! in `specs/Adding.antt`. The bench and its passes are those of `workers_bench`, receipts those of
-//! `workers_board`, shares those of `workers_tally`.
+//! in `specs/Adding.antt`. The bench and its passes, receipts and shares are those of
+//! `workers_shared`.
 //!
 //! Not promised: which worker claims which monitor, that a claim answers none only where the bench
 //! was empty, that two workers are at work at once, and that a round ends.

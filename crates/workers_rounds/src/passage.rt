@@ -3,17 +3,17 @@
 ghost use Rattle.std.specs.Prelude.{◌≡◌, ℕ, IfOk, OnErr};
 ghost use Rattle.cycle_window.specs.Held.{first_in, end_in};
 ghost use Rattle.workers_core.specs.declared.job.Job.{Job};
-ghost use Rattle.workers_core.specs.Standing.{Stands};
-ghost use Rattle.workers_bench.specs.Monitors.{IsAt};
-ghost use Rattle.workers_bench.specs.Windows.{IsWindowFor};
-ghost use Rattle.workers_rounds.specs.Works.{IsSized, IsBatch, clock_of};
+ghost use Rattle.workers_core.specs.Standing.{MonitorStands};
+ghost use Rattle.workers_shared.specs.Monitors.{IsMonitorAt};
+ghost use Rattle.workers_shared.specs.Windows.{IsWindowFor};
+ghost use Rattle.workers_rounds.specs.Works.{IsSized, IsBatch, monitor_clock_of};
 
 use arrayvec::ArrayVec;
 use cycle_window::Window;
 use machine_runs::Batch;
 use signals::Decided;
 use std::alloc::{AllocError, Global};
-use workers_bench::Numbered;
+use workers_shared::Numbered;
 
 /// Runs a monitor through the window, and makes the batch of it. Where memory is refused, it stands
 /// where it stood. What the buffer holds is lost.
@@ -23,14 +23,15 @@ pub(crate) fn pass_through(
     given: &mut Numbered,
     decided: &mut ArrayVec<Decided, 1024>,
 ) -> Result<Batch, AllocError>
-    requires stands { Stands window.now given.old.monitor.value }
-    requires here { clock_of given.old ≡ first_in window.now }
+    requires stands { MonitorStands window.now given.old.monitor.value }
+    requires here { monitor_clock_of given.old ≡ first_in window.now }
     requires sized { IsSized window.now }
     ensures number { given.new.number ≡ given.old.number }
     ensures refused { OnErr result ((j : Job) (at : ℕ)
-        → IsAt j at given.old → IsAt j at given.new) }
+        → IsMonitorAt j at given.old → IsMonitorAt j at given.new) }
     ensures through { IfOk result (λ batch. (j : Job) → IsWindowFor j window.now
-        → IsAt j (first_in window.now) given.old → IsAt j (end_in window.now) given.new
+        → IsMonitorAt j (first_in window.now) given.old
+        → IsMonitorAt j (end_in window.now) given.new
         × IsBatch j (first_in window.now) (end_in window.now) given.new batch) }
 {
     let (first, end) = window.bounds();

@@ -4,18 +4,18 @@ ghost use Rattle.std.specs.Prelude.{◌≡◌, ◌≤◌, ◌<◌, ◌+◌, ℕ,
 ghost use Rattle.std.specs.Prelude.{length, vec_len};
 ghost use Rattle.crossbeam_queue.specs.Passes.{view};
 ghost use Rattle.cycle_window.specs.Held.{first_in, end_in};
-ghost use Rattle.workers_tally.specs.Shares.{parts};
-ghost use Rattle.workers_bench.specs.Monitors.{IsAt};
-ghost use Rattle.workers_bench.specs.Windows.{IsWindowFor};
-ghost use Rattle.workers_bench.specs.Hands.{hand, total, numbers};
-ghost use Rattle.workers_bench.specs.Passes.{parts_of, taken_of, TakesNone};
-ghost use Rattle.workers_bench.specs.Benches.{IsOf, room_of, round_of};
+ghost use Rattle.workers_shared.specs.Shares.{parts};
+ghost use Rattle.workers_shared.specs.Monitors.{IsMonitorAt};
+ghost use Rattle.workers_shared.specs.Windows.{IsWindowFor};
+ghost use Rattle.workers_shared.specs.Hands.{hand, total, numbers};
+ghost use Rattle.workers_shared.specs.Passes.{pass_parts, taken_of, TakesNone};
+ghost use Rattle.workers_shared.specs.Benches.{IsPassOfBench, room_of, round_of};
 ghost use Rattle.workers_rounds.specs.Works.{IsSized, IsPublished};
 ghost use Rattle.workers_rounds.specs.Works.{published_count};
-ghost use Rattle.workers_rounds.specs.Adding.{HaveAdded, kind_of, amount_of, added_by};
+ghost use Rattle.workers_rounds.specs.Adding.{HaveAdded, is_of_kind, amount_of, added_by};
 ghost use Rattle.workers_rounds.specs.Adding.{added_by_tasks};
-ghost use Rattle.workers_rounds.specs.Adding.{added_by_worked, counted_by};
-ghost use Rattle.workers_rounds.specs.Runs.{upto, published_numbers, IsMember, Begins, Ends};
+ghost use Rattle.workers_rounds.specs.Adding.{added_by_worked, kind_counted};
+ghost use Rattle.workers_rounds.specs.Runs.{upto, published_numbers, IsMember, Begins, EndsRound};
 ghost use Rattle.workers_rounds.specs.Runs.{TakenIs};
 
 use crate::crew::{Task, work_all};
@@ -26,10 +26,8 @@ use cycle_window::Window;
 use std::alloc::{AllocError, Global};
 use std::sync::Wait;
 use std::thread::Threads;
-use workers_bench::{Bench, Numbered, Pass};
-use workers_board::Board;
 use workers_core::Job;
-use workers_tally::{Share, Tally, Tallying};
+use workers_shared::{Bench, Board, Numbered, Pass, Share, Tally, Tallying};
 
 /// The most claims of a worker before a round.
 const MOST_CLAIMS: u64 = 36_028_797_018_963_968;
@@ -43,12 +41,12 @@ pub struct Member<L: Tallying> {
 
 /// Puts a round's monitors on the bench, in their order.
 pub fn put_all(rt: &impl Wait, bench: &Bench<'_>, mut pass: Pass, monitors: Vec<Numbered>) -> Pass
-    requires of { IsOf bench.now pass }
-    requires may { ((view pass).puts ≡ true) × (0 < parts_of pass) × ((view pass).put ≡ []) }
+    requires of { IsPassOfBench bench.now pass }
+    requires may { ((view pass).puts ≡ true) × (0 < pass_parts pass) × ((view pass).put ≡ []) }
     requires order { numbers monitors.items ≡ upto 0 (vec_len monitors) }
-    requires job { All (IsAt bench.now.job.now bench.now.at) monitors.items }
+    requires job { All (IsMonitorAt bench.now.job.now bench.now.at) monitors.items }
     requires room { vec_len monitors ≤ room_of bench.now }
-    ensures of { IsOf bench.now result }
+    ensures of { IsPassOfBench bench.now result }
     ensures put { view result ≡ hand (view pass).parts (view pass).puts (view pass).round
         (numbers monitors.items) (view pass).taken }
 {
@@ -70,7 +68,8 @@ fn tasks_of<L: Tallying>(
     tally: &Tally<L>,
 ) -> Result<Vec<Task<L>>, AllocError>
     requires count { vec_len passes ≡ vec_len members }
-    requires passes { All (λ pass. IsOf bench.now pass × TakesNone (round_of bench.now) pass)
+    requires passes { All
+        (λ pass. IsPassOfBench bench.now pass × TakesNone (round_of bench.now) pass)
         passes.items }
     requires members { All IsMember members.items }
     ensures count { IfOk result (λ tasks. vec_len tasks ≡ vec_len members) }
@@ -113,9 +112,9 @@ fn gathered<L: Tallying>(
     board: &Board,
     all: Vec<Worked<L>>,
 ) -> Result<Results<L>, AllocError>
-    requires { All (Ends bench.now board.now window.now) all.items }
-    ensures of { IfOk result (λ r. All (IsOf bench.now) r.passes.items) }
-    ensures parts { IfOk result (λ r. total parts_of r.passes.items ≡ vec_len all) }
+    requires { All (EndsRound bench.now board.now window.now) all.items }
+    ensures of { IfOk result (λ r. All (IsPassOfBench bench.now) r.passes.items) }
+    ensures parts { IfOk result (λ r. total pass_parts r.passes.items ≡ vec_len all) }
     ensures taken { IfOk result (λ r. TakenIs r.passes.items r.published.items) }
     ensures at_end { IfOk result (λ r.
         All (IsPublished bench.now.job.now window.now board.now) r.published.items) }
@@ -124,7 +123,7 @@ fn gathered<L: Tallying>(
     ensures added { (k : ℕ) → IfOk result (λ r.
         added_by k r.members.items ≡ added_by_worked k all.items) }
     ensures counted { (k : ℕ) → IfOk result (λ r.
-        published_count (kind_of k) r.published.items ≡ counted_by k all.items) }
+        published_count (is_of_kind k) r.published.items ≡ kind_counted k all.items) }
 {
     let _ = bench;
     let _ = board;
@@ -170,7 +169,7 @@ fn run_rest<L: Tallying, G: Gate, R: Wait>(
     published: &mut Vec<Published>,
 ) -> Result<(), AllocError>
     requires window { IsWindowFor job.now window.now × IsSized window.now }
-    requires start { All (IsAt job.now (first_in window.now)) rest.items }
+    requires start { All (IsMonitorAt job.now (first_in window.now)) rest.items }
     requires part { parts share.old ≡ 1 }
     requires published { All (IsPublished job.now window.now board.now) published.old.items }
     ensures numbers { (h : ℕ → ℕ) → OnOk result (total h (published_numbers published.new.items)
@@ -179,8 +178,8 @@ fn run_rest<L: Tallying, G: Gate, R: Wait>(
         (All (IsPublished job.now window.now board.now) published.new.items) }
     ensures part { parts share.new ≡ 1 }
     ensures added { (k : ℕ) → OnOk result
-        (amount_of k share.new + published_count (kind_of k) published.old.items
-        ≡ amount_of k share.old + published_count (kind_of k) published.new.items) }
+        (amount_of k share.new + published_count (is_of_kind k) published.old.items
+        ≡ amount_of k share.old + published_count (is_of_kind k) published.new.items) }
 {
     let _ = job;
     let mut decided = ArrayVec::new();
@@ -217,7 +216,7 @@ pub fn round<'j, L: Tallying + Send + Sync, G: Gate + Sync, R: Threads + Wait + 
     requires workers { (0 < vec_len members) × (vec_len members ≤ 64) }
     requires members { All IsMember members.items }
     requires order { numbers monitors.items ≡ upto 0 (vec_len monitors) }
-    requires start { All (IsAt job.now (first_in window.now)) monitors.items }
+    requires start { All (IsMonitorAt job.now (first_in window.now)) monitors.items }
     ensures members { IfOk result (λ r.
         (vec_len r.0 ≡ vec_len members) × All IsMember r.0.items) }
     ensures added { IfOk result (λ r. HaveAdded members.items r.0.items r.1.items) }

@@ -4,14 +4,14 @@ ghost use Rattle.std.specs.Prelude.{◌≡◌, ◌≤◌, ◌^◌, ◌<◌, ℕ,
 ghost use Rattle.crossbeam_queue.specs.Passes.{view};
 ghost use Rattle.cycle_window.specs.Held.{first_in, end_in};
 ghost use Rattle.workers_core.specs.declared.job.Job.{Job};
-ghost use Rattle.workers_core.specs.Standing.{Stands};
-ghost use Rattle.workers_tally.specs.Shares.{parts, amounts, EachAtMost};
-ghost use Rattle.workers_bench.specs.Monitors.{IsAt};
-ghost use Rattle.workers_bench.specs.Windows.{IsWindowFor};
-ghost use Rattle.workers_bench.specs.Hands.{Rises, end_of};
-ghost use Rattle.workers_bench.specs.Passes.{parts_of};
-ghost use Rattle.workers_bench.specs.Benches.{IsOf};
-ghost use Rattle.workers_rounds.specs.Works.{Works, IsSized, IsPublished, clock_of};
+ghost use Rattle.workers_core.specs.Standing.{MonitorStands};
+ghost use Rattle.workers_shared.specs.Shares.{parts, amounts, EachAtMost};
+ghost use Rattle.workers_shared.specs.Monitors.{IsMonitorAt};
+ghost use Rattle.workers_shared.specs.Windows.{IsWindowFor};
+ghost use Rattle.workers_shared.specs.Hands.{NumbersRise, end_after};
+ghost use Rattle.workers_shared.specs.Passes.{pass_parts};
+ghost use Rattle.workers_shared.specs.Benches.{IsPassOfBench};
+ghost use Rattle.workers_rounds.specs.Works.{Works, IsSized, IsPublished, monitor_clock_of};
 
 use crate::passage::pass_through;
 use arrayvec::ArrayVec;
@@ -19,9 +19,7 @@ use cycle_window::Window;
 use signals::Decided;
 use std::alloc::Global;
 use std::sync::Wait;
-use workers_bench::{Bench, Numbered, Pass};
-use workers_board::{Board, Receipt};
-use workers_tally::{Share, Tally, Tallying};
+use workers_shared::{Bench, Board, Numbered, Pass, Receipt, Share, Tally, Tallying};
 
 /// Who wants to know what workers do. It is called with nothing held.
 pub trait Gate {
@@ -73,14 +71,15 @@ pub(crate) fn run_one(
     mut given: Numbered,
     decided: &mut ArrayVec<Decided, 1024>,
 ) -> (Numbered, Option<Receipt>)
-    requires stands { Stands window.now given.monitor.value }
-    requires here { clock_of given ≡ first_in window.now }
+    requires stands { MonitorStands window.now given.monitor.value }
+    requires here { monitor_clock_of given ≡ first_in window.now }
     requires sized { IsSized window.now }
     ensures number { result.0.number ≡ given.number }
     ensures refused { IfNone result.1 ((j : Job) → IsWindowFor j window.now
-        → IsAt j (first_in window.now) given → IsAt j (clock_of result.0) result.0) }
+        → IsMonitorAt j (first_in window.now) given
+        → IsMonitorAt j (monitor_clock_of result.0) result.0) }
     ensures published { IfSome result.1 (λ receipt. (j : Job) → IsWindowFor j window.now
-        → IsAt j (first_in window.now) given
+        → IsMonitorAt j (first_in window.now) given
         → IsPublished j window.now board.now (record { monitor = result.0; receipt = receipt })) }
 {
     match pass_through(alloc, window, &mut given, decided) {
@@ -107,9 +106,10 @@ pub fn work<L: Tallying, G: Gate, R: Wait>(
     worker: usize,
     mut claims: u64,
 ) -> Worked<L>
-    requires pass { IsOf bench.now pass × ((view pass).puts ≡ false) × (0 < parts_of pass) }
-    requires taken { Rises (view pass).taken
-        × (end_of 0 (view pass).taken ≤ length bench.now.job.now.programs.items) }
+    requires pass { IsPassOfBench bench.now pass × ((view pass).puts ≡ false)
+        × (0 < pass_parts pass) }
+    requires taken { NumbersRise (view pass).taken
+        × (end_after 0 (view pass).taken ≤ length bench.now.job.now.programs.items) }
     requires window { IsWindowFor bench.now.job.now window.now × IsSized window.now }
     requires round { bench.now.at ≡ first_in window.now }
     requires share { (0 < parts share) × EachAtMost (amounts share) (2 ^ 55) }

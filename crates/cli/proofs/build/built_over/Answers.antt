@@ -1,4 +1,4 @@
-use Rattle.parser_trees.specs.Views.{items_of}
+use Rattle.parser_grammar.specs.Views.{items_of}
 use Rattle.cli_faults.specs.Faults.{type_fault}
 use Rattle.cli.specs.Reported.{SaysSuite}
 use Rattle.cli.specs.Builds.{IsSpelledProgram, WhyNoProgram, IsBuilt, WhyNotBuilt}

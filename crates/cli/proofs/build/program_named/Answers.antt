@@ -2,7 +2,7 @@ use Rattle.std.proofs.Common.{◌≡◌, subst}
 use Rattle.std.specs.Prelude.{IsTrue}
 use Rattle.bytecode.specs.Values.{ProgramData, fits_program}
 use Rattle.bytecode_files.specs.Spelling.{spelling}
-use Rattle.compiler.specs.Conditions.{IsFit}
+use Rattle.compiler.specs.Conditions.{FitsSuite}
 use Rattle.compiler.proofs.ListLaws.{all-at}
 use Rattle.cli_faults.specs.Faults.{compile_fault}
 use Rattle.cli.specs.Builds.{WhyNoProgram}
@@ -13,7 +13,7 @@ use Rattle.cli.proofs.build.program_named.Goals as goal
 pub compile-requires : goal.compile-requires
 compile-requires c =
     let suite = c.args.suite.now in
-    all-at (IsFit suite) suite.assertions.items c.requires c.in-Some.ensures.place
+    all-at (FitsSuite suite) suite.assertions.items c.requires c.in-Some.ensures.place
     c.in-Some.assertion.now c.in-Some.ensures.is
 
 pub returns-in_err-verified-clause-err : goal.returns-in_err-verified-clause-err

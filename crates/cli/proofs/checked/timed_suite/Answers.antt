@@ -1,5 +1,5 @@
 use Rattle.std.proofs.Common.{List, ℕ, subst, string_bytes}
-use Rattle.parser_trees.specs.Views.{items_of}
+use Rattle.parser_grammar.specs.Views.{items_of}
 use Rattle.vcd_reader.specs.Held.{variables_of}
 use Rattle.cycle_window.specs.Bound.{IsClock, IsClockFault}
 use Rattle.cycle_window.specs.Held.{code_in}

@@ -1,4 +1,4 @@
-use Rattle.parser_trees.specs.Views.{items_of}
+use Rattle.parser_grammar.specs.Views.{items_of}
 use Rattle.vcd_reader.specs.Held.{variables_of}
 use Rattle.cli_faults.specs.Faults.{type_fault, window_fault}
 use Rattle.cli.specs.Reported.{SaysSuite}

@@ -1,6 +1,6 @@
 use Rattle.bytecode.specs.Programs.{data_of}
 use Rattle.cli_faults.specs.Faults.{code_fault, refusal_fault}
-use Rattle.cli_faults.specs.Codes.{Spells, WhyNotAccepted}
+use Rattle.cli_faults.specs.Codes.{SpellsProgram, WhyNotAccepted}
 use Rattle.cli_faults.proofs.FaultLaws.{err_is}
 use Rattle.cli_code.proofs.CodeLaws.{not_spelled}
 use Rattle.cli_code.proofs.VerifyLaws.{refused_code}
@@ -19,7 +19,7 @@ returns-in_err-verify-clause-err c =
     let bytes = c.args.bytes.now in
     let program = data_of c.in_ok-program.program in
     let fault = c.in_err-verify.field-0.0 in
-    let spells : Spells bytes program =
+    let spells : SpellsProgram bytes program =
     let s = c.in_ok-program.ensures.spelled in
     record { newer = s.0; fits = s.1; spelled = s.2 } in
     err_is c.from_residual-in_err-verify.result (refusal_fault fault) (WhyNotAccepted bytes)
@@ -29,7 +29,7 @@ returns-in_err-verify-clause-err c =
 
 pub returns-clause-ok : goal.returns-clause-ok
 returns-clause-ok c =
-    let spells : Spells c.args.bytes.now (data_of c.in_ok-program.program) =
+    let spells : SpellsProgram c.args.bytes.now (data_of c.in_ok-program.program) =
     let s = c.in_ok-program.ensures.spelled in
     record { newer = s.0; fits = s.1; spelled = s.2 } in
     rw c.in_ok-verify.ensures.same

@@ -1,5 +1,5 @@
 use Rattle.std.proofs.Common.{◌+◌, take}
-use Rattle.cli_lines.specs.Faults.{IsMadeOf, HasProgram, WhyNoPrograms, program_fault}
+use Rattle.cli_lines.specs.Faults.{IsMadeOf, HasAcceptedProgram, WhyNoPrograms, program_fault}
 use Rattle.cli_lines.proofs.ListLaws.{
   at-place,
   up-to,
@@ -40,7 +40,7 @@ loop-assertion-preserved c =
           c.in_ok-push.ensures.items
           (record { faultless = made.faultless; of = made.made; accepted = made.accepted })
           c.loop-assertion.invariant.made;
-      programs = program-pushed (HasProgram suite) (take i all) (take (i + 1) all) a grown
+      programs = program-pushed (HasAcceptedProgram suite) (take i all) (take (i + 1) all) a grown
           (record {
             faultless = made.faultless;
             program = c.in_ok-verified.verified;

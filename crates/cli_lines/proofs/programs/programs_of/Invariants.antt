@@ -1,6 +1,6 @@
 use Rattle.std.proofs.Common.{take}
 use Rattle.std.specs.List.{AllByRecursion, AllZip}
-use Rattle.cli_lines.specs.Faults.{IsMadeOf, HasProgram}
+use Rattle.cli_lines.specs.Faults.{IsMadeOf, HasAcceptedProgram}
 use Rattle.cli_lines.proofs.programs.programs_of.Given as goal
 
 -- the programs so far
@@ -8,5 +8,5 @@ abbrev pub invariant-loop-assertion : goal.invariant-loop-assertion
 invariant-loop-assertion l = record {
   made : AllZip (IsMadeOf l.suite) (take l.assertion-index l.suite.assertions.items)
       l.programs.items;
-  programs : AllByRecursion (HasProgram l.suite) (take l.assertion-index l.suite.assertions.items);
+  programs : AllByRecursion (HasAcceptedProgram l.suite) (take l.assertion-index l.suite.assertions.items);
 }

@@ -1,6 +1,6 @@
 use Rattle.std.proofs.Common.{◌≡◌, ◌+◌, ap, arith, ◌∙◌}
 use Rattle.std.specs.Prelude.{count_by}
-use Rattle.compiler_reads.specs.Marks.{is_marked, slots_from}
+use Rattle.assertions.specs.Marks.{is_marked, slots_from}
 use Rattle.compiler.specs.Readings.{first_counter}
 use Rattle.compiler.proofs.Counts.{marked-count}
 use Rattle.compiler.proofs.program.table_of.Goals as goal

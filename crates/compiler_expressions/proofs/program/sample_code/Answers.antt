@@ -1,6 +1,6 @@
 use Rattle.std.proofs.Common.{Some, [], subst}
 use Rattle.compiler_expressions.specs.Samples.{sample_code}
-use Rattle.compiler_expressions.specs.Chosen.{terms_at, held_at}
+use Rattle.compiler_expressions.specs.Chosen.{terms_at, held_counters}
 use Rattle.compiler_expressions.specs.Slots.{slots_in}
 use Rattle.compiler_expressions.specs.Written.{Writes}
 use Rattle.compiler_expressions.proofs.WrittenLaws.{writes-then, is-whole, finish-made, finish-long}
@@ -10,7 +10,7 @@ pub returns-clause-made : goal.returns-clause-made
 returns-clause-made c =
     let at = slots_in c.args.slots.now in
     let es = terms_at c.args.booleans.now c.args.atoms.now in
-    let hs = held_at c.args.counters.now c.args.stores.now in
+    let hs = held_counters c.args.counters.now c.args.stores.now in
     let two = writes-then c.in_ok-atoms_code.ensures c.in_ok-stores_code.ensures in
     let all : Writes (Some []) c.put.new.self (sample_code at es hs) =
     subst (λ o. Writes o c.put.new.self (sample_code at es hs)) c.new-code.ensures
@@ -22,7 +22,7 @@ pub returns-clause-too_long : goal.returns-clause-too_long
 returns-clause-too_long c =
     let at = slots_in c.args.slots.now in
     let es = terms_at c.args.booleans.now c.args.atoms.now in
-    let hs = held_at c.args.counters.now c.args.stores.now in
+    let hs = held_counters c.args.counters.now c.args.stores.now in
     let two = writes-then c.in_ok-atoms_code.ensures c.in_ok-stores_code.ensures in
     let all : Writes (Some []) c.put.new.self (sample_code at es hs) =
     subst (λ o. Writes o c.put.new.self (sample_code at es hs)) c.new-code.ensures

@@ -1,6 +1,6 @@
 use Rattle.std.proofs.Common.{◌+◌, ◌∙◌, drop, arith}
 use Rattle.compiler_expressions.specs.Samples.{stores_code}
-use Rattle.compiler_expressions.specs.Chosen.{held_at}
+use Rattle.compiler_expressions.specs.Chosen.{held_counters}
 use Rattle.compiler_expressions.specs.Slots.{slots_in}
 use Rattle.compiler_expressions.proofs.ChosenLaws.{held_more, held_skip}
 use Rattle.compiler_expressions.proofs.WrittenLaws.{written-rest}
@@ -41,7 +41,7 @@ loop-place-preserved c =
     let x = c.in-Some.counter.now in
     let e = held_more places i c.loop-place-test.true all x seen.3.0 seen.1 in
     let at = slots_in c.args.slots.now in
-    let rest = stores_code at (c.loop-place.store + 1) (held_at all (drop (i + 1) places)) in
+    let rest = stores_code at (c.loop-place.store + 1) (held_counters all (drop (i + 1) places)) in
     let near = rw e at inv.near in
     record {
       same = written-rest c.in_ok-store_code.ensures rest ∙ (rw e at inv.same);

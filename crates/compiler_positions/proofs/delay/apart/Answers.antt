@@ -1,5 +1,5 @@
 use Rattle.std.proofs.Common.{◌≡◌, ◌∙◌, Bool, ap, sym, subst, length, arith}
-use Rattle.compiler_positions.specs.Rows.{TableData, IsPlaced, link_data, gap_data, rows_size}
+use Rattle.compiler_positions.specs.Rows.{TableData, IsClosedTable, link_data, gap_data, rows_size}
 use Rattle.compiler_positions.proofs.ResultLaws.{ok_same, err_same}
 use Rattle.compiler_positions.proofs.SequenceLaws.{gap-placed, gap-length}
 use Rattle.compiler_positions.proofs.delay.apart.Goals as goal
@@ -13,7 +13,7 @@ linked f f' a a' t g g' u is_f is_a is_g =
 pub link-requires-clause-between_placed : goal.link-requires-clause-between_placed
 link-requires-clause-between_placed c =
     let few = c.requires.few in
-    subst IsPlaced (sym c.in_ok-between.ensures.ok) (gap-placed c.args.least c.args.most (omega arith))
+    subst IsClosedTable (sym c.in_ok-between.ensures.ok) (gap-placed c.args.least c.args.most (omega arith))
 
 pub link-requires-clause-few : goal.link-requires-clause-few
 link-requires-clause-few c =

@@ -1,5 +1,5 @@
 use Rattle.std.proofs.Common.{◌≡◌, ◌∙◌, true, false, ap, sym, subst, length, arith}
-use Rattle.compiler_positions.specs.Rows.{TableData, IsPlaced, link_data}
+use Rattle.compiler_positions.specs.Rows.{TableData, IsClosedTable, link_data}
 use Rattle.compiler_positions.proofs.ResultLaws.{ok_same}
 use Rattle.compiler_positions.proofs.SequenceLaws.{ticks-placed, ticks-length}
 use Rattle.compiler_positions.proofs.delay.lead_in.Goals as goal
@@ -10,7 +10,7 @@ linked t t' g g' u is_t is_g = ap (λ x. link_data false true x g u) is_t ∙ ap
 pub link-requires-clause-first_placed : goal.link-requires-clause-first_placed
 link-requires-clause-first_placed c =
     let few = c.requires.few in
-    subst IsPlaced (sym c.in_ok-delay.ensures.ok) (ticks-placed c.args.least c.args.most (omega arith))
+    subst IsClosedTable (sym c.in_ok-delay.ensures.ok) (ticks-placed c.args.least c.args.most (omega arith))
 
 pub link-requires-clause-few : goal.link-requires-clause-few
 link-requires-clause-few c =

@@ -1,16 +1,16 @@
 use Rattle.std.proofs.Common.{◌∙◌, ap, arith}
 use Rattle.compiler_positions.proofs.SiftLaws.{marks-next, marks-all}
-use Rattle.compiler_positions.specs.Rows.{marked}
+use Rattle.compiler_positions.specs.Rows.{is_marked_at}
 use Rattle.compiler_positions.specs.Views.{rows_data}
 use Rattle.compiler_positions.proofs.living.living.Goals as goal
 
 pub loop-tick-init : goal.loop-tick-init
-loop-tick-init c = λ p. ap (λ ms. marked ms p) c.new-marks.ensures.items
+loop-tick-init c = λ p. ap (λ ms. is_marked_at ms p) c.new-marks.ensures.items
 
 pub loop-tick-preserved : goal.loop-tick-preserved
 loop-tick-preserved c =
     marks-next (rows_data c.args.rows.now) c.loop-tick._tick c.as_slice.result.now c.in_ok-marks.marks.items
-    (λ p. ap (λ ms. marked ms p) c.as_slice.ensures.value ∙ c.loop-tick.invariant p) c.in_ok-marks.ensures
+    (λ p. ap (λ ms. is_marked_at ms p) c.as_slice.ensures.value ∙ c.loop-tick.invariant p) c.in_ok-marks.ensures
 
 pub returns : goal.returns
 returns c =

@@ -1,10 +1,10 @@
 use Rattle.std.proofs.Common.{◌≡◌, ◌≤◌}
-use Rattle.compiler_positions.specs.Living.{rank}
-use Rattle.compiler_positions.specs.Rows.{marked}
+use Rattle.compiler_positions.specs.Living.{kept_below}
+use Rattle.compiler_positions.specs.Rows.{is_marked_at}
 use Rattle.compiler_positions.proofs.living.rank_of.Given as goal
 
 abbrev pub invariant-loop-place : goal.invariant-loop-place
 invariant-loop-place l = record {
-  rank : l.count ≡ rank (marked l.marks) l.place;
+  rank : l.count ≡ kept_below (is_marked_at l.marks) l.place;
   few : l.count ≤ l.place;
 }

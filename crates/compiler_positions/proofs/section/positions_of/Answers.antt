@@ -1,13 +1,13 @@
 use Rattle.std.proofs.Common.{◌≡◌, ◌<◌, ◌∙◌, inl, sym, subst, ap, arith}
 use Rattle.bytecode.specs.Values.{SectionData}
 use Rattle.bytecode.specs.Views.{section_data}
-use Rattle.verifier_inference.specs.Sections.{size_of}
+use Rattle.verifier_inference.specs.Sections.{instructions_in}
 use Rattle.assertions.specs.declared.sequence.Boolean.TheVariants.{One}
 use Rattle.assertions.specs.Shapes.{written_form}
 use Rattle.compiler_positions.specs.declared.fault.SectionFault.TheVariants.{TooLong}
 use Rattle.compiler_positions.specs.Laws.{section_for}
 use Rattle.compiler_positions.specs.Lengths.{HasLongSection}
-use Rattle.compiler_positions.specs.Rows.{IsPlaced, sift_data}
+use Rattle.compiler_positions.specs.Rows.{IsClosedTable, sift_data}
 use Rattle.compiler_positions.specs.Sequences.{atom_of, coded_section}
 use Rattle.compiler_positions.proofs.ResultLaws.{ok_view, err_view}
 use Rattle.compiler_positions.proofs.SequenceLaws.{kept-placed, kept-for}
@@ -15,7 +15,7 @@ use Rattle.compiler_positions.proofs.section.positions_of.Goals as goal
 
 pub section_at-requires : goal.section_at-requires
 section_at-requires c =
-    subst IsPlaced (sym (c.in_ok-kept.ensures ∙ ap sift_data c.in_ok-table.ensures.ok))
+    subst IsClosedTable (sym (c.in_ok-kept.ensures ∙ ap sift_data c.in_ok-table.ensures.ok))
     (kept-placed (written_form c.args.sequence.now) c.requires.ordered c.requires.bound)
 
 pub returns-clause-ok : goal.returns-clause-ok
@@ -32,7 +32,7 @@ returns-clause-err c =
     ap coded_section
     (c.in_ok-kept.ensures ∙ ap sift_data c.in_ok-table.ensures.ok
     ∙ sym (kept-for (written_form c.args.sequence.now))) in
-    err_view (λ fault. fault ≡ TooLong → 4096 < size_of (coded_section c.in_ok-kept.kept).blocks)
+    err_view (λ fault. fault ≡ TooLong → 4096 < instructions_in (coded_section c.in_ok-kept.kept).blocks)
     (λ fault. fault ≡ TooLong → HasLongSection (written_form c.args.sequence.now)) c.section_at.result
     c.section_at.ensures.err
-    (λ fault long is. inl (subst (λ (s : SectionData). 4096 < size_of s.blocks) same (long is)))
+    (λ fault long is. inl (subst (λ (s : SectionData). 4096 < instructions_in s.blocks) same (long is)))

@@ -1,5 +1,5 @@
 use Rattle.std.proofs.Common.{◌≤◌, ◌<◌, sym, subst, ap, arith}
-use Rattle.verifier_inference.specs.Sections.{size_of}
+use Rattle.verifier_inference.specs.Sections.{instructions_in}
 use Rattle.compiler_positions.specs.Rows.{rows_size}
 use Rattle.compiler_positions.specs.Views.{rows_data}
 use Rattle.compiler_positions.proofs.BlockLaws.{blocks-size}
@@ -7,7 +7,7 @@ use Rattle.compiler_positions.proofs.section.section_at.Goals as goal
 
 pub returns-clause-short : goal.returns-clause-short
 returns-clause-short c =
-    subst (λ bs. size_of bs ≤ 4096) (sym c.in_ok-blocks.ensures.made)
+    subst (λ bs. instructions_in bs ≤ 4096) (sym c.in_ok-blocks.ensures.made)
     (omega (arith, blocks-size 0 (rows_data c.rows.result.now), c.in_ok-blocks.ensures.size))
 
 pub returns-then-blocks-gt-LONGEST-clause-err : goal.returns-then-blocks-gt-LONGEST-clause-err

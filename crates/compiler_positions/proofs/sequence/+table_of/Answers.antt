@@ -9,11 +9,11 @@ use Rattle.assertions.specs.Listed.{EachBoolean, IsListed}
 use Rattle.assertions.specs.Written.{Written, boolean, delay, lead, repeat, or, and, intersect, throughout}
 use Rattle.assertions.specs.Written.{weight, IsOrdered}
 use Rattle.compiler_positions.specs.Plans.{weighs}
-use Rattle.compiler_positions.specs.Rows.{TableData, IsPlaced, rows_size, still_data, either_data, both_data}
+use Rattle.compiler_positions.specs.Rows.{TableData, IsClosedTable, rows_size, still_data, either_data, both_data}
 use Rattle.compiler_positions.specs.Rows.{repeat_data}
 use Rattle.compiler_positions.specs.Rows.{during_data, apart_data, lead_in_data, pair_data}
 use Rattle.compiler_positions.specs.declared.fault.SectionFault.{SectionFault}
-use Rattle.compiler_positions.specs.Sequences.{listed_for, atom_of, largest}
+use Rattle.compiler_positions.specs.Sequences.{listed_for, atom_of, largest_place}
 use Rattle.compiler_positions.proofs.RowLaws.{long_on}
 use Rattle.compiler_positions.proofs.ResultLaws.{ok_same, err_more}
 use Rattle.compiler_positions.proofs.SequenceLaws.{still-for, placed-for, length-for, made-delay, made-lead}
@@ -34,7 +34,7 @@ sides-light r s takes bound =
 
 short_on : (r : Result TableData SectionFault) (d : TableData) (w v : Written Boolean) → w ≡ v → IfOk r (λ t. t ≡ d)
     → IfOk r (λ t. rows_size t.rows ≤ 65535) → d ≡ listed_for w
-    → (rows_size (listed_for v).rows ≤ 65535 → largest v ≤ 65535) → IfOk r (λ t. largest w ≤ 65535)
+    → (rows_size (listed_for v).rows ≤ 65535 → largest_place v ≤ 65535) → IfOk r (λ t. largest_place w ≤ 65535)
 short_on (Ok t) d w v e is short same all =
     let own : rows_size (listed_for v).rows ≤ 65535 =
     omega (
@@ -44,28 +44,28 @@ short_on (Ok t) d w v e is short same all =
       ap (λ x. rows_size (listed_for x).rows) e,
       short,
     ) in
-    omega (arith, ap largest e, all own)
+    omega (arith, ap largest_place e, all own)
 short_on (Err f) d w v e is short same all = is
 
 -- the whole, by its form
 told : (w v : Written Boolean) → w ≡ v → listed_for w ≡ listed_for v
 told w v e = ap listed_for e
 
-placed_as : (t : TableData) (w : Written Boolean) → t ≡ listed_for w → IsOrdered w → weight w ≤ 127 → IsPlaced t
-placed_as t w is ordered bound = subst IsPlaced (sym is) (placed-for w ordered bound)
+placed_as : (t : TableData) (w : Written Boolean) → t ≡ listed_for w → IsOrdered w → weight w ≤ 127 → IsClosedTable t
+placed_as t w is ordered bound = subst IsClosedTable (sym is) (placed-for w ordered bound)
 
 length_as : (t : TableData) (w : Written Boolean) → t ≡ listed_for w → IsOrdered w → length t.rows ≤ weight w
 length_as t w is ordered = omega (arith, ap (λ (x : TableData). length x.rows) is, length-for w ordered)
 
-most_as : (w v : Written Boolean) (n : ℕ) → w ≡ v → n ≤ largest v → n ≤ largest w
-most_as w v n e le = omega (arith, ap largest e, le)
+most_as : (w v : Written Boolean) (n : ℕ) → w ≡ v → n ≤ largest_place v → n ≤ largest_place w
+most_as w v n e le = omega (arith, ap largest_place e, le)
 
 own_as : (w v : Written Boolean) (d : TableData) → w ≡ v → d ≡ listed_for w
-    → rows_size (listed_for v).rows ≤ largest v → rows_size d.rows ≤ largest w
+    → rows_size (listed_for v).rows ≤ largest_place v → rows_size d.rows ≤ largest_place w
 own_as w v d e is le =
     omega (
       arith,
-      ap largest e,
+      ap largest_place e,
       ap (λ x. rows_size (listed_for x).rows) e,
       ap (λ (x : TableData). rows_size x.rows) is,
       le,
@@ -92,7 +92,8 @@ returns-in_err-front-in-Delay-clause-err t c =
     subst (λ w. weight w ≤ 127) e c.requires.bound in
     long_on _ _ _ _ c.from_residual-in_err-front-in-Delay.ensures.1 c.in_err-front-in-Delay.ensures.err
     (most_as (written_form c.args.sequence.now) (delay r c.in-Delay.least c.in-Delay.most s) _ e
-    (part-within (delay r c.in-Delay.least c.in-Delay.most s) (max (largest r) (largest s)) (largest r) takes
+    (part-within (delay r c.in-Delay.least c.in-Delay.most s) (max (largest_place r) (largest_place s))
+    (largest_place r) takes
     (omega arith)))
 
 pub returns-in_err-rest-in-Delay-clause-err : goal.returns-in_err-rest-in-Delay-clause-err
@@ -111,7 +112,8 @@ returns-in_err-rest-in-Delay-clause-err t c =
     subst (λ w. weight w ≤ 127) e c.requires.bound in
     long_on _ _ _ _ c.from_residual-in_err-rest-in-Delay.ensures.1 c.in_err-rest-in-Delay.ensures.err
     (most_as (written_form c.args.sequence.now) (delay r c.in-Delay.least c.in-Delay.most s) _ e
-    (part-within (delay r c.in-Delay.least c.in-Delay.most s) (max (largest r) (largest s)) (largest s) takes
+    (part-within (delay r c.in-Delay.least c.in-Delay.most s) (max (largest_place r) (largest_place s))
+    (largest_place s) takes
     (omega arith)))
 
 pub apart-requires-clause-first_placed : goal.apart-requires-clause-first_placed
@@ -216,7 +218,7 @@ returns-in_ok-rest-in-Delay-clause-err t c =
     ∙ sym (told (written_form c.args.sequence.now) (delay r c.in-Delay.least c.in-Delay.most s) e) in
     err_more c.apart.result _ _ c.apart.ensures.err
     (own_as (written_form c.args.sequence.now) (delay r c.in-Delay.least c.in-Delay.most s) _ e same
-    (own-within (delay r c.in-Delay.least c.in-Delay.most s) (max (largest r) (largest s)) takes))
+    (own-within (delay r c.in-Delay.least c.in-Delay.most s) (max (largest_place r) (largest_place s)) takes))
 
 pub returns-in_err-front-in-Or-clause-err : goal.returns-in_err-front-in-Or-clause-err
 returns-in_err-front-in-Or-clause-err t c =
@@ -230,7 +232,7 @@ returns-in_err-front-in-Or-clause-err t c =
     let bound : weight (or r s) ≤ 127 = subst (λ w. weight w ≤ 127) e c.requires.bound in
     long_on _ _ _ _ c.from_residual-in_err-front-in-Or.ensures.1 c.in_err-front-in-Or.ensures.err
     (most_as (written_form c.args.sequence.now) (or r s) _ e
-    (part-within (or r s) (max (largest r) (largest s)) (largest r) takes (omega arith)))
+    (part-within (or r s) (max (largest_place r) (largest_place s)) (largest_place r) takes (omega arith)))
 
 pub returns-in_err-rest-in-Or-clause-err : goal.returns-in_err-rest-in-Or-clause-err
 returns-in_err-rest-in-Or-clause-err t c =
@@ -245,7 +247,7 @@ returns-in_err-rest-in-Or-clause-err t c =
     let bound : weight (or r s) ≤ 127 = subst (λ w. weight w ≤ 127) e c.requires.bound in
     long_on _ _ _ _ c.from_residual-in_err-rest-in-Or.ensures.1 c.in_err-rest-in-Or.ensures.err
     (most_as (written_form c.args.sequence.now) (or r s) _ e
-    (part-within (or r s) (max (largest r) (largest s)) (largest s) takes (omega arith)))
+    (part-within (or r s) (max (largest_place r) (largest_place s)) (largest_place s) takes (omega arith)))
 
 pub either-requires-clause-first_placed : goal.either-requires-clause-first_placed
 either-requires-clause-first_placed t c =
@@ -328,7 +330,7 @@ returns-in_ok-rest-in-Or-clause-err t c =
     ∙ sym (made-or r s takes) ∙ sym (told (written_form c.args.sequence.now) (or r s) e) in
     err_more c.either.result _ _ c.either.ensures.err
     (own_as (written_form c.args.sequence.now) (or r s) _ e same
-    (own-within (or r s) (max (largest r) (largest s)) takes))
+    (own-within (or r s) (max (largest_place r) (largest_place s)) takes))
 
 pub returns-in_err-front-in-And-clause-err : goal.returns-in_err-front-in-And-clause-err
 returns-in_err-front-in-And-clause-err t c =
@@ -342,7 +344,7 @@ returns-in_err-front-in-And-clause-err t c =
     let bound : weight (and r s) ≤ 127 = subst (λ w. weight w ≤ 127) e c.requires.bound in
     long_on _ _ _ _ c.from_residual-in_err-front-in-And.ensures.1 c.in_err-front-in-And.ensures.err
     (most_as (written_form c.args.sequence.now) (and r s) _ e
-    (part-within (and r s) (max (largest r) (largest s)) (largest r) takes (omega arith)))
+    (part-within (and r s) (max (largest_place r) (largest_place s)) (largest_place r) takes (omega arith)))
 
 pub returns-in_err-rest-in-And-clause-err : goal.returns-in_err-rest-in-And-clause-err
 returns-in_err-rest-in-And-clause-err t c =
@@ -357,7 +359,7 @@ returns-in_err-rest-in-And-clause-err t c =
     let bound : weight (and r s) ≤ 127 = subst (λ w. weight w ≤ 127) e c.requires.bound in
     long_on _ _ _ _ c.from_residual-in_err-rest-in-And.ensures.1 c.in_err-rest-in-And.ensures.err
     (most_as (written_form c.args.sequence.now) (and r s) _ e
-    (part-within (and r s) (max (largest r) (largest s)) (largest s) takes (omega arith)))
+    (part-within (and r s) (max (largest_place r) (largest_place s)) (largest_place s) takes (omega arith)))
 
 pub both-requires-clause-first_placed : goal.both-requires-clause-first_placed
 both-requires-clause-first_placed t c =
@@ -447,7 +449,7 @@ returns-in_ok-rest-in-And-clause-err t c =
     ∙ sym (made-and r s takes) ∙ sym (told (written_form c.args.sequence.now) (and r s) e) in
     err_more c.both.result _ _ c.both.ensures.err
     (own_as (written_form c.args.sequence.now) (and r s) _ e same
-    (own-within (and r s) (max (largest r) (largest s)) takes))
+    (own-within (and r s) (max (largest_place r) (largest_place s)) takes))
 
 pub returns-in_err-table-in-Lead-clause-err : goal.returns-in_err-table-in-Lead-clause-err
 returns-in_err-table-in-Lead-clause-err t c =
@@ -461,7 +463,7 @@ returns-in_err-table-in-Lead-clause-err t c =
     let bound : weight (lead c.in-Lead.least c.in-Lead.most r) ≤ 127 = subst (λ w. weight w ≤ 127) e c.requires.bound in
     long_on _ _ _ _ c.from_residual-in_err-table-in-Lead.ensures.1 c.in_err-table-in-Lead.ensures.err
     (most_as (written_form c.args.sequence.now) (lead c.in-Lead.least c.in-Lead.most r) _ e
-    (part-within (lead c.in-Lead.least c.in-Lead.most r) (largest r) (largest r) takes (omega arith)))
+    (part-within (lead c.in-Lead.least c.in-Lead.most r) (largest_place r) (largest_place r) takes (omega arith)))
 
 pub lead_in-requires-clause-placed : goal.lead_in-requires-clause-placed
 lead_in-requires-clause-placed t c =
@@ -523,7 +525,7 @@ returns-in_ok-table-in-Lead-clause-err t c =
     ∙ sym (told (written_form c.args.sequence.now) (lead c.in-Lead.least c.in-Lead.most r) e) in
     err_more c.lead_in.result _ _ c.lead_in.ensures.err
     (own_as (written_form c.args.sequence.now) (lead c.in-Lead.least c.in-Lead.most r) _ e same
-    (own-within (lead c.in-Lead.least c.in-Lead.most r) (largest r) takes))
+    (own-within (lead c.in-Lead.least c.in-Lead.most r) (largest_place r) takes))
 
 pub returns-in_err-table-in-Repeat-clause-err : goal.returns-in_err-table-in-Repeat-clause-err
 returns-in_err-table-in-Repeat-clause-err t c =
@@ -538,7 +540,7 @@ returns-in_err-table-in-Repeat-clause-err t c =
     subst (λ w. weight w ≤ 127) e c.requires.bound in
     long_on _ _ _ _ c.from_residual-in_err-table-in-Repeat.ensures.1 c.in_err-table-in-Repeat.ensures.err
     (most_as (written_form c.args.sequence.now) (repeat r c.in-Repeat.least c.in-Repeat.most) _ e
-    (part-within (repeat r c.in-Repeat.least c.in-Repeat.most) (largest r) (largest r) takes (omega arith)))
+    (part-within (repeat r c.in-Repeat.least c.in-Repeat.most) (largest_place r) (largest_place r) takes (omega arith)))
 
 pub table_of-requires-in-Repeat : goal.table_of-requires-in-Repeat
 table_of-requires-in-Repeat t c =
@@ -626,7 +628,7 @@ returns-in_ok-table-in-Repeat-clause-err t c =
     ∙ sym (told (written_form c.args.sequence.now) (repeat r c.in-Repeat.least c.in-Repeat.most) e) in
     err_more c.repeat.result _ _ c.repeat.ensures.err
     (own_as (written_form c.args.sequence.now) (repeat r c.in-Repeat.least c.in-Repeat.most) _ e same
-    (own-within (repeat r c.in-Repeat.least c.in-Repeat.most) (largest r) takes))
+    (own-within (repeat r c.in-Repeat.least c.in-Repeat.most) (largest_place r) takes))
 
 pub returns-in_err-table-in-Throughout-clause-err : goal.returns-in_err-table-in-Throughout-clause-err
 returns-in_err-table-in-Throughout-clause-err t c =
@@ -640,7 +642,7 @@ returns-in_err-table-in-Throughout-clause-err t c =
     let bound : weight (throughout c.in-Throughout.boolean r) ≤ 127 = subst (λ w. weight w ≤ 127) e c.requires.bound in
     long_on _ _ _ _ c.from_residual-in_err-table-in-Throughout.ensures.1 c.in_err-table-in-Throughout.ensures.err
     (most_as (written_form c.args.sequence.now) (throughout c.in-Throughout.boolean r) _ e
-    (part-within (throughout c.in-Throughout.boolean r) (largest r) (largest r) takes (omega arith)))
+    (part-within (throughout c.in-Throughout.boolean r) (largest_place r) (largest_place r) takes (omega arith)))
 
 pub during-requires : goal.during-requires
 during-requires t c =
@@ -691,7 +693,7 @@ returns-in_ok-table-in-Throughout-clause-err t c =
     ∙ sym (told (written_form c.args.sequence.now) (throughout c.in-Throughout.boolean r) e) in
     err_more c.during.result _ _ c.during.ensures.err
     (own_as (written_form c.args.sequence.now) (throughout c.in-Throughout.boolean r) _ e same
-    (own-within (throughout c.in-Throughout.boolean r) (largest r) takes))
+    (own-within (throughout c.in-Throughout.boolean r) (largest_place r) takes))
 
 pub returns-in_ok-rest-in-Delay-clause-short : goal.returns-in_ok-rest-in-Delay-clause-short
 returns-in_ok-rest-in-Delay-clause-short t c =
@@ -717,7 +719,7 @@ returns-in_ok-rest-in-Delay-clause-short t c =
     ∙ sym (told (written_form c.args.sequence.now) (delay r c.in-Delay.least c.in-Delay.most s) e) in
     short_on c.apart.result _ (written_form c.args.sequence.now)
     (delay r c.in-Delay.least c.in-Delay.most s) e c.apart.ensures.ok c.apart.ensures.short same
-    (λ own. all-within (delay r c.in-Delay.least c.in-Delay.most s) (max (largest r) (largest s)) 65535
+    (λ own. all-within (delay r c.in-Delay.least c.in-Delay.most s) (max (largest_place r) (largest_place s)) 65535
     (omega (arith, c.in_ok-front-in-Delay.ensures.short, c.in_ok-rest-in-Delay.ensures.short)) own)
 
 pub returns-in_ok-rest-in-Or-clause-short : goal.returns-in_ok-rest-in-Or-clause-short
@@ -738,7 +740,7 @@ returns-in_ok-rest-in-Or-clause-short t c =
     ∙ sym (made-or r s takes) ∙ sym (told (written_form c.args.sequence.now) (or r s) e) in
     short_on c.either.result _ (written_form c.args.sequence.now)
     (or r s) e c.either.ensures.ok c.either.ensures.short same
-    (λ own. all-within (or r s) (max (largest r) (largest s)) 65535
+    (λ own. all-within (or r s) (max (largest_place r) (largest_place s)) 65535
     (omega (arith, c.in_ok-front-in-Or.ensures.short, c.in_ok-rest-in-Or.ensures.short)) own)
 
 pub returns-in_ok-rest-in-And-clause-short : goal.returns-in_ok-rest-in-And-clause-short
@@ -758,7 +760,7 @@ returns-in_ok-rest-in-And-clause-short t c =
     ∙ ap (both_data (listed_for r)) c.in_ok-rest-in-And.ensures.ok
     ∙ sym (made-and r s takes) ∙ sym (told (written_form c.args.sequence.now) (and r s) e) in
     short_on c.both.result _ (written_form c.args.sequence.now) (and r s) e c.both.ensures.ok c.both.ensures.short same
-    (λ own. all-within (and r s) (max (largest r) (largest s)) 65535
+    (λ own. all-within (and r s) (max (largest_place r) (largest_place s)) 65535
     (omega (arith, c.in_ok-front-in-And.ensures.short, c.in_ok-rest-in-And.ensures.short)) own)
 
 pub returns-in_ok-table-in-Lead-clause-short : goal.returns-in_ok-table-in-Lead-clause-short
@@ -778,7 +780,7 @@ returns-in_ok-table-in-Lead-clause-short t c =
     ∙ sym (told (written_form c.args.sequence.now) (lead c.in-Lead.least c.in-Lead.most r) e) in
     short_on c.lead_in.result _ (written_form c.args.sequence.now)
     (lead c.in-Lead.least c.in-Lead.most r) e c.lead_in.ensures.ok c.lead_in.ensures.short same
-    (λ own. all-within (lead c.in-Lead.least c.in-Lead.most r) (largest r) 65535
+    (λ own. all-within (lead c.in-Lead.least c.in-Lead.most r) (largest_place r) 65535
     (omega (arith, c.in_ok-table-in-Lead.ensures.short)) own)
 
 pub returns-in_ok-table-in-Repeat-clause-short : goal.returns-in_ok-table-in-Repeat-clause-short
@@ -799,7 +801,7 @@ returns-in_ok-table-in-Repeat-clause-short t c =
     ∙ sym (told (written_form c.args.sequence.now) (repeat r c.in-Repeat.least c.in-Repeat.most) e) in
     short_on c.repeat.result _ (written_form c.args.sequence.now)
     (repeat r c.in-Repeat.least c.in-Repeat.most) e c.repeat.ensures.ok c.repeat.ensures.short same
-    (λ own. all-within (repeat r c.in-Repeat.least c.in-Repeat.most) (largest r) 65535
+    (λ own. all-within (repeat r c.in-Repeat.least c.in-Repeat.most) (largest_place r) 65535
     (omega (arith, c.in_ok-table-in-Repeat.ensures.short)) own)
 
 pub returns-in_ok-table-in-Throughout-clause-short : goal.returns-in_ok-table-in-Throughout-clause-short
@@ -820,7 +822,7 @@ returns-in_ok-table-in-Throughout-clause-short t c =
     ∙ sym (told (written_form c.args.sequence.now) (throughout c.in-Throughout.boolean r) e) in
     short_on c.during.result _ (written_form c.args.sequence.now)
     (throughout c.in-Throughout.boolean r) e c.during.ensures.ok c.during.ensures.short same
-    (λ own. all-within (throughout c.in-Throughout.boolean r) (largest r) 65535
+    (λ own. all-within (throughout c.in-Throughout.boolean r) (largest_place r) 65535
     (omega (arith, c.in_ok-table-in-Throughout.ensures.short)) own)
 
 pub returns-in_err-front-in-Intersect-clause-err : goal.returns-in_err-front-in-Intersect-clause-err
@@ -835,7 +837,7 @@ returns-in_err-front-in-Intersect-clause-err t c =
     let bound : weight (intersect r s) ≤ 127 = subst (λ w. weight w ≤ 127) e c.requires.bound in
     long_on _ _ _ _ c.from_residual-in_err-front-in-Intersect.ensures.1 c.in_err-front-in-Intersect.ensures.err
     (most_as (written_form c.args.sequence.now) (intersect r s) _ e
-    (part-within (intersect r s) (max (largest r) (largest s)) (largest r) takes (omega arith)))
+    (part-within (intersect r s) (max (largest_place r) (largest_place s)) (largest_place r) takes (omega arith)))
 
 pub returns-in_err-rest-in-Intersect-clause-err : goal.returns-in_err-rest-in-Intersect-clause-err
 returns-in_err-rest-in-Intersect-clause-err t c =
@@ -850,7 +852,7 @@ returns-in_err-rest-in-Intersect-clause-err t c =
     let bound : weight (intersect r s) ≤ 127 = subst (λ w. weight w ≤ 127) e c.requires.bound in
     long_on _ _ _ _ c.from_residual-in_err-rest-in-Intersect.ensures.1 c.in_err-rest-in-Intersect.ensures.err
     (most_as (written_form c.args.sequence.now) (intersect r s) _ e
-    (part-within (intersect r s) (max (largest r) (largest s)) (largest s) takes (omega arith)))
+    (part-within (intersect r s) (max (largest_place r) (largest_place s)) (largest_place s) takes (omega arith)))
 
 pub pair-requires-clause-first_placed : goal.pair-requires-clause-first_placed
 pair-requires-clause-first_placed t c =
@@ -939,7 +941,7 @@ returns-in_ok-rest-in-Intersect-clause-err t c =
     ∙ sym (made-intersect r s takes) ∙ sym (told (written_form c.args.sequence.now) (intersect r s) e) in
     err_more c.pair.result _ _ c.pair.ensures.err
     (own_as (written_form c.args.sequence.now) (intersect r s) _ e same
-    (own-within (intersect r s) (max (largest r) (largest s)) takes))
+    (own-within (intersect r s) (max (largest_place r) (largest_place s)) takes))
 
 pub returns-in_ok-rest-in-Intersect-clause-short : goal.returns-in_ok-rest-in-Intersect-clause-short
 returns-in_ok-rest-in-Intersect-clause-short t c =
@@ -959,20 +961,20 @@ returns-in_ok-rest-in-Intersect-clause-short t c =
     ∙ sym (made-intersect r s takes) ∙ sym (told (written_form c.args.sequence.now) (intersect r s) e) in
     short_on c.pair.result _ (written_form c.args.sequence.now)
     (intersect r s) e c.pair.ensures.ok c.pair.ensures.short same
-    (λ own. all-within (intersect r s) (max (largest r) (largest s)) 65535
+    (λ own. all-within (intersect r s) (max (largest_place r) (largest_place s)) 65535
     (omega (arith, c.in_ok-front-in-Intersect.ensures.short, c.in_ok-rest-in-Intersect.ensures.short)) own)
 
 -- nothing is made from what weighs nothing
-still-largest : (w : Written Boolean) → weighs w ≡ false → largest w ≤ 65535
+still-largest : (w : Written Boolean) → weighs w ≡ false → largest_place w ≤ 65535
 still-largest (boolean b) quiet = cc
 still-largest (delay r least most s) quiet =
-    none-within (delay r least most s) (max (largest r) (largest s)) quiet
-still-largest (lead least most s) quiet = none-within (lead least most s) (largest s) quiet
-still-largest (repeat r least most) quiet = none-within (repeat r least most) (largest r) quiet
-still-largest (or r s) quiet = none-within (or r s) (max (largest r) (largest s)) quiet
-still-largest (and r s) quiet = none-within (and r s) (max (largest r) (largest s)) quiet
-still-largest (intersect r s) quiet = none-within (intersect r s) (max (largest r) (largest s)) quiet
-still-largest (throughout b r) quiet = none-within (throughout b r) (largest r) quiet
+    none-within (delay r least most s) (max (largest_place r) (largest_place s)) quiet
+still-largest (lead least most s) quiet = none-within (lead least most s) (largest_place s) quiet
+still-largest (repeat r least most) quiet = none-within (repeat r least most) (largest_place r) quiet
+still-largest (or r s) quiet = none-within (or r s) (max (largest_place r) (largest_place s)) quiet
+still-largest (and r s) quiet = none-within (and r s) (max (largest_place r) (largest_place s)) quiet
+still-largest (intersect r s) quiet = none-within (intersect r s) (max (largest_place r) (largest_place s)) quiet
+still-largest (throughout b r) quiet = none-within (throughout b r) (largest_place r) quiet
 
 pub returns-then-not-is_weighty-clause-short : goal.returns-then-not-is_weighty-clause-short
 returns-then-not-is_weighty-clause-short t c =

@@ -2,21 +2,21 @@ use Rattle.std.proofs.Common.{◌≡◌, ◌∙◌, ◌++◌, [], List, ℕ, Boo
 use Rattle.compiler_positions.specs.declared.edge.Edge as code
 use Rattle.compiler_positions.specs.Tables.{Edge}
 use Rattle.compiler_positions.specs.Living.{sift}
-use Rattle.compiler_positions.specs.Rows.{rows_size, marked, kept_rows}
-use Rattle.compiler_positions.specs.Views.{row_data, rows_data}
+use Rattle.compiler_positions.specs.Rows.{rows_size, is_marked_at, kept_rows}
+use Rattle.compiler_positions.specs.Views.{edges_data, rows_data}
 use Rattle.compiler_positions.proofs.KeptLaws.{kept-shorter}
 use Rattle.compiler_positions.proofs.SiftLaws.{map-length, all-kept}
 use Rattle.compiler_positions.proofs.sift.sift.Goals as goal
 
 pub new-requires : goal.new-requires
 new-requires c =
-    let keeps : ℕ → Bool = marked c.as_slice.result.now in
+    let keeps : ℕ → Bool = is_marked_at c.as_slice.result.now in
     let rows : List (List (Edge ℕ)) = rows_data c.rows.result.now in
     let short = c.rows.ensures.short in
     omega (
       arith,
       ap rows_size c.in_ok-rows.ensures,
-      ap (λ n. rows_size (kept_rows keeps rows n)) (sym (map-length row_data c.rows.result.now)),
+      ap (λ n. rows_size (kept_rows keeps rows n)) (sym (map-length edges_data c.rows.result.now)),
       kept-shorter keeps rows,
       ap rows_size c.rows.ensures.rows,
       short,
@@ -29,10 +29,10 @@ returns c =
     c.new.ensures
     ∙ all-kept c.args.table.now (rows_data c.rows.result.now) marks (length c.rows.result.now)
     (rows_data c.in_ok-rows.rows.items) c.put_kept.new.list.items c.admits_empty.result c.rows.ensures.rows
-    (λ p. ap (λ ms. marked ms p) c.as_slice.ensures.value ∙ c.in_ok-marks.ensures p)
-    (sym (map-length row_data c.rows.result.now)) c.in_ok-rows.ensures
+    (λ p. ap (λ ms. is_marked_at ms p) c.as_slice.ensures.value ∙ c.in_ok-marks.ensures p)
+    (sym (map-length edges_data c.rows.result.now)) c.in_ok-rows.ensures
     (c.in_ok-put_kept.ensures
-    ∙ ap (λ xs. xs ++ sift (marked c.as_slice-2.result.now) c.starts.result.now) c.new-starts.ensures.items
-    ∙ ap (λ ms. [] ++ sift (marked ms) c.starts.result.now) same
-    ∙ ap (λ qs. [] ++ sift (marked marks) qs) c.starts.ensures)
+    ∙ ap (λ xs. xs ++ sift (is_marked_at c.as_slice-2.result.now) c.starts.result.now) c.new-starts.ensures.items
+    ∙ ap (λ ms. [] ++ sift (is_marked_at ms) c.starts.result.now) same
+    ∙ ap (λ qs. [] ++ sift (is_marked_at marks) qs) c.starts.ensures)
     c.admits_empty.ensures

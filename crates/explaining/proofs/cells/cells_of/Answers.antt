@@ -1,4 +1,4 @@
-use Rattle.explaining.specs.Shown.{Says, value_of_row, is_always_shown}
+use Rattle.explaining.specs.Shown.{CellSays, value_of_row, is_always_shown}
 use Rattle.explaining.proofs.ZipLaws.{zip_more}
 use Rattle.explaining.proofs.cells.cells_of.Goals as goal
 
@@ -7,7 +7,7 @@ loop-clock-preserved c =
     let read = c.args.read.now in
     zip_more
     (λ clock cell.
-    Says (is_always_shown c.args.source) cell
+    CellSays (is_always_shown c.args.source) cell
     (value_of_row read.suite.now read.assertion.now read.rows.now c.args.source clock))
     c.args.clocks.now c.loop-clock.clock-index 0 c.cell_at.result c.loop-clock.cells.items
     c.push.new.self.items c.loop-clock-test.true c.in_ok-push.ensures.items c.cell_at.ensures

@@ -1,7 +1,7 @@
 use Rattle.std.proofs.Common.{◌∙◌, sym, refl, arith, ◌+◌, ◌&&◌, not}
 use Rattle.assertions.specs.Quantifiers.{some_in}
 use Rattle.assertions.proofs.Quantifiers.{first_true-found}
-use Rattle.judging.specs.Tables.{marks, links}
+use Rattle.judging.specs.Tables.{marks, has_link}
 use Rattle.judging.specs.Courses.{value_over}
 use Rattle.judging.proofs.CauseLaws.{none_law, some_law}
 use Rattle.judging.proofs.cause.cause_of.Goals as goal
@@ -21,7 +21,7 @@ overflow_add-result c =
     let sides = c.in_ok-sides.sides in
     let found =
     first_true-found 0 c.len-below.result
-    (λ e. marks c.as_slice-ends.result.now (e + 1) && not (some_in e sides.room (links sides.consequents e)))
+    (λ e. marks c.as_slice-ends.result.now (e + 1) && not (some_in e sides.room (has_link sides.consequents e)))
     c.in-Some.place (sym c.first_broken.ensures ∙ c.in-Some.is) in
     omega (arith, found.below, c.in_ok-seen.ensures.long, c.len-below.ensures.len, c.ranges.end.fits)
 

@@ -4,7 +4,7 @@ use Rattle.assertions.specs.Quantifiers.{some_in, each_in}
 use Rattle.assertions.specs.Attempts.{decide, decision, goes_on, has_end, is_failed, all_kept}
 use Rattle.assertions.specs.Shapes.{shape}
 use Rattle.assertions.specs.Verdicts.{antecedent_of}
-use Rattle.judging.specs.Tables.{marks, links, value_at}
+use Rattle.judging.specs.Tables.{marks, has_link, seen_value}
 use Rattle.judging.proofs.DecisionLaws.{goes_on_law, has_end_law, failed_law, kept_law}
 use Rattle.judging.proofs.decision.decision_of.Goals as goal
 
@@ -12,7 +12,7 @@ pub returns : goal.returns
 unfolding decision
 returns c =
     let values = c.args.seen.now.values in
-    let value = value_at values in
+    let value = seen_value values in
     let n = length values in
     let r = antecedent_of c.args.assertion.now in
     let s = shape c.args.assertion.now.consequent in
@@ -37,15 +37,15 @@ returns c =
     let broken : all.broken ≡ is_failed value r s n 0 =
     c.outlook_of-all.ensures.broken
     ∙ ap (λ (l : List Bool). some_in 0 c.len-below.result
-    (λ e. marks l (e + 1) && not (some_in e sides.room (links rows e)))) same
-    ∙ ap (λ k. some_in 0 k (λ e. marks there (e + 1) && not (some_in e sides.room (links rows e)))) len
+    (λ e. marks l (e + 1) && not (some_in e sides.room (has_link rows e)))) same
+    ∙ ap (λ k. some_in 0 k (λ e. marks there (e + 1) && not (some_in e sides.room (has_link rows e)))) len
     ∙ failed_law Boolean value n r s sides.count sides.room there sides.obligations.items rows are.seen are.ends
     are.wide are.obliged are.consequents in
     let kept : all.kept ≡ all_kept value r s n 0 =
     c.outlook_of-all.ensures.kept
     ∙ ap (λ (l : List Bool). each_in 0 c.len-below.result
-    (λ e. not (marks l (e + 1)) || some_in e (c.len-below.result + 1) (links rows e))) same
-    ∙ ap (λ k. each_in 0 k (λ e. not (marks there (e + 1)) || some_in e (k + 1) (links rows e))) len
+    (λ e. not (marks l (e + 1)) || some_in e (c.len-below.result + 1) (has_link rows e))) same
+    ∙ ap (λ k. each_in 0 k (λ e. not (marks there (e + 1)) || some_in e (k + 1) (has_link rows e))) len
     ∙ kept_law Boolean value n r s sides.count sides.room there sides.obligations.items rows are.seen are.ends
     are.wide are.obliged are.consequents in
     c.choose.ensures

@@ -1,7 +1,7 @@
 use Rattle.std.proofs.Common.{◌≡◌, ℕ, ◌+◌, ◌≤◌, ◌&&◌, ◌||◌, not, Bool, List, sym, ap, ◌∙◌, arith}
 use Rattle.assertions.specs.Quantifiers.{some_in, each_in}
 use Rattle.assertions.proofs.Quantifiers.{some_in-snoc, each_in-snoc}
-use Rattle.judging.specs.Tables.{marks, links}
+use Rattle.judging.specs.Tables.{marks, has_link}
 use Rattle.judging.proofs.outlook.outlook_of.Goals as goal
 
 -- one tick more, of which a test is known
@@ -28,13 +28,14 @@ loop-tick-preserved c =
           more_some 0 tick (λ e. marks ends (e + 1)) _ _ _ (omega arith) c.and-all.ensures.ends
           c.loop-tick.invariant.ends (c.outlook_at-here.ensures.ends ∙ c.is_marked.ensures);
       broken =
-          more_some 0 tick (λ e. marks ends (e + 1) && not (some_in e count (links rows e))) _ _ _ (omega arith)
+          more_some 0 tick (λ e. marks ends (e + 1) && not (some_in e count (has_link rows e))) _ _ _ (omega arith)
           c.and-all.ensures.broken c.loop-tick.invariant.broken
           (c.outlook_at-here.ensures.broken ∙ ap (λ b. b && not (some_in tick count (marks c.row.result.now)))
           c.is_marked.ensures
           ∙ ap (λ (l : List Bool). marks ends (tick + 1) && not (some_in tick count (marks l))) row);
       kept =
-          more_each 0 tick (λ e. not (marks ends (e + 1)) || some_in e (below + 1) (links rows e)) _ _ _ (omega arith)
+          more_each 0 tick (λ e. not (marks ends (e + 1)) || some_in e (below + 1) (has_link rows e)) _ _ _
+          (omega arith)
           c.and-all.ensures.kept c.loop-tick.invariant.kept
           (c.outlook_at-here.ensures.kept ∙ ap (λ b. not b || some_in tick (below + 1) (marks c.row.result.now))
           c.is_marked.ensures

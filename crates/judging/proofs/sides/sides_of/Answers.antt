@@ -3,14 +3,14 @@ use Rattle.assertions.specs.declared.sequence.Boolean.{Boolean}
 use Rattle.assertions.specs.Segments.{is_match}
 use Rattle.assertions.specs.Shapes.{shape}
 use Rattle.assertions.specs.Verdicts.{antecedent_of}
-use Rattle.judging.specs.Tables.{marks, value_at, held_at, IsRow, IsRelation}
+use Rattle.judging.specs.Tables.{marks, seen_value, held_at, IsRow, IsRelation}
 use Rattle.judging.proofs.DecisionLaws.{first_row, leading}
 use Rattle.judging.proofs.sides.sides_of.Goals as goal
 
 pub returns : goal.returns
 returns c =
     let values = c.args.seen.now.values in
-    let value = value_at values in
+    let value = seen_value values in
     let h = held_at values in
     let n = length values in
     let r = antecedent_of c.args.assertion.now in

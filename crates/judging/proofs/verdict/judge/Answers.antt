@@ -11,7 +11,7 @@ use Rattle.assertions.proofs.Verdicts.{IsVerdict-at}
 use Rattle.assertions.proofs.AgreeLaws.{verdict_over}
 use Rattle.expressions.specs.declared.expr.Expr.{Expr}
 use Rattle.expressions.specs.Terms.{Samples}
-use Rattle.judging.specs.Tables.{off_at, last_of, HasSeen}
+use Rattle.judging.specs.Tables.{off_at, seen_end, HasSeen}
 use Rattle.judging.proofs.DecisionLaws.{verdict_seen}
 use Rattle.judging.proofs.verdict.judge.Goals as goal
 
@@ -19,7 +19,7 @@ use Rattle.judging.proofs.verdict.judge.Goals as goal
 verdict_found : (all : List Expr) (places : List ℕ) (t : Samples) (d : Option Boolean) (r : Antecedent Boolean)
     (s : Seq Boolean)
     (rows end c : ℕ) (values : List (List Bool)) (found : Option (ℕ × Decision)) (v : Verdict) → end ≡ rows
-    → HasSeen (value_in all places t) c values → c + length values ≡ last_of end found
+    → HasSeen (value_in all places t) c values → c + length values ≡ seen_end end found
     → found ≡ first_in (c + 1) (end + 1) (λ n. decision (value_in all places t) r s n c)
     → v ≡ verdict_by (off_at values d c) c end found → v ≡ verdict (value_in all places t) (off_in all places t d)
     r s rows c

@@ -18,7 +18,7 @@ use Rattle.std.proofs.Math.Seq.{take-suc}
 use Rattle.std.proofs.lemmas.List.{map-append}
 use Rattle.assertions.specs.declared.assertion.Assertion.{Assertion}
 use Rattle.verdicts.specs.Lines.{LineData, line}
-use Rattle.judging_reports.specs.Judged.{AreLinesOver, IsLineOver}
+use Rattle.judging_reports.specs.Judged.{AreLinesOver, IsJudgedLine}
 use Rattle.judging_reports.proofs.LineLaws.{more_lines}
 use Rattle.judging_reports.proofs.lines.lines_of.Goals as goal
 
@@ -42,7 +42,7 @@ loop-assertion-preserved c =
     let last : map line c.push.new.self.items ≡ map line lines ++ line l ∷ [] =
     ap (map line) c.in_ok-push.ensures.items ∙ map-append line lines (l ∷ []) in
     let pushed =
-    more_lines (IsLineOver suite signals) a (line l) c.in_ok-line.ensures (take i all)
+    more_lines (IsJudgedLine suite signals) a (line l) c.in_ok-line.ensures (take i all)
     (map line lines) c.loop-assertion.invariant in
     subst (λ (seen : List Assertion).
     AreLinesOver suite signals seen (map line c.push.new.self.items)) (sym more)

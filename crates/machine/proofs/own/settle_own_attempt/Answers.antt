@@ -1,7 +1,7 @@
 use Rattle.std.proofs.Common.{ℕ, List, [], ◌∷◌, ◌++◌, ◌-◌, Some, None, sym, ap, ◌∙◌}
 use Rattle.machine_definition.specs.Outcomes.{done}
 use Rattle.machine_definition.specs.Clocks.{Attempt}
-use Rattle.machine_pool.specs.Pooled.{Pooled}
+use Rattle.machine_memory.specs.Pooled.{Pooled}
 use Rattle.machine_visits.specs.declared.attempt.AttemptRecord.{AttemptRecord}
 use Rattle.machine_visits.specs.Records.{attempt_of}
 use Rattle.machine.specs.Live.{attempts_in}

@@ -4,7 +4,7 @@ use Rattle.std.specs.Prelude.{slice_index_or}
 use Rattle.bytecode.specs.declared.sample_instr.SampleInstr.TheVariants.{Push}
 use Rattle.bytecode.specs.Instructions.{frame_of}
 use Rattle.bytecode.specs.Programs.{data_of}
-use Rattle.machine_samples.proofs.RunLaws.{Stands, Stands-at, Stands-first, Stands-tick}
+use Rattle.machine_samples.proofs.RunLaws.{Stands, Stands-at, Stands-first, Stands-cost}
 use Rattle.machine_samples.proofs.RunLaws.{Stands-ready, IsAt-after, read-at}
 use Rattle.machine_samples.proofs.sample_run.run_code.Goals as goal
 
@@ -24,7 +24,7 @@ obey-requires c =
     let l = c.loop-next in
     let pc = c.in-Some.pc in
     let s =
-    Stands-at p c.args.ring.now.rows c.args.counters.now l.next pc l.ticks l.stack l.atoms l.counters l.invariant
+    Stands-at p c.args.ring.now.rows c.args.counters.now l.next pc l.spent l.stack l.atoms l.counters l.invariant
     c.in-Some.is in
     let i = slice_index_or code pc (Push 0 0) in
     let here = read-at code p.sample pc i c.as_slice-code.ensures.value s.inside refl in
@@ -37,11 +37,11 @@ loop-next-smaller c =
     let l = c.loop-next in
     let pc = c.in-Some.pc in
     let s =
-    Stands-at p c.args.ring.now.rows c.args.counters.now l.next pc l.ticks l.stack l.atoms l.counters l.invariant
+    Stands-at p c.args.ring.now.rows c.args.counters.now l.next pc l.spent l.stack l.atoms l.counters l.invariant
     c.in-Some.is in
     let i = slice_index_or code pc (Push 0 0) in
     let here = read-at code p.sample pc i c.as_slice-code.ensures.value s.inside refl in
-    omega (arith, Stands-tick s i here)
+    omega (arith, Stands-cost s i here)
 
 pub loop-next-preserved : goal.loop-next-preserved
 loop-next-preserved c =
@@ -50,7 +50,7 @@ loop-next-preserved c =
     let l = c.loop-next in
     let pc = c.in-Some.pc in
     let s =
-    Stands-at p c.args.ring.now.rows c.args.counters.now l.next pc l.ticks l.stack l.atoms l.counters l.invariant
+    Stands-at p c.args.ring.now.rows c.args.counters.now l.next pc l.spent l.stack l.atoms l.counters l.invariant
     c.in-Some.is in
     let i = slice_index_or code pc (Push 0 0) in
     let here = read-at code p.sample pc i c.as_slice-code.ensures.value s.inside refl in

@@ -6,7 +6,7 @@ use Rattle.machine_samples.proofs.sample_run.run_code.Given as goal
 
 abbrev pub invariant-loop-next : goal.invariant-loop-next
 invariant-loop-next l =
-    IsAt (data_of l.program) l.ring.rows l.fn.counters l.next l.ticks l.stack l.atoms l.counters
+    IsAt (data_of l.program) l.ring.rows l.fn.counters l.next l.spent l.stack l.atoms l.counters
 
 abbrev pub decreases-loop-next : goal.decreases-loop-next
-decreases-loop-next l = longest_run (data_of l.program) - l.ticks
+decreases-loop-next l = longest_run (data_of l.program) - l.spent

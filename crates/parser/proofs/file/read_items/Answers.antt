@@ -1,8 +1,8 @@
 use Rattle.std.proofs.Common.{◌∷◌, List, map, length, sym, ap, subst, arith, ◌∙◌}
 use Rattle.lexer.specs.declared.token.Token.{Token}
 use Rattle.parser_grammar.specs.ReadFiles.{asserts, is_more, item}
-use Rattle.parser_trees.specs.declared.item.ItemTree.{ItemTree}
-use Rattle.parser_trees.specs.Views.{item_of}
+use Rattle.parser_grammar.specs.declared.item.ItemTree.{ItemTree}
+use Rattle.parser_grammar.specs.Views.{item_of}
 use Rattle.parser_expressions.proofs.LoopLaws.{Turns, turns-init, turns-stop, turns-fail, turns-next, map-push}
 use Rattle.parser.proofs.FileLaws.{refuses, at-item-fails, at-item, items-are, items-fail, asserts-more}
 use Rattle.parser.proofs.ByteLaws.{placed-drop}

@@ -7,9 +7,9 @@ use Rattle.parser_grammar.specs.Readers.{Reader, lead}
 use Rattle.parser_grammar.specs.declared.terminal.Terminal.TheVariants.{Comma}
 use Rattle.parser_grammar.specs.Trees.{Tree}
 use Rattle.parser_grammar.specs.ReadExpressions.{links, link_reader, operand, expression}
-use Rattle.parser_trees.specs.declared.expression.ExprTree.{ExprTree}
+use Rattle.parser_grammar.specs.declared.expression.ExprTree.{ExprTree}
 use Rattle.parser_expressions.specs.declared.stop.Stop.{Stop}
-use Rattle.parser_trees.specs.Views.{tree_of, link_of}
+use Rattle.parser_grammar.specs.Views.{tree_of, link_of}
 use Rattle.parser_expressions.specs.Views.{Fails}
 use Rattle.parser_expressions.proofs.Steps.{failing, gives-as, climb-zero, prefixed-nil, prefixed-number}
 use Rattle.parser_expressions.proofs.Steps.{prefixed-named, prefixed-unary, prefixed-opening, prefixed-brace}

@@ -3,7 +3,7 @@ use Rattle.parser_grammar.specs.declared.terminal.Terminal.TheVariants.{Comma}
 use Rattle.parser_grammar.specs.Terminals.{is}
 use Rattle.parser_grammar.specs.Operators.{is_infix}
 use Rattle.parser_grammar.specs.ReadExpressions.{link_reader, operand, expression}
-use Rattle.parser_trees.specs.Views.{tree_of, link_of}
+use Rattle.parser_grammar.specs.Views.{tree_of, link_of}
 use Rattle.parser_expressions.proofs.LoopLaws.{Turns}
 use Rattle.parser_expressions.proofs.expression.+expressions.Given as goal
 

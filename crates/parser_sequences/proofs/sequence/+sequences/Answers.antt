@@ -7,8 +7,8 @@ use Rattle.parser_grammar.specs.declared.bound.Range.{Range}
 use Rattle.parser_grammar.specs.Trees.{SequenceForm}
 use Rattle.parser_grammar.specs.ReadSequences.{sequences, late_part, delayed_behind, during_with, conjunction_with}
 use Rattle.parser_grammar.specs.ReadSequences.{intersection_with}
-use Rattle.parser_trees.specs.declared.sequence.SequenceTree.{SequenceTree}
-use Rattle.parser_trees.specs.Views.{sequence_of, delay_step_of}
+use Rattle.parser_grammar.specs.declared.sequence.SequenceTree.{SequenceTree}
+use Rattle.parser_grammar.specs.Views.{sequence_of, delay_step_of}
 use Rattle.parser_expressions.proofs.Steps.{failing, gives-as}
 use Rattle.parser_sequences.proofs.Steps.{alternatives-fails, alternatives-ok, behind-deep, behind-fail2}
 use Rattle.parser_sequences.proofs.Steps.{behind-fails, behind-ok, behind-tail, body-deep, body-fail1, body-fail2}

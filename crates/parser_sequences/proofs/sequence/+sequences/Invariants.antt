@@ -3,7 +3,7 @@ use Rattle.parser_grammar.specs.declared.terminal.Terminal.TheVariants.{Delay, I
 use Rattle.parser_grammar.specs.Terminals.{is}
 use Rattle.parser_grammar.specs.ReadSequences.{late_part, sequences, during_with, conjunction_with}
 use Rattle.parser_grammar.specs.ReadSequences.{intersection_with}
-use Rattle.parser_trees.specs.Views.{sequence_of, delay_step_of}
+use Rattle.parser_grammar.specs.Views.{sequence_of, delay_step_of}
 use Rattle.parser_expressions.proofs.LoopLaws.{Turns}
 use Rattle.parser_sequences.proofs.sequence.+sequences.Given as goal
 

@@ -26,8 +26,8 @@ enter-requires-clause-row c =
     subst (AreValues (frame_of p).slots) (sym is)
     (subst (λ ws. AreValues ws row) c.requires.rows.slots c.requires.fits)
 
-pub run-ticks-requires-clause-rows : goal.run-ticks-requires-clause-rows
-run-ticks-requires-clause-rows c =
+pub run-cost-requires-clause-rows : goal.run-cost-requires-clause-rows
+run-cost-requires-clause-rows c =
     let p = data_of c.args.program.now in
     let row = c.args.row.now in
     let one = c.begins_with_one.ensures c.if-not-begins_with_one.false in
@@ -42,8 +42,8 @@ run-ticks-requires-clause-rows c =
     read-rows p c.enter.new.self c.args.ring.now row (c.enter.ensures.row ∙ is)
     (subst (λ ws. AreValues ws row) c.requires.rows.slots c.requires.fits) are c.requires.newest
 
-pub run-ticks-requires-clause-row : goal.run-ticks-requires-clause-row
-run-ticks-requires-clause-row c =
+pub run-cost-requires-clause-row : goal.run-cost-requires-clause-row
+run-cost-requires-clause-row c =
     let p = data_of c.args.program.now in
     let row = c.args.row.now in
     let one = c.begins_with_one.ensures c.if-not-begins_with_one.false in

@@ -1,6 +1,6 @@
 use Rattle.std.proofs.Common.{sym, subst}
 use Rattle.bytecode.specs.Programs.{data_of}
-use Rattle.machine_ring.specs.History.{History}
+use Rattle.machine_memory.specs.History.{History}
 use Rattle.machine_samples.specs.Memory.{AreRows}
 use Rattle.machine_samples.proofs.RowLaws.{AreRows-pushed}
 use Rattle.trials_machine.proofs.outcome.push_row.Goals as goal

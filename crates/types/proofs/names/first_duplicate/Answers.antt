@@ -1,6 +1,6 @@
 use Rattle.std.proofs.Common.{◌≡◌, ◌+◌, ◌∷◌, ℕ, List, Option, Some, map, drop, sym, ap, ◌∙◌}
 use Rattle.parser_grammar.specs.Trees as trees
-use Rattle.parser_trees.specs.Views.{item_of}
+use Rattle.parser_grammar.specs.Views.{item_of}
 use Rattle.types_names.specs.Faults.{earlier, least}
 use Rattle.types_names.proofs.Lists.{at}
 use Rattle.types_suites.specs.Texts.{name_made, assertions_after, names_from, repeated_names}

@@ -1,5 +1,5 @@
 use Rattle.std.proofs.Common.{map, sym, ◌∙◌}
-use Rattle.parser_trees.specs.Views.{item_of}
+use Rattle.parser_grammar.specs.Views.{item_of}
 use Rattle.types_names.specs.Views.{scope_of}
 use Rattle.types.proofs.StageLaws.{first_5, refused_memory}
 use Rattle.types.proofs.stages.check_clocks.Goals as goal

@@ -1,5 +1,5 @@
 use Rattle.std.proofs.Common.{map, sym, ◌∙◌}
-use Rattle.parser_trees.specs.Views.{item_of}
+use Rattle.parser_grammar.specs.Views.{item_of}
 use Rattle.types_names.specs.Views.{scope_of}
 use Rattle.types.proofs.StageLaws.{clear_start, first_1, refused_memory}
 use Rattle.types.proofs.stages.check_paths.Goals as goal

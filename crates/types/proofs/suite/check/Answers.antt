@@ -1,6 +1,6 @@
 use Rattle.std.proofs.Common.{◌≡◌, ℕ, List, Option, sym, ap, ◌∙◌, map, subst, IfOk, IfErr}
 use Rattle.parser_grammar.specs.Trees.{ItemForm}
-use Rattle.parser_trees.specs.Views.{item_of, items_of}
+use Rattle.parser_grammar.specs.Views.{item_of, items_of}
 use Rattle.types_names.specs.Scopes.{Scope, sequence_named}
 use Rattle.types_names.specs.Asked.{scope_for}
 use Rattle.types_names.specs.Views.{scope_of}

@@ -1,7 +1,7 @@
 use Rattle.std.proofs.Common.{length, map, sym, ap, ◌∙◌}
 use Rattle.std.proofs.lemmas.List.{length-map}
 use Rattle.parser_grammar.specs.Trees.{DeclarationForm}
-use Rattle.parser_trees.specs.Views.{item_of}
+use Rattle.parser_grammar.specs.Views.{item_of}
 use Rattle.types_sequences.specs.Views.{draft_of}
 use Rattle.types_names.specs.Views.{scope_of, columns_in}
 use Rattle.types_suites.specs.Texts.{declarations_of}

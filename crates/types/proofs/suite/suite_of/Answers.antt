@@ -1,5 +1,5 @@
 use Rattle.std.proofs.Common.{ℕ, List, map, subst}
-use Rattle.parser_trees.specs.Views.{item_of}
+use Rattle.parser_grammar.specs.Views.{item_of}
 use Rattle.types_names.specs.Views.{scope_of, columns_in}
 use Rattle.types_names.proofs.ColumnLaws.{columns-all}
 use Rattle.types_suites.specs.Readings.{AllRead}

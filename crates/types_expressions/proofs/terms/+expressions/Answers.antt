@@ -1,7 +1,7 @@
 use Rattle.std.proofs.Common.{rules, length, sym, ap, ◌∙◌, refl}
 use Rattle.std.proofs.lemmas.Bool.{eqb-true, eqb-false}
-use Rattle.parser_trees.specs.declared.expression.ExprTree.TheViews.{the_lemmas}
-use Rattle.parser_trees.specs.Views.{tree_of}
+use Rattle.parser_grammar.specs.declared.expression.ExprTree.TheViews.{the_lemmas}
+use Rattle.parser_grammar.specs.Views.{tree_of}
 use Rattle.expressions.specs.Terms as terms
 use Rattle.expressions.specs.Terms.{Term}
 use Rattle.expressions.specs.Expressions.{term_of}

@@ -1,6 +1,6 @@
 use Rattle.std.proofs.Common.{◌≡◌, ◌≤◌, [], map, drop, IsTrue}
 use Rattle.parser_grammar.specs.ReadExpressions.{links_of, parts_of}
-use Rattle.parser_trees.specs.Views.{tree_of, link_of}
+use Rattle.parser_grammar.specs.Views.{tree_of, link_of}
 use Rattle.expressions.specs.Terms.{Term, width_of}
 use Rattle.expressions.specs.Expressions.{term_of}
 use Rattle.types_names.specs.declared.own.Sought.{Sought}

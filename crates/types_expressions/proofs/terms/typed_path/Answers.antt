@@ -1,4 +1,4 @@
-use Rattle.parser_trees.specs.Views.{path_of}
+use Rattle.parser_grammar.specs.Views.{path_of}
 use Rattle.types_names.specs.declared.own.Sought.TheVariants.{Unknown, OutOfRange}
 use Rattle.types_names.specs.Scopes.{path_text, first_byte, meaning, bits_of}
 use Rattle.types_names.specs.Columns.{column_of}

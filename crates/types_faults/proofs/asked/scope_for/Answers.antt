@@ -1,5 +1,5 @@
 use Rattle.std.proofs.Common.{map}
-use Rattle.parser_trees.specs.Views.{item_of}
+use Rattle.parser_grammar.specs.Views.{item_of}
 use Rattle.types_names.specs.Scopes.{look_up}
 use Rattle.types_names.specs.Views.{names_in, scope_of, columns_in}
 use Rattle.types_faults.proofs.AskedLaws.{over-asked}

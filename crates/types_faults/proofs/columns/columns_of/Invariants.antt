@@ -1,5 +1,5 @@
 use Rattle.std.proofs.Common.{◌≡◌, map, drop}
-use Rattle.parser_trees.specs.Views.{item_of}
+use Rattle.parser_grammar.specs.Views.{item_of}
 use Rattle.types_names.specs.Columns.{with_paths, file_signals, columns_of}
 use Rattle.types_names.specs.Views.{scope_of, columns_in}
 use Rattle.types_faults.proofs.columns.columns_of.Given as goal

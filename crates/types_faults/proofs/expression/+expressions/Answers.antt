@@ -1,6 +1,6 @@
 use Rattle.std.proofs.Common.{◌+◌, map, drop, arith}
 use Rattle.parser_grammar.specs.ReadExpressions.{links_of, parts_of}
-use Rattle.parser_trees.specs.Views.{tree_of, link_of}
+use Rattle.parser_grammar.specs.Views.{tree_of, link_of}
 use Rattle.types_names.specs.Views.{scope_of}
 use Rattle.types_names.proofs.Lists.{links-at, parts-at, when_ok}
 use Rattle.types_names.proofs.TreeSteps.{is-Concatenation, is-Chain, is-Choice}

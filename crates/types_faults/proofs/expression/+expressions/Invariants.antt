@@ -1,6 +1,6 @@
 use Rattle.std.proofs.Common.{◌≡◌, ◌≤◌, map, drop, min}
 use Rattle.parser_grammar.specs.ReadExpressions.{links_of, parts_of}
-use Rattle.parser_trees.specs.Views.{tree_of, link_of}
+use Rattle.parser_grammar.specs.Views.{tree_of, link_of}
 use Rattle.types_names.specs.Width.{chain_width, parts_width}
 use Rattle.types_names.specs.Faults.{link_faults, part_faults, earlier, least}
 use Rattle.types_names.specs.Views.{scope_of}

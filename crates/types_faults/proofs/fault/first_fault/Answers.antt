@@ -1,6 +1,6 @@
 use Rattle.std.proofs.Common.{◌+◌, map, drop, ap}
 use Rattle.parser_grammar.specs.Trees as trees
-use Rattle.parser_trees.specs.Views.{item_of}
+use Rattle.parser_grammar.specs.Views.{item_of}
 use Rattle.types_names.specs.Faults.{file_faults, item_faults}
 use Rattle.types_names.specs.Views.{scope_of}
 use Rattle.types_names.proofs.Lists.{at, Joins}

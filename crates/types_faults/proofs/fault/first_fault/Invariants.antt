@@ -1,5 +1,5 @@
 use Rattle.std.proofs.Common.{◌≡◌, map, drop}
-use Rattle.parser_trees.specs.Views.{item_of}
+use Rattle.parser_grammar.specs.Views.{item_of}
 use Rattle.types_names.specs.Faults.{file_faults, earlier, least}
 use Rattle.types_names.specs.Views.{scope_of}
 use Rattle.types_faults.proofs.fault.first_fault.Given as goal

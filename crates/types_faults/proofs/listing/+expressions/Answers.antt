@@ -1,5 +1,5 @@
 use Rattle.std.proofs.Common.{refl}
-use Rattle.parser_trees.specs.Views.{tree_of}
+use Rattle.parser_grammar.specs.Views.{tree_of}
 use Rattle.types_names.specs.Columns.{signals}
 use Rattle.types_names.specs.Views.{scope_of, columns_in}
 use Rattle.types_names.proofs.Lists.{links-at, parts-at, when_ok}

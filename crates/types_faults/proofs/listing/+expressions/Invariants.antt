@@ -1,6 +1,6 @@
 use Rattle.std.proofs.Common.{◌≡◌, map, drop}
 use Rattle.parser_grammar.specs.ReadExpressions.{links_of, parts_of}
-use Rattle.parser_trees.specs.Views.{tree_of, link_of}
+use Rattle.parser_grammar.specs.Views.{tree_of, link_of}
 use Rattle.types_names.specs.Columns.{with_paths, link_signals, part_signals}
 use Rattle.types_names.specs.Views.{scope_of, columns_in}
 use Rattle.types_faults.proofs.listing.+expressions.Given as goal

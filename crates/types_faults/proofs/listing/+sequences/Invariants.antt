@@ -1,6 +1,6 @@
 use Rattle.std.proofs.Common.{◌≡◌, map, drop}
 use Rattle.parser_grammar.specs.ReadSequences.{steps_of, others_of}
-use Rattle.parser_trees.specs.Views.{sequence_of, delay_step_of}
+use Rattle.parser_grammar.specs.Views.{sequence_of, delay_step_of}
 use Rattle.types_names.specs.Columns.{with_paths, step_signals, other_signals}
 use Rattle.types_names.specs.Views.{scope_of, columns_in}
 use Rattle.types_faults.proofs.listing.+sequences.Given as goal

@@ -1,5 +1,5 @@
 use Rattle.std.proofs.Common.{ap, ◌∙◌}
-use Rattle.parser_trees.specs.Views.{sequence_of}
+use Rattle.parser_grammar.specs.Views.{sequence_of}
 use Rattle.types_names.specs.Faults.{earlier}
 use Rattle.types_names.specs.Views.{scope_of}
 use Rattle.types_names.proofs.Lists.{steps-at, others-at, when_ok}

@@ -1,6 +1,6 @@
 use Rattle.std.proofs.Common.{◌≡◌, map, drop}
 use Rattle.parser_grammar.specs.ReadSequences.{steps_of, others_of}
-use Rattle.parser_trees.specs.Views.{sequence_of, delay_step_of}
+use Rattle.parser_grammar.specs.Views.{sequence_of, delay_step_of}
 use Rattle.types_names.specs.Faults.{step_faults, other_faults, earlier, least}
 use Rattle.types_names.specs.Views.{scope_of}
 use Rattle.types_faults.proofs.sequence.+sequences.Given as goal

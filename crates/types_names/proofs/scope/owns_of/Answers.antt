@@ -1,7 +1,7 @@
 use Rattle.std.proofs.Common.{◌≡◌, ◌+◌, ℕ, List, ◌∷◌, map, drop, sym, ap, ◌∙◌, arith}
 use Rattle.parser_grammar.specs.Trees as trees
-use Rattle.parser_trees.specs.declared.item.ItemTree.{ItemTree}
-use Rattle.parser_trees.specs.Views.{item_of}
+use Rattle.parser_grammar.specs.declared.item.ItemTree.{ItemTree}
+use Rattle.parser_grammar.specs.Views.{item_of}
 use Rattle.types_names.specs.declared.own.Own.TheVariants.{Counter, Sequence}
 use Rattle.types_names.specs.Scopes.{look_up, owns, owns_from}
 use Rattle.types_names.specs.Views.{entries_in}

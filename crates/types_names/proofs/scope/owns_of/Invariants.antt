@@ -1,5 +1,5 @@
 use Rattle.std.proofs.Common.{◌≡◌, ◌≤◌, ℕ, List, map, drop}
-use Rattle.parser_trees.specs.Views.{item_of}
+use Rattle.parser_grammar.specs.Views.{item_of}
 use Rattle.types_names.specs.Scopes.{look_up, owns, owns_from}
 use Rattle.types_names.specs.Views.{entries_in}
 use Rattle.types_names.proofs.EntryLaws.{first_of}

@@ -1,13 +1,13 @@
 use Rattle.std.proofs.Common.{◌≡◌, ◌<◌, ℕ, map, length}
 use Rattle.types_sequences.specs.Views.{draft_of}
-use Rattle.types_sequences.specs.Entries.{IsTable, Accounts}
+use Rattle.types_sequences.specs.Entries.{IsEntryTable, Accounts}
 use Rattle.types_sequences.proofs.table.resolve.Given as goal
 
 abbrev pub invariant-sweeps : goal.invariant-sweeps
 invariant-sweeps l =
     record {
       long : length l.table.items ≡ length l.bodies;
-      entries : IsTable (map draft_of l.bodies) l.table.items;
+      entries : IsEntryTable (map draft_of l.bodies) l.table.items;
       accounts : (p : ℕ) → p < length l.bodies → Accounts l.table.items l.left.items p;
     }
 

@@ -3,8 +3,8 @@ use Rattle.parser_grammar.specs.Trees as trees
 use Rattle.assertions.specs.declared.sequence.Boolean.{Boolean}
 use Rattle.types_sequences.specs.Drafts.{Draft}
 use Rattle.types_sequences.specs.Views.{draft_of}
-use Rattle.parser_trees.specs.declared.item.ItemTree.{ItemTree}
-use Rattle.parser_trees.specs.Views.{counter_of, declaration_of, assertion_of, item_of}
+use Rattle.parser_grammar.specs.declared.item.ItemTree.{ItemTree}
+use Rattle.parser_grammar.specs.Views.{counter_of, declaration_of, assertion_of, item_of}
 use Rattle.types_names.specs.Views.{scope_of, columns_in}
 use Rattle.types_names.proofs.Lists.{at, past_end}
 use Rattle.types_suites.specs.Readings.{AllRead}

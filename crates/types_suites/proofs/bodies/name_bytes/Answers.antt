@@ -1,8 +1,8 @@
 use Rattle.std.proofs.Common.{◌≡◌, ◌+◌, ◌∷◌, [], ◌++◌, ℕ, List, map, drop, refl, sym, ap, ◌∙◌}
 use Rattle.std.proofs.lemmas.List.{map-append}
 use Rattle.parser_grammar.specs.Trees as trees
-use Rattle.parser_trees.specs.declared.item.ItemTree.{ItemTree}
-use Rattle.parser_trees.specs.Views.{counter_of, declaration_of, assertion_of, item_of}
+use Rattle.parser_grammar.specs.declared.item.ItemTree.{ItemTree}
+use Rattle.parser_grammar.specs.Views.{counter_of, declaration_of, assertion_of, item_of}
 use Rattle.types_names.proofs.Lists.{at, past_end}
 use Rattle.types_suites.specs.Texts.{declarations_of}
 use Rattle.types_suites.proofs.SeenLaws.{seen_start, seen_skip, seen_more, seen_all}

@@ -1,5 +1,5 @@
 use Rattle.std.proofs.Common.{◌≡◌, map, drop}
-use Rattle.parser_trees.specs.Views.{item_of}
+use Rattle.parser_grammar.specs.Views.{item_of}
 use Rattle.types_suites.specs.Texts.{declarations_of}
 use Rattle.types_suites.proofs.SeenLaws.{Seen}
 use Rattle.types_suites.proofs.bodies.name_bytes.Given as goal

@@ -1,6 +1,6 @@
 use Rattle.std.proofs.Common.{◌≡◌, Some, ap, ◌∙◌, sym}
 use Rattle.std.specs.Prelude.{option_map}
-use Rattle.parser_trees.specs.Views.{tree_of, boxed_of}
+use Rattle.parser_grammar.specs.Views.{tree_of, boxed_of}
 use Rattle.types_names.specs.Views.{scope_of, columns_in}
 use Rattle.types_suites.proofs.CounterLaws.{ready-optional}
 use Rattle.types_suites.proofs.counters.condition_of.Goals as goal

@@ -1,4 +1,4 @@
-use Rattle.parser_trees.specs.Views.{counter_of}
+use Rattle.parser_grammar.specs.Views.{counter_of}
 use Rattle.types_names.specs.Views.{scope_of, columns_in}
 use Rattle.types_suites.proofs.CounterLaws.{ready-counter}
 use Rattle.types_suites.proofs.counters.counter_of.Goals as goal

@@ -1,7 +1,7 @@
 use Rattle.std.proofs.Common.{◌≡◌, ◌+◌, ◌∷◌, map, drop, refl, ap, ◌∙◌}
 use Rattle.parser_grammar.specs.Trees as trees
-use Rattle.parser_trees.specs.declared.item.ItemTree.{ItemTree}
-use Rattle.parser_trees.specs.Views.{counter_of, declaration_of, assertion_of, item_of}
+use Rattle.parser_grammar.specs.declared.item.ItemTree.{ItemTree}
+use Rattle.parser_grammar.specs.Views.{counter_of, declaration_of, assertion_of, item_of}
 use Rattle.types_names.specs.Views.{scope_of, columns_in}
 use Rattle.types_names.proofs.Lists.{at, past_end}
 use Rattle.types_suites.proofs.CounterLaws.{ready-item, completes_start, completes_skip, completes_more, completes_all}

@@ -1,6 +1,6 @@
 use Rattle.std.proofs.Common.{◌≡◌, Some, ap}
 use Rattle.std.specs.Prelude.{option_map}
-use Rattle.parser_trees.specs.Views.{tree_of, pair_of}
+use Rattle.parser_grammar.specs.Views.{tree_of, pair_of}
 use Rattle.types_names.specs.Views.{scope_of, columns_in}
 use Rattle.types_suites.proofs.CounterLaws.{ready-clause}
 use Rattle.types_suites.proofs.counters.rule_of.Goals as goal

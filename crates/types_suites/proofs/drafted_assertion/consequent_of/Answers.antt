@@ -1,4 +1,4 @@
-use Rattle.parser_trees.specs.Views.{sequence_of}
+use Rattle.parser_grammar.specs.Views.{sequence_of}
 use Rattle.types_names.specs.Views.{scope_of, columns_in}
 use Rattle.types_names.specs.Faults.{sequence_faults}
 use Rattle.types_names.specs.Columns.{sequence_signals}

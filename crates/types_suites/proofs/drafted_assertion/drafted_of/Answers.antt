@@ -1,5 +1,5 @@
 use Rattle.std.specs.Prelude.{option_map}
-use Rattle.parser_trees.specs.Views.{boxed_of, property_of}
+use Rattle.parser_grammar.specs.Views.{boxed_of, property_of}
 use Rattle.types_sequences.specs.Views.{draft_of}
 use Rattle.types_names.specs.Views.{scope_of, columns_in}
 use Rattle.types_names.specs.Faults.{optional_faults, property_faults}

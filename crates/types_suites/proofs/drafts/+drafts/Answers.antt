@@ -1,6 +1,6 @@
 use Rattle.std.proofs.Common.{rules, refl}
-use Rattle.parser_trees.specs.declared.sequence.SequenceTree.TheViews.{the_lemmas}
-use Rattle.parser_trees.specs.Views.{sequence_of}
+use Rattle.parser_grammar.specs.declared.sequence.SequenceTree.TheViews.{the_lemmas}
+use Rattle.parser_grammar.specs.Views.{sequence_of}
 use Rattle.assertions.specs.declared.sequence.Boolean.TheVariants.{Listed}
 use Rattle.types_sequences.specs.Views.{draft_of}
 use Rattle.types_names.specs.Views.{scope_of, columns_in}

@@ -1,5 +1,5 @@
 use Rattle.std.proofs.Common.{arith}
-use Rattle.parser_trees.specs.Views.{tree_of}
+use Rattle.parser_grammar.specs.Views.{tree_of}
 use Rattle.types_names.specs.Views.{scope_of, columns_in}
 use Rattle.types_suites.proofs.ReadingLaws.{new_atom}
 use Rattle.types_suites.proofs.drafts.atom.Goals as goal

@@ -1,8 +1,8 @@
 use Rattle.std.proofs.Common.{map, drop}
-use Rattle.parser_trees.specs.Views.{item_of}
-use Rattle.types_sequences.specs.Entries.{Bodies, IsTable}
+use Rattle.parser_grammar.specs.Views.{item_of}
+use Rattle.types_sequences.specs.Entries.{Bodies, IsEntryTable}
 use Rattle.types_names.specs.Views.{scope_of, columns_in}
-use Rattle.types_sequences.specs.Placed.{Extends}
+use Rattle.types_sequences.specs.Placed.{ExtendsPlaces}
 use Rattle.types_suites.specs.Texts.{assertions_of}
 use Rattle.types_suites.specs.Resolved.{AreResolved}
 use Rattle.types_suites.proofs.CounterLaws.{AreReadyItems}
@@ -12,8 +12,8 @@ use Rattle.types_suites.proofs.resolved.all_resolved.Given as goal
 abbrev pub invariant-loop-item : goal.invariant-loop-item
 invariant-loop-item l = record {
   ready : AreReadyItems (scope_of l.scope) (columns_in l.columns) (map item_of (drop l.item-index l.items));
-  grows : Extends l.fn.booleans.items l.booleans.items;
-  made : (bodies : Bodies) → IsTable bodies l.table →
+  grows : ExtendsPlaces l.fn.booleans.items l.booleans.items;
+  made : (bodies : Bodies) → IsEntryTable bodies l.table →
       Seen assertions_of
       (λ us. AreResolved (scope_of l.scope) (columns_in l.columns) l.booleans.items bodies 0 us l.resolved.items)
       (map item_of l.items) (map item_of (drop l.item-index l.items));

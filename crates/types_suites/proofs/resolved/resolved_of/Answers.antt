@@ -1,6 +1,6 @@
 use Rattle.types_sequences.specs.Views.{draft_of}
 use Rattle.std.proofs.Common.{length}
-use Rattle.parser_trees.specs.Views.{property_of}
+use Rattle.parser_grammar.specs.Views.{property_of}
 use Rattle.types_names.specs.Views.{scope_of, columns_in}
 use Rattle.types_suites.proofs.ResolvedLaws.{antecedent_below, consequent_below}
 use Rattle.types_suites.proofs.resolved.resolved_of.Goals as goal

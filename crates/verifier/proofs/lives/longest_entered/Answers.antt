@@ -10,8 +10,8 @@ block-preserved c =
     ap (longest_entered c.args.next (drop c.args.next c.args.lives.now))
     (drop_more c.args.block.now c.block.k (Unless 0 0) c.block-test.true) in
     record {
-      left = omega (arith, e, c.block.invariant.left, c.larger-most.ensures, c.entered_life.ensures.life);
+      left = omega (arith, e, c.block.invariant.left, c.max-most.ensures, c.entered_life.ensures.life);
       few = λ m all. let a =
           c.block.invariant.few m all in let b = c.entered_life.ensures.few m all in
-          omega (arith, a, b, c.larger-most.ensures);
+          omega (arith, a, b, c.max-most.ensures);
     }

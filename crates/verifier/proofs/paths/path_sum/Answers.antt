@@ -1,6 +1,6 @@
 use Rattle.std.proofs.Common.{◌≡◌, ◌+◌, List, ◌∷◌, drop, ap, sym, ◌∙◌, arith}
 use Rattle.bytecode.specs.declared.block_instr.BlockInstr.{BlockInstr}
-use Rattle.verifier_inference.specs.Sections.{size_of}
+use Rattle.verifier_inference.specs.Sections.{instructions_in}
 use Rattle.verifier.specs.Limits.{path_sum}
 use Rattle.verifier_inference.specs.Views.{blocks_of}
 use Rattle.verifier_inference.proofs.SectionLaws.{blocks_at}
@@ -13,7 +13,7 @@ block_path-requires c =
     blocks_at c.args.blocks.now c.each.p c.index-blocks-p.result c.each-test.true c.index-blocks-p.is
     ∙ ap (λ (b : List BlockInstr). b ∷ drop (c.each.p + 1) (blocks_of c.args.blocks.now))
     (sym c.as_slice-block.ensures.value) in
-    omega (arith, c.each.invariant.size, ap size_of block)
+    omega (arith, c.each.invariant.size, ap instructions_in block)
 
 pub each-preserved : goal.each-preserved
 each-preserved c =
@@ -24,6 +24,6 @@ each-preserved c =
     (sym c.as_slice-block.ensures.value) in
     record {
       left = omega (arith, c.each.invariant.left, ap (path_sum c.each.base) block, c.in_ok-sum.ensures.path);
-      size = omega (arith, c.each.invariant.size, ap size_of block);
+      size = omega (arith, c.each.invariant.size, ap instructions_in block);
       few = omega (arith, c.each.invariant.few, c.in_ok-sum.ensures.few);
     }

@@ -39,9 +39,9 @@ code-preserved c =
           c.code.longest (length c.args.code.now) c.code.pc c.code.pc _ (Push 0 0)
           (arrived c.take_arrival-arrival.result) read (omega arith) refl
           (sym (read.holds c.code.pc _ (omega arith) c.take_arrival-arrival.ensures.taken))
-          (reverse c.in_ok-list.list.items) (HoldsFrom (c.code.pc + 1) c.send_on.new.pending) c.larger-longest.result
+          (reverse c.in_ok-list.list.items) (HoldsFrom (c.code.pc + 1) c.send_on.new.pending) c.max-longest.result
           c.in_ok-list.ensures.ok c.in_ok-list.ensures.left
-          (omega (arith, c.larger-longest.ensures, c.agreed_len.ensures))
+          (omega (arith, c.max-longest.ensures, c.agreed_len.ensures))
           (λ ms holds. subst
           (λ (f : Flow). HoldsFrom (c.code.pc + 1) c.send_on.new.pending
           (sends c.code.pc f (reverse c.in_ok-list.list.items) ms)) c.flow.ensures

@@ -1,26 +1,29 @@
 use Rattle.std.proofs.Common.{ap, arith}
-use Rattle.verifier_inference.specs.Sections.{size_of}
+use Rattle.verifier_inference.specs.Sections.{instructions_in}
 use Rattle.verifier_inference.proofs.SectionLaws.{blocks_at}
 use Rattle.verifier_inference.proofs.section_scan.capped_size.Goals as goal
 
 pub returns-then-more-gt4096 : goal.returns-then-more-gt4096
 returns-then-more-gt4096 c =
     let e =
-    ap size_of (blocks_at c.args.blocks.now c.each.p c.index-blocks-p.result c.each-test.true c.index-blocks-p.is)
+    ap instructions_in
+    (blocks_at c.args.blocks.now c.each.p c.index-blocks-p.result c.each-test.true c.index-blocks-p.is)
     in
     omega (arith, e, c.each.invariant.left, c.len-more.ensures)
 
 pub returns-then-size-gt4096 : goal.returns-then-size-gt4096
 returns-then-size-gt4096 c =
     let e =
-    ap size_of (blocks_at c.args.blocks.now c.each.p c.index-blocks-p.result c.each-test.true c.index-blocks-p.is)
+    ap instructions_in
+    (blocks_at c.args.blocks.now c.each.p c.index-blocks-p.result c.each-test.true c.index-blocks-p.is)
     in
     omega (arith, e, c.each.invariant.left, c.len-more.ensures)
 
 pub each-preserved : goal.each-preserved
 each-preserved c =
     let e =
-    ap size_of (blocks_at c.args.blocks.now c.each.p c.index-blocks-p.result c.each-test.true c.index-blocks-p.is)
+    ap instructions_in
+    (blocks_at c.args.blocks.now c.each.p c.index-blocks-p.result c.each-test.true c.index-blocks-p.is)
     in
     record {
       left = omega (arith, e, c.each.invariant.left, c.len-more.ensures);

@@ -1,11 +1,11 @@
 use Rattle.std.proofs.Common.{◌≡◌, ◌+◌, ◌≤◌, drop}
-use Rattle.verifier_inference.specs.Sections.{size_of}
+use Rattle.verifier_inference.specs.Sections.{instructions_in}
 use Rattle.verifier_inference.specs.Views.{blocks_of}
 use Rattle.verifier_inference.proofs.section_scan.capped_size.Given as goal
 
 abbrev pub invariant-each : goal.invariant-each
 invariant-each l =
     record {
-      left : l.size + size_of (drop l.p (blocks_of l.blocks)) ≡ size_of (blocks_of l.blocks);
+      left : l.size + instructions_in (drop l.p (blocks_of l.blocks)) ≡ instructions_in (blocks_of l.blocks);
       few : l.size ≤ 4096;
     }

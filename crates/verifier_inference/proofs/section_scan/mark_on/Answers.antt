@@ -1,14 +1,14 @@
 use Rattle.std.proofs.Common.{◌≡◌, ◌+◌, ◌-◌, [], ◌∷◌, set, length, true, sym, subst, arith}
 use Rattle.bytecode.specs.declared.flow.Flow.{Flow}
 use Rattle.verifier_inference.specs.Inference.{sends, jump_faults}
-use Rattle.verifier_inference.specs.Marks.{Reached}
+use Rattle.verifier_inference.specs.Marks.{MarksReached}
 use Rattle.verifier_inference.proofs.MarkLaws.{marked_set}
 use Rattle.verifier_inference.proofs.TypingLaws.{target_clear}
 use Rattle.verifier_inference.proofs.section_scan.mark_on.Goals as goal
 
 pub returns-in-GoesOn-clause-marks : goal.returns-in-GoesOn-clause-marks
 returns-in-GoesOn-clause-marks c = λ ms reached.
-    subst (λ (f : Flow). Reached c.args.base (set c.args.marks.now (c.args.k + 1) true)
+    subst (λ (f : Flow). MarksReached c.args.base (set c.args.marks.now (c.args.k + 1) true)
     (sends (c.args.base + c.args.k) f [] ms)) (sym c.in-GoesOn.is)
     (marked_set c.args.base (c.args.k + 1) (c.args.base + c.args.k + 1) c.args.marks.now ms (omega arith) reached)
 
@@ -18,7 +18,7 @@ returns-in-Jumps-clause-marks c = λ ms reached.
     target_clear (c.args.base + length c.args.marks.now) (c.args.base + c.args.k) c.in-Jumps.target
     (subst (λ (f : Flow). jump_faults (c.args.base + length c.args.marks.now) (c.args.base + c.args.k) f ≡ [])
     c.in-Jumps.is c.requires.forward) in
-    subst (λ (f : Flow). Reached c.args.base (set c.args.marks.now (c.in-Jumps.target - c.args.base) true)
+    subst (λ (f : Flow). MarksReached c.args.base (set c.args.marks.now (c.in-Jumps.target - c.args.base) true)
     (sends (c.args.base + c.args.k) f [] ms)) (sym c.in-Jumps.is)
     (marked_set c.args.base (c.in-Jumps.target - c.args.base) c.in-Jumps.target c.args.marks.now ms
     (omega (arith, jump.0)) reached)
@@ -29,7 +29,7 @@ returns-in-Branches-clause-marks c = λ ms reached.
     target_clear (c.args.base + length c.args.marks.now) (c.args.base + c.args.k) c.in-Branches.target
     (subst (λ (f : Flow). jump_faults (c.args.base + length c.args.marks.now) (c.args.base + c.args.k) f ≡ [])
     c.in-Branches.is c.requires.forward) in
-    subst (λ (f : Flow). Reached c.args.base
+    subst (λ (f : Flow). MarksReached c.args.base
     (set (set c.args.marks.now (c.in-Branches.target - c.args.base) true) (c.args.k + 1) true)
     (sends (c.args.base + c.args.k) f [] ms)) (sym c.in-Branches.is)
     (marked_set c.args.base (c.args.k + 1) (c.args.base + c.args.k + 1)

@@ -3,7 +3,7 @@ use Rattle.std.proofs.lemmas.Option.{slice_get-get_or}
 use Rattle.bytecode.specs.declared.flow.Flow.{Flow}
 use Rattle.bytecode.specs.declared.block_instr.BlockInstr.TheVariants.{Unless}
 use Rattle.verifier_inference.specs.Inference.{sends, jump_faults, end_faults}
-use Rattle.verifier_inference.specs.Marks.{Reached}
+use Rattle.verifier_inference.specs.Marks.{MarksReached}
 use Rattle.verifier_inference.proofs.BlockLaws.{block_start, block_refused, block_step, block_parts}
 use Rattle.verifier_inference.proofs.BlockLaws.{block_stop}
 use Rattle.verifier_inference.proofs.section_scan.scan_marks.Goals as goal
@@ -62,7 +62,7 @@ block-preserved c =
           (slice_get-get_or c.block.marks c.block.k false (omega (arith, c.block.invariant.long))) c.mark_on.new.marks
           (sym c.in-None.is ∙ c.block_fault.ensures)
           (λ ms reached. subst
-          (λ (f : Flow). Reached c.args.base c.mark_on.new.marks (sends (c.args.base + c.block.k) f [] ms))
+          (λ (f : Flow). MarksReached c.args.base c.mark_on.new.marks (sends (c.args.base + c.block.k) f [] ms))
           c.flow.ensures (c.mark_on.ensures.marks ms reached));
       long = c.mark_on.ensures.long ∙ c.block.invariant.long;
     }

@@ -4,7 +4,7 @@ use Rattle.bytecode.specs.declared.block_instr.BlockInstr.{BlockInstr}
 use Rattle.verifier_inference.specs.Rules.{block_rules, section_of_side}
 use Rattle.verifier_inference.specs.Inference.{code_faults}
 use Rattle.verifier_inference.specs.Scans.{IsFirstOf}
-use Rattle.verifier_inference.specs.Sections.{size_of}
+use Rattle.verifier_inference.specs.Sections.{instructions_in}
 use Rattle.verifier_inference.specs.Marks.{found_in}
 use Rattle.bytecode.specs.Views.{section_data}
 use Rattle.verifier_inference.proofs.SectionLaws.{blocks_at, see_start, see_block}
@@ -48,5 +48,5 @@ each-preserved c =
           (code_faults (block_rules (section_of_side c.args.side) c.args.atoms n c.each.p) c.each.base
           c.as_slice-block.result.now)
           (found_in (section_of_side c.args.side) c.in_ok-scan_block.field-0)) many (c.in_ok-scan_block.ensures)));
-      size = omega (arith, c.each.invariant.size, ap size_of block);
+      size = omega (arith, c.each.invariant.size, ap instructions_in block);
     }

@@ -12,8 +12,8 @@ use Rattle.workers_core.proofs.CorePartLaws.{get-some}
 use Rattle.workers_lines.specs.declared.growing_line.GrowingLine.{GrowingLine}
 use Rattle.workers_lines.proofs.LineLaws.{line-more}
 use Rattle.workers_lines.proofs.TakenLaws.{each-but}
-use Rattle.workers_bench.specs.declared.numbered.Numbered.{Numbered}
-use Rattle.workers_bench.specs.Monitors.{IsAt}
+use Rattle.workers_shared.specs.declared.numbered.Numbered.{Numbered}
+use Rattle.workers_shared.specs.Monitors.{IsMonitorAt}
 use Rattle.workers.specs.Between.{IsTold, clocks_of}
 use Rattle.workers.specs.Tallied.{told_by}
 use Rattle.workers.proofs.Telling.{all-at, get-other}
@@ -66,7 +66,7 @@ program_line-requires-clause-at c =
     let at : slice_get c.args.stopped.now n ≡ Some x =
     get-some c.args.stopped.now n x (omega (arith, below, all, c.requires.many))
     ∙ ap (λ (y : Numbered). Some y) (sym c.index-stopped-number.is) in
-    all-at (IsAt j (clocks_of j)) c.args.stopped.now n x c.requires.at at
+    all-at (IsMonitorAt j (clocks_of j)) c.args.stopped.now n x c.requires.at at
 
 pub loop-number-preserved : goal.loop-number-preserved
 loop-number-preserved c =

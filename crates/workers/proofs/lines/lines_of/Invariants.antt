@@ -9,7 +9,7 @@ use Rattle.machine_runs.specs.Lines.{IsLineOver, attempts_of}
 use Rattle.workers_core.specs.Values.{Says, job_value, rows_over}
 use Rattle.workers_lines.specs.declared.growing_line.GrowingLine.{GrowingLine}
 use Rattle.workers.specs.Between.{IsTold, clocks_of}
-use Rattle.workers.specs.Tallied.{told_by, said_by}
+use Rattle.workers.specs.Tallied.{told_by, lines_said}
 use Rattle.workers.proofs.lines.lines_of.Given as goal
 
 -- the lines of the programs so far, and what the others told
@@ -23,5 +23,5 @@ invariant-loop-number l = record {
   rest : (i : ℕ) (x : GrowingLine) → l.number ≤ i → slice_get l.told.items i ≡ Some x
       → IsTold l.job (clocks_of l.job) i x;
   same : (i : ℕ) → l.number ≤ i → slice_get l.told.items i ≡ slice_get l.fn.told.items i;
-  kinds : (k : ℕ) → said_by k l.lines.items ≡ told_by k (take l.number l.fn.told.items);
+  kinds : (k : ℕ) → lines_said k l.lines.items ≡ told_by k (take l.number l.fn.told.items);
 }

@@ -1,8 +1,8 @@
 use Rattle.std.proofs.Common.{◌≡◌, ℕ, List, All, length, ap, ◌∙◌, sym, subst, arith}
 use Rattle.std.specs.Prelude.{slice_get}
 use Rattle.cycle_window.specs.Held.{end_in}
-use Rattle.workers_bench.specs.declared.numbered.Numbered.{Numbered}
-use Rattle.workers_bench.specs.Monitors.{IsAt}
+use Rattle.workers_shared.specs.declared.numbered.Numbered.{Numbered}
+use Rattle.workers_shared.specs.Monitors.{IsMonitorAt}
 use Rattle.workers.specs.Between.{IsTold, IsBetween, clocks_of}
 use Rattle.workers.proofs.Telling.{placed-monitor, none-told}
 use Rattle.workers.proofs.Adding.{none-told-by, all-counts, four-held}
@@ -12,7 +12,7 @@ use Rattle.verdicts.specs.Lines.{LineData, ReportData, report_of}
 use Rattle.verdicts.specs.Shown.{data_of}
 use Rattle.workers_core.specs.Values.{job_value}
 use Rattle.workers_lines.specs.Lines.{AreLinesOf}
-use Rattle.workers.specs.Tallied.{shared_by, said_by}
+use Rattle.workers.specs.Tallied.{shared_by, lines_said}
 use Rattle.workers.proofs.runs.run_in.Goals as goal
 
 pub run_rounds-requires-clause-between : goal.run_rounds-requires-clause-between
@@ -28,7 +28,7 @@ run_rounds-requires-clause-between g c =
       inside = omega (arith, first.end);
       order = c.in_ok-monitors.ensures.order;
       many = omega (arith, c.in_ok-monitors.ensures.count, ms.ok.0);
-      at = subst (λ (n : ℕ). All (IsAt j n) ms.items) (sym first.end) c.in_ok-monitors.ensures.start;
+      at = subst (λ (n : ℕ). All (IsMonitorAt j n) ms.items) (sym first.end) c.in_ok-monitors.ensures.start;
       lines = omega (arith, c.in_ok-told.ensures.long, ls.ok.0, c.len.ensures, c.in_ok-monitors.ensures.count);
       told = λ i l is. subst (λ (n : ℕ). IsTold j n i l) (sym first.end)
           (none-told j i l (c.in_ok-told.ensures.none i l is));
@@ -52,8 +52,8 @@ lines_of-requires-clause-at g c =
     let between = c.in_ok-members-2.ensures.between in
     let e : end_in c.run_rounds.new.window ≡ clocks_of j =
     omega (arith, between.inside, c.in_ok-members-2.ensures.end) in
-    subst (All (IsAt j (clocks_of j))) (sym c.as_slice.ensures.value)
-    (subst (λ (n : ℕ). All (IsAt j n) c.in_ok-members-2.stopped.items) e between.at)
+    subst (All (IsMonitorAt j (clocks_of j))) (sym c.as_slice.ensures.value)
+    (subst (λ (n : ℕ). All (IsMonitorAt j n) c.in_ok-members-2.stopped.items) e between.at)
 
 pub lines_of-requires-clause-told : goal.lines_of-requires-clause-told
 lines_of-requires-clause-told g c = λ i l is.
@@ -68,7 +68,7 @@ report_with-requires g c =
     let shares = c.in_ok-shares.shares.items in
     let lines = c.in_ok-lines.lines.items in
     c.total-totals.ensures
-    ∙ four-held (λ (k : ℕ). shared_by k shares) (λ (k : ℕ). said_by k lines)
+    ∙ four-held (λ (k : ℕ). shared_by k shares) (λ (k : ℕ). lines_said k lines)
     (λ k.
     c.in_ok-shares.ensures.added k
     ∙ (c.in_ok-members-2.ensures.tallied k ∙ sym (c.in_ok-lines.ensures.kinds k)))

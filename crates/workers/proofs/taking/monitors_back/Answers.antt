@@ -1,6 +1,6 @@
 use Rattle.std.proofs.Common.{◌++◌, ◌∷◌, [], ap, ◌∙◌, sym, map, List, append_assoc, rules}
 use Rattle.std.specs.Vec.Iter.{into_iter_items}
-use Rattle.workers_bench.specs.declared.numbered.Numbered.{Numbered}
+use Rattle.workers_shared.specs.declared.numbered.Numbered.{Numbered}
 use Rattle.workers_rounds.specs.declared.work.Published.{Published}
 use Rattle.workers.specs.Taking.{numbered_of}
 use Rattle.workers.proofs.taking.monitors_back.Goals as goal

@@ -6,7 +6,7 @@ use Rattle.std.proofs.lemmas.Option.{slice_get_within}
 use Rattle.signals.specs.declared.verdict.Decided.{Decided}
 use Rattle.machine_runs.specs.declared.batch.Batch.{Batch}
 use Rattle.workers_core.proofs.CorePartLaws.{get-some}
-use Rattle.workers_board.specs.Receipts.{shown_by}
+use Rattle.workers_shared.specs.Receipts.{shown_by}
 use Rattle.workers_lines.specs.declared.growing_line.GrowingLine.{GrowingLine}
 use Rattle.workers_lines.specs.Taken.{TookIn}
 use Rattle.workers_lines.proofs.TakenLaws.{each-but}

@@ -1,7 +1,7 @@
 use Rattle.std.proofs.Common.{◌≡◌, ◌∙◌, ℕ, List, sym, ap, map}
 use Rattle.std.specs.List.{slice_index, sum_by}
 use Rattle.verdicts.specs.Lines.{LineData, ReportData, line, held_count}
-use Rattle.workers.specs.Tallied.{count_in, said_by}
+use Rattle.workers.specs.Tallied.{count_in, lines_said}
 use Rattle.workers.proofs.Adding.{said-line, with-total}
 use Rattle.workers.proofs.totals.report_with.Goals as goal
 
@@ -10,7 +10,7 @@ returns c =
     let ls = c.args.lines.items in
     let is = c.requires in
     let held : (k : ℕ) → held_count (sum_by (λ (l : LineData). count_in k l.counts) (map line ls))
-    ≡ held_count (said_by k ls) =
+    ≡ held_count (lines_said k ls) =
     (λ k. ap held_count (said-line k ls)) in
     let holds = ap (λ (ts : List ℕ). slice_index ts 0) is ∙ sym (held 0) in
     let vacuous = ap (λ (ts : List ℕ). slice_index ts 1) is ∙ sym (held 1) in

@@ -1,23 +1,23 @@
 use Rattle.std.proofs.Common.{◌≡◌, ◌+◌, ◌++◌, ◌∙◌, ap, refl, None, subst, All, arith, rules}
 use Rattle.std.specs.Vec.Iter.{into_iter_items}
 use Rattle.std.proofs.lemmas.List.Elements.{All-head, All-tail, All-append, All-same}
-use Rattle.workers_bench.specs.declared.hand.Hand.{Hand}
-use Rattle.workers_bench.specs.Hands.{total}
-use Rattle.workers_bench.specs.Passes.{parts_of, taken_of}
-use Rattle.workers_bench.specs.Benches.{IsOf}
+use Rattle.workers_shared.specs.declared.hand.Hand.{Hand}
+use Rattle.workers_shared.specs.Hands.{total}
+use Rattle.workers_shared.specs.Passes.{pass_parts, taken_of}
+use Rattle.workers_shared.specs.Benches.{IsPassOfBench}
 use Rattle.workers_rounds.specs.declared.round.Member.{Member}
 use Rattle.workers_rounds.specs.Works.{IsPublished, published_count}
-use Rattle.workers_rounds.specs.Adding.{kind_of, amount_of, added_by, added_by_worked, counted_by}
+use Rattle.workers_rounds.specs.Adding.{is_of_kind, amount_of, added_by, added_by_worked, kind_counted}
 use Rattle.workers_rounds.proofs.Added.{counts-append}
-use Rattle.workers_rounds.specs.Runs.{Ends, published_numbers, IsMember}
-use Rattle.workers_bench.proofs.Keeps.{all_pushed, total_push}
+use Rattle.workers_rounds.specs.Runs.{EndsRound, published_numbers, IsMember}
+use Rattle.workers_shared.proofs.Keeps.{all_pushed, total_push}
 use Rattle.workers_rounds.proofs.Orders.{published_more, back_none}
 use Rattle.workers_rounds.proofs.round.gathered.Goals as goal
 
 pub loop-worked-preserved : goal.loop-worked-preserved
 loop-worked-preserved g c =
     let was = c.loop-worked.invariant in let steps = c.in-Some.ensures.steps in
-    let E = Ends c.args.bench.now c.args.board.now c.args.window.now in
+    let E = EndsRound c.args.bench.now c.args.board.now c.args.window.now in
     let P = IsPublished c.args.bench.now.job.now c.args.window.now c.args.board.now in
     let all = subst (All E) steps.0 was.3 in
     let ends = All-head E c.in-Some.worked (into_iter_items c.next.new.self) all in
@@ -27,10 +27,10 @@ loop-worked-preserved g c =
       search rules,
       (search rules, search rules),
       All-tail E c.in-Some.worked (into_iter_items c.next.new.self) all,
-      all_pushed (IsOf c.args.bench.now) _ _ _ pushed was.4 ends.of,
+      all_pushed (IsPassOfBench c.args.bench.now) _ _ _ pushed was.4 ends.of,
       omega (
         arith,
-        total_push parts_of _ _ _ pushed,
+        total_push pass_parts _ _ _ pushed,
         ap
             (λ (v : Hand). v.parts) ends.taken,
         was.5,
@@ -61,13 +61,13 @@ loop-worked-preserved g c =
           omega (arith, was.9 k)),
       (λ k.
           let w = c.in-Some.worked in
-          let more : published_count (kind_of k) c.append.new.self.items
-          ≡ published_count (kind_of k) c.loop-worked.published.items + published_count
-          (kind_of k) w.published.items =
-          counts-append (kind_of k) c.loop-worked.published.items w.published.items
+          let more : published_count (is_of_kind k) c.append.new.self.items
+          ≡ published_count (is_of_kind k) c.loop-worked.published.items + published_count
+          (is_of_kind k) w.published.items =
+          counts-append (is_of_kind k) c.loop-worked.published.items w.published.items
           c.append.new.self.items joined in
-          let left : counted_by k (into_iter_items c.loop-worked.worked-iterator)
-          ≡ published_count (kind_of k) w.published.items + counted_by k (into_iter_items c.next.new.self) =
-          ap (counted_by k) steps.0 in
+          let left : kind_counted k (into_iter_items c.loop-worked.worked-iterator)
+          ≡ published_count (is_of_kind k) w.published.items + kind_counted k (into_iter_items c.next.new.self) =
+          ap (kind_counted k) steps.0 in
           omega (arith, was.10 k)),
     )

@@ -1,11 +1,11 @@
 use Rattle.std.proofs.Common.{◌≡◌, ◌≤◌, ◌++◌, ◌∷◌, ap, ◌∙◌, sym, subst, vec_len, rules, All}
 use Rattle.std.proofs.lemmas.List.Elements.{All-same}
-use Rattle.workers_bench.specs.Monitors.{IsAt}
+use Rattle.workers_shared.specs.Monitors.{IsMonitorAt}
 use Rattle.std.specs.Vec.Iter.{into_iter_items}
-use Rattle.workers_bench.specs.declared.hand.Hand.{Hand}
-use Rattle.workers_bench.specs.declared.numbered.Numbered.{Numbered}
-use Rattle.workers_bench.specs.Hands.{end_of, numbers, Rises}
-use Rattle.workers_bench.proofs.Keeps.{next_rises}
+use Rattle.workers_shared.specs.declared.hand.Hand.{Hand}
+use Rattle.workers_shared.specs.declared.numbered.Numbered.{Numbered}
+use Rattle.workers_shared.specs.Hands.{end_after, numbers, NumbersRise}
+use Rattle.workers_shared.proofs.Keeps.{next_rises}
 use Rattle.workers_rounds.proofs.Orders.{rises_upto, middle}
 use Rattle.workers_rounds.proofs.round.put_all.Goals as goal
 
@@ -14,13 +14,13 @@ put-back-requires-clause-order g c =
     let was = c.loop-monitor.invariant in let m : Numbered = c.in-Some.monitor in
     let steps = c.in-Some.ensures.steps in
     let above = next_rises c.args.monitors.items c.loop-monitor.yielded (into_iter_items c.next.new.self) m
-    (subst Rises (sym c.requires.order) (rises_upto 0 (vec_len c.args.monitors)))
+    (subst NumbersRise (sym c.requires.order) (rises_upto 0 (vec_len c.args.monitors)))
     (ap (λ l. c.loop-monitor.yielded ++ l) (sym steps.0) ∙ was.2) in
-    subst (λ (v : Hand). end_of 0 v.put ≤ m.number) (sym was.1) above
+    subst (λ (v : Hand). end_after 0 v.put ≤ m.number) (sym was.1) above
 
 pub put-back-requires-clause-job : goal.put-back-requires-clause-job
 put-back-requires-clause-job g c =
-    let P = IsAt c.args.bench.now.job.now c.args.bench.now.at in
+    let P = IsMonitorAt c.args.bench.now.job.now c.args.bench.now.at in
     let m : Numbered = c.in-Some.monitor in
     let rest = into_iter_items c.next.new.self in
     let same = ap (λ l. c.loop-monitor.yielded ++ l) (sym c.in-Some.ensures.steps.0) ∙ c.loop-monitor.invariant.2 in

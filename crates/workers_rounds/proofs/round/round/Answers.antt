@@ -1,16 +1,16 @@
 use Rattle.std.proofs.Common.{◌≡◌, ◌+◌, ◌∙◌, ap, sym, subst, vec_len, arith, rules}
 use Rattle.std.proofs.lemmas.List.Sorted.{All-permutation}
 use Rattle.crossbeam_queue.specs.Passes.{view}
-use Rattle.workers_bench.specs.declared.hand.Hand.{Hand}
-use Rattle.workers_bench.specs.Hands.{Rises, total, numbers}
-use Rattle.workers_bench.specs.Passes.{taken_of}
+use Rattle.workers_shared.specs.declared.hand.Hand.{Hand}
+use Rattle.workers_shared.specs.Hands.{NumbersRise, total, numbers}
+use Rattle.workers_shared.specs.Passes.{taken_of}
 use Rattle.workers_rounds.specs.Works.{IsPublished}
-use Rattle.workers_bench.proofs.Keeps.{all_popped, all_pushed}
+use Rattle.workers_shared.proofs.Keeps.{all_popped, all_pushed}
 use Rattle.workers_rounds.specs.Runs.{published_numbers, upto, IsMember}
 use Rattle.workers_rounds.specs.declared.round.Member.{Member}
 use Rattle.workers_rounds.specs.Works.{published_count}
-use Rattle.workers_rounds.specs.Adding.{kind_of, amount_of, added_by, added_by_tasks, added_by_worked, counted_by}
-use Rattle.workers_bench.proofs.Keeps.{total_push}
+use Rattle.workers_rounds.specs.Adding.{is_of_kind, amount_of, added_by, added_by_tasks, added_by_worked, kind_counted}
+use Rattle.workers_shared.proofs.Keeps.{total_push}
 use Rattle.workers_rounds.proofs.Added.{works-add, counts-moved}
 use Rattle.workers_rounds.proofs.Orders.{ends_all, ordered, moved}
 use Rattle.workers_rounds.proofs.round.round.Goals as goal
@@ -62,10 +62,10 @@ returns-clause-members g c =
 pub returns-clause-added : goal.returns-clause-added
 returns-clause-added g c = λ k.
     let one = λ (m : Member g.row.L.Denot). amount_of k m.share in
-    let is = kind_of k in
+    let is = is_of_kind k in
     let begun = c.in_ok-tasks.ensures.added k in
     let worked : added_by_worked k c.in_ok-all.all.items
-    ≡ added_by_tasks k c.in_ok-tasks.tasks.items + counted_by k c.in_ok-all.all.items =
+    ≡ added_by_tasks k c.in_ok-tasks.tasks.items + kind_counted k c.in_ok-all.all.items =
     works-add c.in_ok-bench.bench c.args.board.now c.args.window.now k c.in_ok-tasks.tasks.items
     c.in_ok-all.all.items c.in_ok-all.ensures.count c.in_ok-all.ensures.each in
     let back = c.in_ok-passes.ensures.added k in

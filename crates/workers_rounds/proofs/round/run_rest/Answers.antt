@@ -3,16 +3,16 @@ use Rattle.std.specs.Vec.Iter.{into_iter_items}
 use Rattle.std.proofs.lemmas.List.Elements.{All-head, All-tail}
 use Rattle.cycle_window.specs.Held.{first_in}
 use Rattle.workers_rounds.specs.declared.work.Published.{Published}
-use Rattle.workers_bench.specs.Monitors.{IsAt}
-use Rattle.workers_bench.specs.Hands.{total, numbers}
+use Rattle.workers_shared.specs.Monitors.{IsMonitorAt}
+use Rattle.workers_shared.specs.Hands.{total, numbers}
 use Rattle.workers_rounds.specs.Works.{IsPublished, published_count}
 use Rattle.workers_rounds.specs.Runs.{published_numbers}
-use Rattle.workers_bench.proofs.Keeps.{all_pushed}
+use Rattle.workers_shared.proofs.Keeps.{all_pushed}
 use Rattle.machine_runs.specs.declared.batch.Batch.{Batch}
-use Rattle.workers_tally.specs.Shares.{amounts, plus, EachAtMost}
-use Rattle.workers_tally.specs.Counts.{count_of, counts_of}
-use Rattle.workers_board.specs.Receipts.{shown_by}
-use Rattle.workers_rounds.specs.Adding.{kind_of, amount_of}
+use Rattle.workers_shared.specs.Shares.{amounts, plus, EachAtMost}
+use Rattle.workers_shared.specs.Counts.{count_of, counts_of}
+use Rattle.workers_shared.specs.Receipts.{shown_by}
+use Rattle.workers_rounds.specs.Adding.{is_of_kind, amount_of}
 use Rattle.workers_rounds.proofs.Added.{same-amount, more-amount, counts-push}
 use Rattle.workers_rounds.proofs.Placing.{stands-at}
 use Rattle.workers_rounds.proofs.Running.{fits-one}
@@ -21,7 +21,7 @@ use Rattle.workers_rounds.proofs.round.run_rest.Goals as goal
 
 pub run_one-monitor-requires-clause-stands : goal.run_one-monitor-requires-clause-stands
 run_one-monitor-requires-clause-stands g c =
-    let P = IsAt c.args.job.now (first_in c.args.window.now) in
+    let P = IsMonitorAt c.args.job.now (first_in c.args.window.now) in
     let all = subst (All P) c.in-Some.ensures.steps.0 c.loop-monitor.invariant.0 in
     let here = All-head P c.in-Some.monitor (into_iter_items c.next.new.self) all in
     stands-at c.args.job.now c.args.window.now (first_in c.args.window.now) c.in-Some.monitor c.requires.window.0
@@ -29,7 +29,7 @@ run_one-monitor-requires-clause-stands g c =
 
 pub run_one-monitor-requires-clause-here : goal.run_one-monitor-requires-clause-here
 run_one-monitor-requires-clause-here g c =
-    let P = IsAt c.args.job.now (first_in c.args.window.now) in
+    let P = IsMonitorAt c.args.job.now (first_in c.args.window.now) in
     let all = subst (All P) c.in-Some.ensures.steps.0 c.loop-monitor.invariant.0 in
     (All-head P c.in-Some.monitor (into_iter_items c.next.new.self) all).now
 
@@ -38,7 +38,7 @@ is_within-requires g c = let was = c.loop-monitor.invariant in omega (arith, was
 
 pub read-requires : goal.read-requires
 read-requires g c =
-    let P = IsAt c.args.job.now (first_in c.args.window.now) in
+    let P = IsMonitorAt c.args.job.now (first_in c.args.window.now) in
     let all = subst (All P) c.in-Some.ensures.steps.0 c.loop-monitor.invariant.0 in
     let here = All-head P c.in-Some.monitor (into_iter_items c.next.new.self) all in
     let done = rw c.in-Some-receipt.is at c.run_one-monitor.ensures.published in
@@ -50,7 +50,7 @@ add-totals-requires-clause-part g c = let was =
 
 pub add-totals-requires-clause-fits : goal.add-totals-requires-clause-fits
 add-totals-requires-clause-fits g c =
-    let P = IsAt c.args.job.now (first_in c.args.window.now) in
+    let P = IsMonitorAt c.args.job.now (first_in c.args.window.now) in
     let all = subst (All P) c.in-Some.ensures.steps.0 c.loop-monitor.invariant.0 in
     let here = All-head P c.in-Some.monitor (into_iter_items c.next.new.self) all in
     let p : Published = record { monitor = c.run_one-monitor.result.0; receipt = c.in-Some-receipt.receipt } in
@@ -65,7 +65,7 @@ add-totals-requires-clause-fits g c =
 pub loop-monitor-preserved : goal.loop-monitor-preserved
 loop-monitor-preserved g c =
     let was = c.loop-monitor.invariant in let steps = c.in-Some.ensures.steps in
-    let P = IsAt c.args.job.now (first_in c.args.window.now) in
+    let P = IsMonitorAt c.args.job.now (first_in c.args.window.now) in
     let all = subst (All P) steps.0 was.0 in
     let m = c.in-Some.monitor in
     let p : Published = record { monitor = c.run_one-monitor.result.0; receipt = c.in-Some-receipt.receipt } in
@@ -88,14 +88,14 @@ loop-monitor-preserved g c =
           let one : amount_of k c.is_within.new.share ≡ amount_of k c.loop-monitor.share =
           same-amount k _ _ c.is_within.ensures.same in
           let grown : amount_of k c.add-totals.new.share
-          ≡ amount_of k c.is_within.new.share + count_of (kind_of k) (shown_by p.receipt).decided.items =
+          ≡ amount_of k c.is_within.new.share + count_of (is_of_kind k) (shown_by p.receipt).decided.items =
           more-amount k c.is_within.new.share c.add-totals.new.share (shown_by p.receipt).decided.items
           (c.add-totals.ensures.grown
           ∙ ap (λ (b : Batch). plus (amounts c.is_within.new.share)
           (counts_of b.decided.items)) c.read.ensures) in
-          let more : published_count (kind_of k) c.push.new.self.items
-          ≡ published_count (kind_of k) c.loop-monitor.published.items + count_of (kind_of k)
+          let more : published_count (is_of_kind k) c.push.new.self.items
+          ≡ published_count (is_of_kind k) c.loop-monitor.published.items + count_of (is_of_kind k)
           (shown_by p.receipt).decided.items =
-          counts-push (kind_of k) c.loop-monitor.published.items c.push.new.self.items p pushed in
+          counts-push (is_of_kind k) c.loop-monitor.published.items c.push.new.self.items p pushed in
           omega (arith, was.4 k)),
     )

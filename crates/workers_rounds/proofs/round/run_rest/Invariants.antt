@@ -1,21 +1,21 @@
 use Rattle.std.proofs.Common.{◌≡◌, ◌+◌, ◌<◌, ℕ, All, vec_len}
 use Rattle.std.specs.Vec.Iter.{into_iter_items}
 use Rattle.cycle_window.specs.Held.{first_in}
-use Rattle.workers_tally.specs.Shares.{parts}
-use Rattle.workers_bench.specs.Monitors.{IsAt}
-use Rattle.workers_bench.specs.Hands.{total, numbers}
+use Rattle.workers_shared.specs.Shares.{parts}
+use Rattle.workers_shared.specs.Monitors.{IsMonitorAt}
+use Rattle.workers_shared.specs.Hands.{total, numbers}
 use Rattle.workers_rounds.specs.Works.{IsPublished, published_count}
-use Rattle.workers_rounds.specs.Adding.{kind_of, amount_of}
+use Rattle.workers_rounds.specs.Adding.{is_of_kind, amount_of}
 use Rattle.workers_rounds.specs.Runs.{published_numbers}
 use Rattle.workers_rounds.proofs.round.run_rest.Given as goal
 
 abbrev pub invariant-loop-monitor : goal.invariant-loop-monitor
 invariant-loop-monitor g l =
-    All (IsAt l.job (first_in l.window)) (into_iter_items l.monitor-iterator)
+    All (IsMonitorAt l.job (first_in l.window)) (into_iter_items l.monitor-iterator)
     × ((h : ℕ → ℕ) → total h (published_numbers l.published.items) + total h
     (numbers (into_iter_items l.monitor-iterator))
     ≡ total h (published_numbers l.fn.published.items) + total h (numbers l.fn.rest.items))
     × All (IsPublished l.job l.window l.board) l.published.items
     × (parts l.share ≡ 1)
-    × ((k : ℕ) → amount_of k l.share + published_count (kind_of k) l.fn.published.items
-    ≡ amount_of k l.fn.share + published_count (kind_of k) l.published.items)
+    × ((k : ℕ) → amount_of k l.share + published_count (is_of_kind k) l.fn.published.items
+    ≡ amount_of k l.fn.share + published_count (is_of_kind k) l.published.items)

@@ -1,11 +1,11 @@
 use Rattle.std.proofs.Common.{◌≡◌, ◌+◌, ◌^◌, true, ap, ◌∙◌, sym, subst, All, arith, rules}
 use Rattle.std.specs.Vec.Iter.{into_iter_items}
 use Rattle.std.proofs.lemmas.List.Elements.{All-head, All-tail}
-use Rattle.workers_tally.specs.Shares.{amounts, EachAtMost}
-use Rattle.workers_bench.specs.Passes.{TakesNone}
-use Rattle.workers_bench.specs.Benches.{IsOf, round_of}
+use Rattle.workers_shared.specs.Shares.{amounts, EachAtMost}
+use Rattle.workers_shared.specs.Passes.{TakesNone}
+use Rattle.workers_shared.specs.Benches.{IsPassOfBench, round_of}
 use Rattle.workers_rounds.specs.Runs.{IsMember, Begins}
-use Rattle.workers_bench.proofs.Keeps.{all_pushed, all_popped, total_push}
+use Rattle.workers_shared.proofs.Keeps.{all_pushed, all_popped, total_push}
 use Rattle.workers_rounds.specs.declared.crew.Task.{Task}
 use Rattle.workers_rounds.specs.Adding.{amount_of, added_by, added_by_tasks}
 use Rattle.workers_rounds.proofs.Added.{same-amount}
@@ -14,7 +14,7 @@ use Rattle.workers_rounds.proofs.round.tasks_of.Goals as goal
 pub loop-member-preserved : goal.loop-member-preserved
 loop-member-preserved g c =
     let was = c.loop-member.invariant in let steps = c.in-Some.ensures.steps in
-    let popped = all_popped (λ pass. IsOf c.args.bench.now pass
+    let popped = all_popped (λ pass. IsPassOfBench c.args.bench.now pass
     × TakesNone (round_of c.args.bench.now) pass) _ _ c.in-Some-pop.pass c.in-Some-pop.ensures.items was.3 in
     let members = subst (All IsMember) steps.0 was.4 in
     let member = All-head IsMember c.in-Some.member (into_iter_items c.next.new.self) members in (

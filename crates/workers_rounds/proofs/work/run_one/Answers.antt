@@ -1,15 +1,16 @@
 use Rattle.std.proofs.Common.{subst, sym}
 use Rattle.cycle_window.specs.Held.{first_in, end_in}
-use Rattle.workers_bench.specs.declared.numbered.Numbered.{Numbered}
-use Rattle.workers_bench.specs.Monitors.{IsAt}
+use Rattle.workers_shared.specs.declared.numbered.Numbered.{Numbered}
+use Rattle.workers_shared.specs.Monitors.{IsMonitorAt}
 use Rattle.workers_rounds.specs.Works.{IsBatch, IsPublished}
 use Rattle.workers_rounds.proofs.work.run_one.Goals as goal
 
 pub returns-in-Err-clause-refused : goal.returns-in-Err-clause-refused
 returns-in-Err-clause-refused g c = λ j h at.
     let x : Numbered = c.pass_through.new.given in
-    let new : IsAt j (first_in c.args.window.now) x = c.in-Err.ensures.refused j (first_in c.args.window.now) at in
-    subst (λ k. IsAt j k x) (sym new.now) new
+    let new : IsMonitorAt j (first_in c.args.window.now) x = c.in-Err.ensures.refused j
+    (first_in c.args.window.now) at in
+    subst (λ k. IsMonitorAt j k x) (sym new.now) new
 
 pub returns-in-Ok-publish-clause-published : goal.returns-in-Ok-publish-clause-published
 returns-in-Ok-publish-clause-published g c = λ j h at.
@@ -26,4 +27,4 @@ pub returns-clause-refused : goal.returns-clause-refused
 returns-clause-refused g c = λ j h at.
     let x : Numbered = c.pass_through.new.given in
     let r = c.in-Ok.ensures.through j h at in
-    subst (λ k. IsAt j k x) (sym r.0.now) r.0
+    subst (λ k. IsMonitorAt j k x) (sym r.0.now) r.0

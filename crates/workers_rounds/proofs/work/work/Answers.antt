@@ -3,13 +3,13 @@ use Rattle.crossbeam_queue.specs.Passes.{view}
 use Rattle.machine_runs.specs.declared.batch.Batch.{Batch}
 use Rattle.cycle_window.specs.Held.{first_in}
 use Rattle.workers_core.proofs.CorePartLaws.{of-ok}
-use Rattle.workers_board.specs.Receipts.{shown_by}
-use Rattle.workers_tally.specs.Shares.{EachAtMost, amounts, plus}
-use Rattle.workers_tally.specs.Counts.{counts_of}
-use Rattle.workers_bench.specs.declared.hand.Hand.{Hand}
-use Rattle.workers_bench.specs.declared.numbered.Numbered.{Numbered}
-use Rattle.workers_bench.specs.Monitors.{IsAt}
-use Rattle.workers_bench.specs.Hands.{TakesOne}
+use Rattle.workers_shared.specs.Receipts.{shown_by}
+use Rattle.workers_shared.specs.Shares.{EachAtMost, amounts, plus}
+use Rattle.workers_shared.specs.Counts.{counts_of}
+use Rattle.workers_shared.specs.declared.hand.Hand.{Hand}
+use Rattle.workers_shared.specs.declared.numbered.Numbered.{Numbered}
+use Rattle.workers_shared.specs.Monitors.{IsMonitorAt}
+use Rattle.workers_shared.specs.Hands.{TakesOne}
 use Rattle.workers_rounds.specs.declared.work.Published.{Published}
 use Rattle.workers_rounds.specs.Works.{IsPublished}
 use Rattle.workers_rounds.proofs.Placing.{stands-at, below}
@@ -31,16 +31,16 @@ taken : (g : _) (c : After-run_one-monitor g)
 taken g c = rw c.in-Some-claimed.is at c.claim-back.ensures.some
 
 at_start : (g : _) (c : After-run_one-monitor g)
-    → IsAt c.args.bench.now.job.now (first_in c.args.window.now) c.in-Some-claimed.monitor
+    → IsMonitorAt c.args.bench.now.job.now (first_in c.args.window.now) c.in-Some-claimed.monitor
 at_start g c =
     let x : Numbered = c.in-Some-claimed.monitor in
-    subst (λ k. IsAt c.args.bench.now.job.now k x) c.requires.round
+    subst (λ k. IsMonitorAt c.args.bench.now.job.now k x) c.requires.round
     (rw c.in-Some-claimed.is at c.claim-back.ensures.job)
 
 pub run_one-monitor-requires-clause-stands : goal.run_one-monitor-requires-clause-stands
 run_one-monitor-requires-clause-stands g c =
     let x : Numbered = c.in-Some-claimed.monitor in
-    let here = subst (λ k. IsAt c.args.bench.now.job.now k x) c.requires.round
+    let here = subst (λ k. IsMonitorAt c.args.bench.now.job.now k x) c.requires.round
     (rw c.in-Some-claimed.is at c.claim-back.ensures.job) in
     stands-at c.args.bench.now.job.now c.args.window.now (first_in c.args.window.now) x c.requires.window.0
     (omega arith) c.requires.window.1.0 here
@@ -48,7 +48,7 @@ run_one-monitor-requires-clause-stands g c =
 pub run_one-monitor-requires-clause-here : goal.run_one-monitor-requires-clause-here
 run_one-monitor-requires-clause-here g c =
     let x : Numbered = c.in-Some-claimed.monitor in
-    let here : IsAt c.args.bench.now.job.now c.args.bench.now.at x =
+    let here : IsMonitorAt c.args.bench.now.job.now c.args.bench.now.at x =
     rw c.in-Some-claimed.is at c.claim-back.ensures.job in
     here.now ∙ c.requires.round
 

@@ -5,10 +5,10 @@ use Rattle.bytecode.specs.Values.{ProgramData}
 use Rattle.verifier.specs.Limits.{path_sum}
 use Rattle.machine_definition.specs.Outcomes.{Ran, done}
 use Rattle.machine_definition.specs.Clocks.{Attempt, Obligation, Visits, visit_attempts, visit_obligations, disable_all}
-use Rattle.machine_definition.specs.Bounds.{Rises}
+use Rattle.machine_definition.specs.Bounds.{RisesBetween}
 use Rattle.machine_definition.proofs.Parts.{began, since, IsRunning, IsOwed}
 use Rattle.machine.specs.Live.{attempts_in, obligations_in, standing_of, OpenedLately}
-use Rattle.machine_pool.specs.Pooled.{Pooled}
+use Rattle.machine_memory.specs.Pooled.{Pooled}
 use Rattle.machine_visits.specs.declared.attempt.AttemptRecord.{AttemptRecord}
 use Rattle.machine_visits.specs.declared.obligation.ObligationRecord.{ObligationRecord}
 use Rattle.machine_visits.specs.Records.{attempt_of, obligation_of}
@@ -92,7 +92,7 @@ returns-then-is_disabled-clause-advanced c =
 
 pub visit_attempts-accepted-requires-clause-running : goal.visit_attempts-accepted-requires-clause-running
 visit_attempts-accepted-requires-clause-running c =
-    subst (λ (l : List Attempt). Rises began (IsRunning (data_of c.args.program.now) c.args.self.now.now) 0
+    subst (λ (l : List Attempt). RisesBetween began (IsRunning (data_of c.args.program.now) c.args.self.now.now) 0
     (c.args.self.now.now + 1) l) (sym c.open_attempt.ensures.opened)
     (laws.runs (data_of c.args.program.now) c.requires.accepted
     (standing_of c.args.self.now.now c.args.self.now.attempts c.args.self.now.obligations) c.requires.reached)
@@ -130,7 +130,7 @@ visit_obligations-fates-requires-clause-owed c =
     same-live (data_of c.args.program.now) c.args.atoms.now c.args.self.now.now
     (attempts_in c.open_attempt.new.pool.live) _ c.args.left.now _ live c.visit_attempts-accepted.ensures.visits
     in
-    subst (λ (l : List Obligation). Rises since (IsOwed (data_of c.args.program.now) c.args.self.now.now) 0
+    subst (λ (l : List Obligation). RisesBetween since (IsOwed (data_of c.args.program.now) c.args.self.now.now) 0
     (c.args.self.now.now + 1) l) (sym c.open_obligation.ensures.opened)
     (laws.owed (data_of c.args.program.now) c.requires.accepted
     (standing_of c.args.self.now.now c.args.self.now.attempts c.args.self.now.obligations) c.requires.reached

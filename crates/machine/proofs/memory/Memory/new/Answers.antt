@@ -4,15 +4,15 @@ use Rattle.std.proofs.Math.ListN.{length-replicate}
 use Rattle.std.specs.Prelude.{slice_index}
 use Rattle.bytecode.specs.Programs.{data_of}
 use Rattle.bytecode.specs.Instructions.{frame_of}
-use Rattle.machine_ring.specs.History.{cleared}
-use Rattle.machine_pool.specs.Pooled.{Pooled}
+use Rattle.machine_memory.specs.History.{cleared}
+use Rattle.machine_memory.specs.Pooled.{Pooled}
 use Rattle.machine_visits.specs.declared.attempt.AttemptRecord.{AttemptRecord}
 use Rattle.machine_visits.specs.declared.obligation.ObligationRecord.{ObligationRecord}
 use Rattle.machine_samples.specs.Memory.{AreRows}
 use Rattle.machine_definition.specs.Values.{AreValues}
 use Rattle.machine_samples.proofs.RowLaws.{AreRows-cleared}
 use Rattle.machine_definition.specs.Bounds.{IsReached}
-use Rattle.machine.specs.SampleCode.{rows_of}
+use Rattle.machine.specs.SampleCode.{newest_rows}
 use Rattle.machine.specs.Live.{attempts_in, obligations_in}
 use Rattle.machine.proofs.VecLaws.{vec-long}
 use Rattle.machine.proofs.memory.Memory.new.Goals as goal
@@ -42,9 +42,9 @@ returns-clause-memory c =
     c.in_ok-history.ensures
     ∙ ap (cleared p.header.limits.history)
     (c.len-slots.ensures ∙ vec-long c.in_ok-frame.frame.slots ∙ ap length (sym widths)) in
-    let first-rows : rows_of p c.in_ok-code.code c.in_ok-history.history
+    let first-rows : newest_rows p c.in_ok-code.code c.in_ok-history.history
     ≡ cleared p.header.limits.history (length (frame_of p).slots) =
-    ap (rows_of p c.in_ok-code.code) made ∙ c.in_ok-code.ensures.rows p.header.limits.history refl
+    ap (newest_rows p c.in_ok-code.code) made ∙ c.in_ok-code.ensures.rows p.header.limits.history refl
     ∙ ap (cleared p.header.limits.history) (ap length (widths ∙ slots)) in
     record {
       bases = c.in_ok-bases.ensures;

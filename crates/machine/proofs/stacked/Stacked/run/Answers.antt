@@ -2,7 +2,7 @@ use Rattle.std.proofs.Common.{◌≡◌, ◌+◌, ◌∷◌, ◌++◌, List, ℕ
 use Rattle.std.proofs.Common.{append-nil, length-append}
 use Rattle.std.proofs.lemmas.List.{drop_all}
 use Rattle.bytecode.specs.Programs.{data_of}
-use Rattle.machine_ring.specs.History.{pushed}
+use Rattle.machine_memory.specs.History.{pushed}
 use Rattle.machine_samples.specs.Memory.{AreRows}
 use Rattle.machine_samples.proofs.RowLaws.{AreRows-pushed}
 use Rattle.machine.proofs.VecLaws.{refilled}

@@ -4,13 +4,13 @@ use Rattle.std.specs.Prelude.{◌==◌}
 use Rattle.std.proofs.lemmas.Bool.{eq-eqb, ne_eqb}
 use lib.Bits.{or_zero_r}
 use Rattle.machine_definition.specs.Clocks.{Fate, is_broken}
-use Rattle.machine_visits.specs.Marks.{is_open, mark_of, mark_if}
+use Rattle.machine_visits.specs.Marks.{is_fate_open, mark_of, fate_mark}
 use Rattle.machine_visits.specs.Records.{fate_of}
 use Rattle.machine_visits.proofs.fates.Fates.note.Goals as goal
 
 -- nothing is noted where the test fails
 unmarked : (passes : Fate → Bool) (now : ℕ) (f : Fate) (set : ℕ) → passes f ≡ false
-    → set ≡ bit_or set (mark_if passes now f)
+    → set ≡ bit_or set (fate_mark passes now f)
 unmarked passes now f set off =
     sym (ap (λ (b : Bool). bit_or set (if b then mark_of now f.tick else 0)) off ∙ or_zero_r set)
 
@@ -21,13 +21,13 @@ and-left : (a b : Bool) → a ≡ false → (a && b) ≡ false
 and-left a b h = ap (λ (x : Bool). x && b) h
 
 module _ (f : Fate) where
-  kept-open : f.kept ≡ true → is_open f ≡ false
+  kept-open : f.kept ≡ true → is_fate_open f ≡ false
   kept-open h = ap not (or-left f.kept (f.positions == 0) h)
 
   kept-broken : f.kept ≡ true → is_broken f ≡ false
   kept-broken h = and-left (not f.kept) (f.positions == 0) (ap not h)
 
-  gone-open : f.positions ≡ 0 → is_open f ≡ false
+  gone-open : f.positions ≡ 0 → is_fate_open f ≡ false
   gone-open h = ap (λ (b : Bool). not (f.kept || b)) (eq-eqb f.positions 0 h) ∙ last f.kept
     where
       last : (b : Bool) → not (b || true) ≡ false
@@ -43,7 +43,7 @@ module _ (f : Fate) where
 
 pub returns-then-visit-clause-open : goal.returns-then-visit-clause-open
 returns-then-visit-clause-open c =
-    let f = fate_of c.args.obligation c.args.visit in unmarked is_open c.args.now f c.args.self.now.open_ticks
+    let f = fate_of c.args.obligation c.args.visit in unmarked is_fate_open c.args.now f c.args.self.now.open_ticks
     (kept-open f c.if-visit.true)
 
 pub returns-then-visit-clause-broken : goal.returns-then-visit-clause-broken
@@ -53,7 +53,7 @@ returns-then-visit-clause-broken c =
 
 pub returns-then-visit-eq0-clause-open : goal.returns-then-visit-eq0-clause-open
 returns-then-visit-eq0-clause-open c =
-    let f = fate_of c.args.obligation c.args.visit in unmarked is_open c.args.now f c.args.self.now.open_ticks
+    let f = fate_of c.args.obligation c.args.visit in unmarked is_fate_open c.args.now f c.args.self.now.open_ticks
     (gone-open f c.if-visit-eq0.true)
 
 pub returns-else-visit-eq0-clause-broken : goal.returns-else-visit-eq0-clause-broken

@@ -4,7 +4,7 @@ use Rattle.std.proofs.Math.Logic.{∥∥₁_elim}
 use Rattle.std.specs.Prelude.{◌+◌, ◌≤◌}
 use Rattle.signals.specs.declared.verdict.Decided.{Decided}
 use Rattle.bytecode.specs.Values.{SlotData}
-use Rattle.machine.specs.Running.{IsClock}
+use Rattle.machine.specs.Running.{IsOneClock}
 use Rattle.machine_runs.proofs.RowLaws.{row-values, values-prop}
 use Rattle.workers_core.proofs.PlaceLaws as laws
 use Rattle.workers_core.proofs.monitor.Monitor.clock.Goals as goal
@@ -34,7 +34,7 @@ returns c =
     let row = old.row.items in
     let clock =
     subst (λ (r : List ℕ).
-    IsClock old.machine r c.clear.new.self.items c.clock.new.self c.clock.new.out.items)
+    IsOneClock old.machine r c.clear.new.self.items c.clock.new.self c.clock.new.out.items)
     c.as_slice-row.ensures.value c.clock.ensures.clock in
     laws.one-more old row c.clear.new.self.items c.clock.new.out.items
     c.clock.new.self clock c.clear.ensures

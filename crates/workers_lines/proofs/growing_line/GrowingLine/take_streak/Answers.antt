@@ -4,14 +4,14 @@ use Rattle.std.proofs.lemmas.List.FromFn.{length-map-range_with_len}
 use Rattle.signals.specs.declared.verdict.Decided.{Decided}
 use Rattle.machine_runs.specs.Ages.{nth}
 use Rattle.machine_runs.specs.Lines.{failure_of}
-use Rattle.machine_runs.specs.Streaks.{attempts_in}
+use Rattle.machine_runs.specs.Streaks.{streak_attempts}
 use Rattle.workers_lines.proofs.StreakLaws as laws
 use Rattle.workers_lines.proofs.growing_line.GrowingLine.take_streak.Goals as goal
 
 pub returns-clause-took : goal.returns-clause-took
 returns-clause-took c = λ before took.
     let s = c.args.streak.now in
-    let more = attempts_in s in
+    let more = streak_attempts s in
     record {
       counts = c.counts_with-self.ensures.more ∙ laws.more-tally before s c.args.self.now.counts took.counts;
       fails = c.in_ok-push_failures.ensures

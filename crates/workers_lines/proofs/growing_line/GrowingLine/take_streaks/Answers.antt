@@ -3,7 +3,7 @@ use Rattle.std.proofs.Common.{append_assoc, length-append}
 use Rattle.std.proofs.lemmas.List.FromFn.{length-map-range_with_len}
 use Rattle.signals.specs.declared.verdict.Decided.{Decided}
 use Rattle.machine_runs.specs.Ages.{nth}
-use Rattle.machine_runs.specs.Streaks.{attempts_in, attempts_in_all}
+use Rattle.machine_runs.specs.Streaks.{streak_attempts, attempts_in_all}
 use Rattle.machine_runs.proofs.StreakLaws.{streak-more}
 use Rattle.workers_lines.specs.Taken.{TookIn}
 use Rattle.workers_lines.proofs.StreakLaws.{streaks-few}
@@ -17,7 +17,7 @@ take_streak-requires c =
     let more =
     ap (λ (ds : List Decided). length ds)
     (streak-more xs i s c.loop-streak-test.true c.streak-item.is) in
-    let both = length-append (attempts_in_all (take i xs)) (attempts_in s) in
+    let both = length-append (attempts_in_all (take i xs)) (streak_attempts s) in
     let own = length-map-range_with_len (nth s.first) 0 s.count in
     let few = streaks-few xs (i + 1) in
     let all = ap (λ (ds : List Decided). length ds) c.as_slice-streak-items.ensures in
@@ -33,13 +33,13 @@ loop-streak-preserved c =
     let so_far = attempts_in_all (take i xs) in
     let one = streak-more xs i s c.loop-streak-test.true c.streak-item.is in
     let more = ap (λ (ds : List Decided). length ds) one in
-    let both = length-append so_far (attempts_in s) in
+    let both = length-append so_far (streak_attempts s) in
     let own = length-map-range_with_len (nth s.first) 0 s.count in
     record {
       count = omega (arith, inv.count, step.count, more, both, own);
       took = λ before took.
           subst (TookIn c.take_streak.new.self)
-          (append_assoc before so_far (attempts_in s)
+          (append_assoc before so_far (streak_attempts s)
           ∙ ap (λ (ds : List Decided). before ++ ds) (sym one))
           (step.took (before ++ so_far) (inv.took before took));
     }

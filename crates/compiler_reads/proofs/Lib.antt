@@ -1,5 +1,0 @@
-pub mod NameLaws
-pub mod ScanLaws
-pub mod ReadLaws
-pub mod MarkLaws
-pub mod SlotLaws

@@ -1,9 +1,0 @@
-use Rattle.std.proofs.Common.{◌≡◌, ◌≤◌, ◌+◌, ◌++◌, drop, count_by}
-use Rattle.compiler_reads.specs.Marks.{is_marked, slots_from}
-use Rattle.compiler_reads.proofs.marks.slots_of.Given as goal
-
-abbrev pub invariant-loop-marked : goal.invariant-loop-marked
-invariant-loop-marked l = record {
-  made : l.slots.items ++ slots_from l.next (drop l.marked-index l.marks) ≡ slots_from l.first l.marks;
-  few : l.next + count_by is_marked (drop l.marked-index l.marks) ≤ 65535;
-}

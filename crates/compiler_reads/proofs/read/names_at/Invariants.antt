@@ -1,9 +1,0 @@
-use Rattle.std.proofs.Common.{◌≡◌, ◌++◌, drop, slice_get}
-use Rattle.std.specs.List.{flat_map}
-use Rattle.compiler_reads.specs.Names.{expression_names}
-use Rattle.compiler_reads.proofs.read.names_at.Given as goal
-
-abbrev pub invariant-loop-place : goal.invariant-loop-place
-invariant-loop-place l =
-    l.names.items ++ flat_map (λ place. expression_names (slice_get l.all place)) (drop l.place-index l.places)
-    ≡ flat_map (λ place. expression_names (slice_get l.all place)) l.places

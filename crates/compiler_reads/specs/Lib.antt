@@ -1,4 +1,0 @@
-pub mod Names
-pub mod Reads
-pub mod Scans
-pub mod Marks

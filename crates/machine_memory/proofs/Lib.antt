@@ -1,0 +1,17 @@
+pub mod Crosses
+pub mod Opens
+pub mod Rows
+pub mod Seen
+pub mod Sharing
+pub mod Steps
+pub mod Values
+pub mod Walks
+pub mod Fills
+pub mod TurnedLaws
+pub mod FilledLaws
+pub mod LinkLaws
+pub mod ListLaws
+pub mod NodeLaws
+pub mod PoolLaws
+pub mod RecordLaws
+pub mod WalkLaws

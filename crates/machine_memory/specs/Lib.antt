@@ -1,0 +1,10 @@
+pub mod Lends
+pub mod Ownership
+pub mod Held
+pub mod History
+pub mod Turned
+pub mod Filled
+pub mod Lists
+pub mod Nodes
+pub mod Pooled
+pub mod Walk

@@ -1,5 +1,0 @@
-pub mod Filled
-pub mod Lists
-pub mod Nodes
-pub mod Pooled
-pub mod Walk

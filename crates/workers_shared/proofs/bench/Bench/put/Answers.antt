@@ -1,0 +1,12 @@
+use Rattle.std.proofs.Common.{Option, subst, sym}
+use Rattle.workers_shared.specs.declared.hand.Round.{Round}
+use Rattle.workers_shared.specs.Hands.{IsOfRound}
+use Rattle.workers_shared.proofs.Keeps.{puts, room}
+use Rattle.workers_shared.proofs.bench.Bench.put.Goals as goal
+
+pub push_as-requires-clause-rule : goal.push_as-requires-clause-rule
+push_as-requires-clause-rule g c = (
+  puts _ _ _ _ c.requires.may.1 c.requires.may.0
+      (subst (λ (r : Option Round). IsOfRound r c.args.monitor) (sym c.requires.of.1) c.requires.job) c.requires.order,
+  room _ _ c.requires.may.0,
+)
