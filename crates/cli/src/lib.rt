@@ -14,8 +14,9 @@
 //! the text.
 //!
 //! The definitions: what a report on bytes and a text is in `specs/Reported.antt`, what a run comes
-//! to in `specs/Outcomes.antt`, what a build comes to in `specs/Builds.antt`; the report on a suite
-//! in `judging_reports`; faults, their lines and statuses in `cli_faults`.
+//! to in `specs/Outcomes.antt`, the times of clocks in `specs/Timed.antt`, what a build comes to in
+//! `specs/Builds.antt`; the report on a suite in `judging_reports`; faults, their lines and statuses
+//! in `cli_faults`.
 //!
 //! Not promised: that memory suffices; of `check_all`, that it returns, and that two workers were
 //! at work at once.

@@ -8,6 +8,7 @@ ghost use Rattle.verdicts.specs.Shown.{data_of};
 ghost use Rattle.workers_core.specs.Values.{IsBadTeam};
 ghost use Rattle.cli_faults.specs.declared.fault.Fault.TheVariants.{BadSize, BadWorkers};
 ghost use Rattle.cli.specs.Reported.{HasReport};
+ghost use Rattle.cli.specs.Timed.{TellsTimes};
 ghost use Rattle.cli.specs.Outcomes.{WhyNoneByPrograms, WhyCheckRefused, WhyNotCheckedBy};
 ghost use Rattle.cli.specs.Outcomes.{IsMade, reading_of};
 
@@ -46,6 +47,8 @@ fn timed_by_team<'a, G: Gate + Sync, R: Threads + Wait + Sync>(
     requires held { (c : Contents) × HoldsContents dump c }
     ensures ok { (c : Contents) → HoldsContents dump c
         → IfOk result (λ t. HasReport c text.entry.now (data_of t.report)) }
+    ensures timed { (c : Contents) → HoldsContents dump c
+        → IfOk result (λ t. TellsTimes c text.entry.now t.report.clocks t.times.items) }
     ensures err { (c : Contents) → HoldsContents dump c
         → IfErr result (WhyNoneByPrograms c text.entry.now) }
 {
@@ -72,7 +75,7 @@ fn read_and_report<'a, S: Source, G: Gate + Sync, R: Threads + Wait + Sync>(
     gate: &G,
 ) -> Result<TimedReport, Fault<'a>>
     ensures made { IfOk result (λ t. IsMade text.entry.now
-        (S.state source.old) (S.state source.new) (data_of t.report)) }
+        (S.state source.old) (S.state source.new) (data_of t.report) t.times.items) }
     ensures refused { IfErr result (WhyCheckRefused
         (reading_of text.entry.now (S.state source.old) (S.state source.new))) }
 {
@@ -96,7 +99,7 @@ pub fn report_all<'a, S: Source, G: Gate + Sync, R: Threads + Wait + Sync>(
     gate: &G,
 ) -> Result<TimedReport, Fault<'a>>
     ensures made { IfOk result (λ t. IsMade text.entry.now
-        (S.state source.old) (S.state source.new) (data_of t.report)) }
+        (S.state source.old) (S.state source.new) (data_of t.report) t.times.items) }
     ensures refused { IfErr result (WhyNotCheckedBy workers window
         (reading_of text.entry.now (S.state source.old) (S.state source.new))) }
     ensures bad_size { IsBadSize window ↔ (result ≡ Err BadSize) }

@@ -1,9 +1,9 @@
 //! The times of clocks.
 
-ghost use Rattle.std.specs.Prelude.{◌≡◌, ℕ, ◌<◌, IfOk, slice_get, slice_index};
+ghost use Rattle.std.specs.Prelude.{IfOk};
 ghost use Rattle.vcd_reader.specs.Held.{steps_in};
 ghost use Rattle.cycle_window.specs.Held.{ticks_in};
-ghost use Rattle.cycle_window.specs.Times.{time_of_step};
+ghost use Rattle.cli.specs.Timed.{AreTimesIn};
 
 use cycle_window::{Clocks, time_of_tick};
 use std::alloc::{AllocError, Global};
@@ -16,9 +16,8 @@ pub(crate) fn times_of(
     clocks: &Clocks,
     count: usize,
 ) -> Result<Vec<u64>, AllocError>
-    ensures { IfOk result (λ times. (k : ℕ) → k < count
-        → slice_index times.items k
-        ≡ time_of_step (steps_in dump.now) (slice_get (ticks_in clocks.now) k)) }
+    ensures { IfOk result (λ times.
+        AreTimesIn (steps_in dump.now) (ticks_in clocks.now) count times.items) }
 {
     let mut times = Vec::with_capacity(alloc, count)?;
     for tick in 0..count {
