@@ -3,7 +3,7 @@
 //! ```text
 //! let totals = check_one(alloc, &mut dump, text, 1024, &mut out)?;  // the report
 //! let totals = check_all(&rt, alloc, &mut dump, text, 4, 1024, &gate, &mut out)?; // by 4 workers
-//! let timed = report_all(&rt, alloc, &mut dump, text, 4, 1024, &gate)?;   // and times of clocks
+//! let timed = report_all(&rt, alloc, &mut dump, text, 4, 1024, &gate)?;  // with its clocks' times
 //! let totals = judge_one(alloc, &mut dump, text, &mut out)?;        // the same, by the slow judge
 //! let bytes = build_one(alloc, &mut dump, text, "grant")?;          // an assertion's program
 //! let count = explain_one(alloc, &mut dump, text, "rules.sva", &wanted, &mut out)?;  // failures
@@ -14,9 +14,9 @@
 //! the text.
 //!
 //! The definitions: what a report on bytes and a text is in `specs/Reported.antt`, what a run comes
-//! to in `specs/Outcomes.antt`, the times of clocks in `specs/Timed.antt`, what a build comes to in
-//! `specs/Builds.antt`; the report on a suite in `judging_reports`; faults, their lines and statuses
-//! in `cli_faults`.
+//! to in `specs/Outcomes.antt`, the times of clocks in `specs/Timed.antt`, what a build comes to
+//! in `specs/Builds.antt`; the report on a suite in `judging_reports`; faults, their lines and
+//! statuses in `cli_faults`.
 //!
 //! Not promised: that memory suffices; of `check_all`, that it returns, and that two workers were
 //! at work at once.
