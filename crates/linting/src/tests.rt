@@ -1,8 +1,8 @@
 //! Each function on its happy path.
 
 use crate::{
-    CODES, FrontEnd, MARKS, Place, Refusal, SIGNS, WORDS, blanked, hint_at, hint_beside, item_at,
-    item_ends, lint, nearest, place_of, push_refusal, push_total, span_at,
+    CODES, FrontEnd, Linted, MARKS, Place, Refusal, SIGNS, WORDS, blanked, hint_at, hint_beside,
+    item_at, item_ends, lint, nearest, place_of, push_refusal, push_total, span_at,
 };
 use std::alloc::{AllocError, Global};
 use std::test::Fail;
@@ -149,13 +149,13 @@ impl FrontEnd for NoX {
 fn all_are_told(rt: HostRuntime) -> Result<(), Fail> {
     let text = "a; x b; c x;\nx; d;";
     let ends = item_ends(rt.alloc(), text)?;
-    let told = lint(rt.alloc(), &NoX, text, ends.as_slice())?;
+    let Linted { refusals, rest } = lint(rt.alloc(), &NoX, text, ends.as_slice())?;
     let mut places = Vec::new(rt.alloc());
-    for refusal in &told.refusals {
+    for refusal in &refusals {
         places.push(refusal.at)?;
     }
     assert!(rt; places.as_slice() == [3, 10, 13].as_slice());
-    let Some(rest) = told.rest else {
+    let Some(rest) = rest else {
         return Err(Fail::from("nothing is left"));
     };
     assert!(rt; rest.as_str() == "a;          \n   d;");
