@@ -13,7 +13,7 @@ use Rattle.clap.specs.declared.builder.value_parser.ValueParser.TheVariants.{Uns
 use Rattle.cli_words.specs.declared.request.Request.{Request}
 use Rattle.cli_words.specs.declared.request.Request.TheVariants.{Check, Build, Verify}
 use Rattle.cli_words.specs.declared.request.Request.TheVariants.{Run, Judge, Rules, Upgrade}
-use Rattle.cli_words.specs.declared.request.Request.TheVariants.{Explain}
+use Rattle.cli_words.specs.declared.request.Request.TheVariants.{Explain, Lint}
 
 -- an option `--name`, of one value
 abbrev pub option_rule : Text → Rule
@@ -94,6 +94,9 @@ abbrev pub explain_app : App
 explain_app =
     with_rule (with_rule (with_rule (text_app (codes "explain")) only_rule) start_rule) most_rule
 
+abbrev pub lint_app : App
+lint_app = text_app (codes "lint")
+
 abbrev pub rules_app : App
 rules_app = with_rule (new_app (codes "rules")) (file_rule (codes "axi"))
 
@@ -119,7 +122,9 @@ svamon_app =
     let first_two = with_subcommand (with_subcommand svamon_top check_app.top) build_app.top in
     let first_four = with_subcommand (with_subcommand first_two verify_app.top) run_app.top in
     let first_six = with_subcommand (with_subcommand first_four judge_app.top) rules_app.top in
-    with_subcommand (with_subcommand first_six upgrade_app.top) explain_app.top
+    let first_eight =
+    with_subcommand (with_subcommand first_six upgrade_app.top) explain_app.top in
+    with_subcommand first_eight lint_app.top
 
 -- what the rows give for an option, which is there or not
 abbrev pub Gives : Text → List Row → Option (String Global) → Type 0
@@ -179,6 +184,7 @@ command_of (Verify code) = codes "verify"
 command_of (Run vcd code workers window) = codes "run"
 command_of (Judge vcd sva axi) = codes "judge"
 command_of (Explain vcd sva axi only start most) = codes "explain"
+command_of (Lint vcd sva axi) = codes "lint"
 command_of (Rules axi) = codes "rules"
 command_of (Upgrade code out) = codes "upgrade"
 
@@ -193,6 +199,7 @@ IsGiven rows (Run vcd code workers window) =
 IsGiven rows (Judge vcd sva axi) = HasText rows vcd sva axi
 IsGiven rows (Explain vcd sva axi only start most) =
     HasText rows vcd sva axi × HasWanted rows only start most
+IsGiven rows (Lint vcd sva axi) = HasText rows vcd sva axi
 IsGiven rows (Rules axi) = Gives (codes "axi") rows (Some axi)
 IsGiven rows (Upgrade code out) =
     Gives (codes "code") rows (Some code) × Gives (codes "out") rows (Some out)

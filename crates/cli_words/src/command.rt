@@ -237,6 +237,12 @@ fn explain_command<'a>(alloc: Global) -> Result<Command<'a>, AllocError>
         .arg(most_option(alloc))
 }
 
+fn lint_command<'a>(alloc: Global) -> Result<Command<'a>, AllocError>
+    ensures { IfOk result (λ c. app_of c ≡ lint_app) }
+{
+    text_command(alloc, "lint", "Tells each refusal of assertions over a dump")
+}
+
 fn rules_command<'a>(alloc: Global) -> Result<Command<'a>, AllocError>
     ensures { IfOk result (λ c. app_of c ≡ rules_app) }
 {
@@ -287,5 +293,6 @@ pub(crate) fn svamon_command<'a>(alloc: Global) -> Result<Command<'a>, AllocErro
     let svamon = with_subcommand(svamon, judge_command(alloc))?;
     let svamon = with_subcommand(svamon, rules_command(alloc))?;
     let svamon = with_subcommand(svamon, upgrade_command(alloc))?;
-    with_subcommand(svamon, explain_command(alloc))
+    let svamon = with_subcommand(svamon, explain_command(alloc))?;
+    with_subcommand(svamon, lint_command(alloc))
 }

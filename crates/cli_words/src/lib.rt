@@ -8,6 +8,7 @@
 //!     Ok(Request::Run { vcd, code, workers, window }) => ..,
 //!     Ok(Request::Judge { vcd, sva, axi }) => ..,
 //!     Ok(Request::Explain { vcd, sva, axi, only, start, most }) => ..,
+//!     Ok(Request::Lint { vcd, sva, axi }) => ..,
 //!     Ok(Request::Rules { axi }) => ..,
 //!     Ok(Request::Upgrade { code, out }) => ..,
 //!     Err(WordsFault::Words(error)) => ..,             // `{error}` is the text to show

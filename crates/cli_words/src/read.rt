@@ -133,6 +133,16 @@ fn explain_request(alloc: Global, options: &ArgMatches) -> Result<Request, Words
     })
 }
 
+fn lint_request(alloc: Global, options: &ArgMatches) -> Result<Request, WordsFault>
+    ensures { IfOk result (IsRequest (codes "lint") (rows_of (found_of options.now))) }
+{
+    Ok(Request::Lint {
+        vcd: text_of(alloc, options, "vcd")?,
+        sva: text_of(alloc, options, "sva")?,
+        axi: option_of(alloc, options, "axi")?,
+    })
+}
+
 fn rules_request(alloc: Global, options: &ArgMatches) -> Result<Request, WordsFault>
     ensures { IfOk result (IsRequest (codes "rules") (rows_of (found_of options.now))) }
 {
@@ -164,6 +174,7 @@ fn request_of(alloc: Global, matches: &ArgMatches) -> Result<Request, WordsFault
         Some(("rules", options)) => rules_request(alloc, options),
         Some(("upgrade", options)) => upgrade_request(alloc, options),
         Some(("explain", options)) => explain_request(alloc, options),
+        Some(("lint", options)) => lint_request(alloc, options),
         _ => Err(WordsFault::OutOfMemory),
     }
 }

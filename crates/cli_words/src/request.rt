@@ -63,6 +63,13 @@ pub enum Request {
         /// How many attempts of each assertion are explained at most, from 1 to 65,536.
         most: u64,
     },
+    /// Tells each refusal of the assertions of a text over a dump.
+    Lint {
+        vcd: String,
+        sva: String,
+        /// A port file: the rules of its ports stand behind the text.
+        axi: Option<String>,
+    },
     /// Prints the rules of the ports of a port file.
     Rules {
         axi: String,

@@ -9,6 +9,7 @@
 //! svamon verify r.svm
 //! svamon upgrade r.svm --out r2.svm
 //! svamon explain --vcd top.vcd --sva rules.sva [--axi ports.txt] [--only r] [--start 9] [--most 1]
+//! svamon lint --vcd top.vcd --sva rules.sva [--axi ports.txt]
 //! svamon rules --axi ports.txt
 //! svamon --version
 //! ```
@@ -19,8 +20,9 @@
 //!
 //! It opens files (`cli_shell`) and hands over what is in them; what a command answers is said by
 //! the contracts of `cli` (`check_all`, `report_all`, `judge_one`, `build_one`), of `report_forms`
-//! (`junit_report`, `json_report`), of `cli_code` (`verify_code`, `run_code`, `upgrade_code`) and
-//! of `axi4_rules` (`port_rules`, `joined_text`), whose definitions stand in their `specs/`.
+//! (`junit_report`, `json_report`), of `cli_code` (`verify_code`, `run_code`, `upgrade_code`), of
+//! `cli_lint` (`lint_over`) and of `axi4_rules` (`port_rules`, `joined_text`), whose definitions
+//! stand in their `specs/`.
 //!
 //! Not promised: what a file holds, that the line of a fault reaches anyone, and that the process
 //! ends with the status: these are tested (`docs/TESTED.md`). `docs/USING.md` goes through the

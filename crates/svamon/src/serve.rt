@@ -4,6 +4,7 @@ use cli::{
     Fault, NoGate, Request, Wanted, build_one, check_all, explain_one, judge_one, report_all,
 };
 use cli_code::{run_code, upgrade_code, verify_code};
+use cli_lint::lint_one;
 use cli_shell::{
     FormFiles, Provenance, open, print_report, print_rules, read_assertions, read_bytes,
     refuse_words, request_of, shown_status, shown_version, words_of, write_bytes,
@@ -147,6 +148,41 @@ fn serve_explain<R: Files + Print + Eprint + AllocGlobal>(
         Err(fault) => return shown_status(rt, Err(fault)),
     };
     shown_status(rt, explain_text(rt, dump, text.as_str(), sva, wanted))
+}
+
+/// Tells all refusals of a text over a dump; they go to standard output. The answer is how many.
+fn lint_text<R: Files + Print + AllocGlobal>(
+    rt: &R,
+    dump: R::File,
+    text: &str,
+    path: &str,
+) -> Result<u64, Fault<'static>> {
+    let mut dump = Counted::new(dump);
+    let mut out = Counted::new(io::writer(rt));
+    lint_one(rt.alloc(), &mut dump, text, path, &mut out)
+}
+
+/// Opens the dump, then reads the text, and tells its refusals: status 2 where one was told, 0
+/// where none was.
+fn serve_lint<R: Files + Print + Eprint + AllocGlobal>(
+    rt: &R,
+    vcd: &str,
+    sva: &str,
+    axi: Option<&str>,
+) -> u8 {
+    let dump = match open(rt, vcd) {
+        Ok(dump) => dump,
+        Err(fault) => return shown_status(rt, Err(fault)),
+    };
+    let text = match read_assertions(rt, sva, axi) {
+        Ok(text) => text,
+        Err(fault) => return shown_status(rt, Err(fault)),
+    };
+    match lint_text(rt, dump, text.as_str(), sva) {
+        Ok(0) => 0,
+        Ok(_) => 2,
+        Err(fault) => shown_status(rt, Err(fault)),
+    }
 }
 
 /// Compiles an assertion of a text over a dump, and makes a file of its program.
@@ -340,6 +376,9 @@ fn serve<R: Files + Print + Eprint + AllocGlobal + Threads + Wait + Sync>(
                 most: *most,
             };
             serve_explain(rt, vcd.as_str(), sva.as_str(), path_of(axi), &wanted)
+        }
+        Request::Lint { vcd, sva, axi } => {
+            serve_lint(rt, vcd.as_str(), sva.as_str(), path_of(axi))
         }
         Request::Rules { axi } => serve_rules(rt, axi.as_str()),
         Request::Upgrade { code, out } => serve_upgrade(rt, code.as_str(), out.as_str()),

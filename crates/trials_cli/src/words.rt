@@ -31,6 +31,9 @@ fn line_of(alloc: Global, request: &Request) -> Result<String, AllocError> {
         Request::Judge { vcd, sva, axi } => {
             format!(in alloc; "judge {vcd} {sva} {}", file_or_none(axi))
         }
+        Request::Lint { vcd, sva, axi } => {
+            format!(in alloc; "lint {vcd} {sva} {}", file_or_none(axi))
+        }
         Request::Rules { axi } => format!(in alloc; "rules {axi}"),
         Request::Verify { code } => format!(in alloc; "verify {code}"),
         Request::Build {
@@ -122,6 +125,8 @@ fn words_are_read(rt: HostRuntime) -> Result<(), Fail> {
             "svamon explain --vcd a --sva b --axi p --only r --start 0 --most 7",
             "explain a b p r true 0 7",
         ),
+        ("svamon lint --vcd a --sva b --axi p", "lint a b p"),
+        ("svamon lint --vcd a", "refused 2 true"),
         ("svamon explain --vcd a --sva b --start x", "refused 2 true"),
         ("svamon explain --vcd a --sva b --most 0", "refused 2 true"),
         ("svamon check --vcd a --sva b --window 0", "refused 2 true"),

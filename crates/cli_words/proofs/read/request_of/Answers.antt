@@ -75,3 +75,12 @@ returns-in-Some-explain-default c =
     (sym c.subcommand.ensures.name ∙ ap (option_map (λ p. p.0.now)) arm.is ∙ ap (λ (t : List ℕ). Some t) arm.is-explain)
     (sym c.subcommand.ensures.rows ∙ ap (option_map (λ p. rows_of (found_of p.1.now))) arm.is))
     c.explain_request.ensures
+
+pub returns-in-Some-lint-default : goal.returns-in-Some-lint-default
+returns-in-Some-lint-default c =
+    let arm = c.in-Some-lint-default in
+    IfOk-weaker c.lint_request.result _ _
+    (entered c.args.matches.now (codes "lint") (rows_of (found_of arm.options.now))
+    (sym c.subcommand.ensures.name ∙ ap (option_map (λ p. p.0.now)) arm.is ∙ ap (λ (t : List ℕ). Some t) arm.is-lint)
+    (sym c.subcommand.ensures.rows ∙ ap (option_map (λ p. rows_of (found_of p.1.now))) arm.is))
+    c.lint_request.ensures

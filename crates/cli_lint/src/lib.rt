@@ -1,0 +1,30 @@
+//! All refusals of a text over a dump: the call behind the command `lint`.
+//!
+//! ```text
+//! let refused = lint_one(alloc, &mut dump, text, "rules.sva", &mut out)?;
+//! let told = lint_over(alloc, &dump, &names, text)?;   // told.linted.refusals, told.items
+//! ```
+//!
+//! The text is cut into tokens, read and typed as for a report. What is refused is told, its item
+//! is blanked byte for byte, and the rest is looked at again, so that all refusals stand where the
+//! text has them. `lint_over` promises that each told refusal is one of the text without the items
+//! that were refused before it, at the byte that is told, and that a text of which nothing is told
+//! is accepted.
+//!
+//! The definitions: which texts are accepted, and at which byte others are refused, in
+//! `specs/Refused.antt`; what is told of all items, and its text, in `linting`.
+//!
+//! Not promised: what a message says behind its code, that the text is written without a failure,
+//! and that a text is compiled: faults of the clock and of programs (C, K) aren't told.
+#![tactic(auto)]
+
+mod dump_widths;
+mod front;
+mod known;
+mod lint;
+mod messages;
+#[cfg(test)]
+mod tests;
+
+pub use lint::{Told, lint_one, lint_over};
+pub use linting::{Linted, Refusal};

@@ -1,0 +1,4 @@
+pub mod EndLaws
+pub mod LeastLaws
+pub mod LintLaws
+pub mod Pieces

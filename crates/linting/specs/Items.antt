@@ -1,0 +1,93 @@
+-- How the tokens of a text are cut into items, each where the grammar ends it.
+use Rattle.std.specs.Prelude.{◌≡◌, ℕ, ◌+◌, ◌-◌, [], ◌∷◌, List, Bool, true, false, length, min, map}
+use Rattle.std.specs.Prelude.{drop, codes, if◌then◌else◌, nat_le, slice_get, Ok}
+use Rattle.std.specs.Prelude.{slice_index, slice_index_or, ◌==◌, unwrap_or, option_map}
+use Rattle.std.specs.List.{list_any, prefix_len}
+use Rattle.std.specs.Str.{bytes_eq}
+use Rattle.lexer.specs.declared.token.Token.{Token}
+use Rattle.lexer.specs.declared.token.Kind.{Kind}
+use Rattle.lexer.specs.declared.token.Kind.TheVariants as kinds
+use Rattle.lexer.specs.Cutting.{cut_of, tokens_of}
+
+-- whether a token is one of some words
+abbrev pub is_one : List (List ℕ) → Token → Bool
+is_one words token = list_any (bytes_eq token.text.now) words
+
+-- what opens an item that goes on over `;`
+abbrev pub openers : List (List ℕ)
+openers = codes "sequence" ∷ codes "property" ∷ []
+
+-- what ends such an item
+abbrev pub closers : List (List ℕ)
+closers = codes "endsequence" ∷ codes "endproperty" ∷ []
+
+-- what ends any other item
+abbrev pub ends : List (List ℕ)
+ends =
+    codes ";" ∷ codes "endsequence" ∷ codes "endproperty" ∷ codes "endclocking"
+    ∷ codes "endmodule" ∷ codes "end" ∷ []
+
+-- how many tokens there are up to the first that is one of some words, which counts
+abbrev pub through : List (List ℕ) → List Token → ℕ
+through words [] = 0
+through words (t ∷ ts) = if is_one words t then 1 else 1 + through words ts
+
+-- how many tokens a name behind a colon has, if one stands first
+abbrev pub closing_name : List Token → ℕ
+closing_name [] = 0
+closing_name (t ∷ ts) = if is_one (codes ":" ∷ []) t then 1 + min 1 (length ts) else 0
+
+-- how many tokens a named sequence or a property declaration has
+abbrev pub block_length : List Token → ℕ
+block_length ts =
+    through closers ts + closing_name (drop (through closers ts) ts)
+
+-- how many tokens the first item has
+abbrev pub item_length : List Token → ℕ
+item_length [] = 0
+item_length (t ∷ ts) =
+    if is_one openers t then block_length (t ∷ ts) else through ends (t ∷ ts)
+
+-- the byte behind a token, which is no more than the text has
+abbrev pub end_of : ℕ → Token → ℕ
+end_of size token = min size (token.at + length token.text.now)
+
+-- the byte behind the first item
+abbrev pub item_end : ℕ → List Token → ℕ
+item_end size ts =
+    unwrap_or (option_map (end_of size) (slice_get ts (item_length ts - 1))) size
+
+-- the end of a text
+abbrev pub is_end : Kind → Bool
+is_end kinds.End = true
+is_end _ = false
+
+-- whether no item begins there: at the end of the text
+abbrev pub is_over : List Token → Bool
+is_over [] = true
+is_over (t ∷ ts) = is_end t.kind
+
+-- These are the bytes behind the items of tokens.
+pub data AreEnds (size : ℕ) : List Token → List ℕ → Type 0 where
+  over : {ts : List Token} → is_over ts ≡ true → AreEnds size ts []
+  item : {ts : List Token} {ends : List ℕ} → is_over ts ≡ false
+      → AreEnds size (drop (item_length ts) ts) ends
+      → AreEnds size ts (item_end size ts ∷ ends)
+
+-- These are the bytes behind the items of a text.
+pub record AreItemEnds (text ends : List ℕ) : Type 0 where
+  pub tokens : List Token
+  pub cut : tokens_of text ≡ Ok (map cut_of tokens)
+  pub are : AreEnds (length text) tokens ends
+
+-- which item holds a byte: the first that ends behind it, and what is left where none does
+abbrev pub item_at : List ℕ → ℕ → ℕ
+item_at ends at = prefix_len (λ e. nat_le e at) ends
+
+-- where an item begins: behind the one before it
+abbrev pub start_of : List ℕ → ℕ → ℕ
+start_of ends n = if n == 0 then 0 else slice_index ends (n - 1)
+
+-- where an item ends, and what is left with the text
+abbrev pub stop_of : ℕ → List ℕ → ℕ → ℕ
+stop_of size ends n = slice_index_or ends n size

@@ -1,0 +1,7 @@
+pub mod Blanked
+pub mod Hints
+pub mod Items
+pub mod Linted
+pub mod Nearest
+pub mod Places
+pub mod Told

@@ -1,0 +1,186 @@
+//! What to write in place of what is refused.
+
+ghost use Rattle.std.specs.Prelude.{◌≡◌, option_map};
+ghost use Rattle.std.specs.List.{find};
+ghost use Rattle.std.specs.Str.{bytes_eq};
+
+/// A word or a symbol, and what to write in its place.
+pub type Hint = (&'static str, &'static str);
+
+/// Words that the profile leaves out.
+pub const WORDS: [Hint; 30] = [
+    (
+        "within",
+        "write (1[*0:20] ##1 R ##1 1[*0:20]) intersect S for R within S",
+    ),
+    ("first_match", "write it round a whole antecedent alone"),
+    (
+        "strong",
+        "leave it out: what the end of the dump leaves open is told as open",
+    ),
+    (
+        "weak",
+        "leave it out: what the end of the dump leaves open is told as open",
+    ),
+    ("not", "write S |-> 0 for not (S)"),
+    (
+        "if",
+        "write C |-> R and, in another assertion, !C |-> S for if (C) R else S",
+    ),
+    (
+        "else",
+        "leave it out: the report has the clock of each failure",
+    ),
+    ("case", "write an assertion for each case"),
+    ("always", "leave it out: an attempt begins at each clock"),
+    ("nexttime", "write ##1 S"),
+    ("eventually", "write ##[0:60] S, or count in a counter"),
+    (
+        "until",
+        "write a[*0:60] ##1 b for a until b, or count in a counter",
+    ),
+    ("s_always", "write a[*60] for as many clocks as are meant"),
+    ("s_nexttime", "write ##1 S"),
+    ("s_eventually", "write ##[0:60] S, or count in a counter"),
+    (
+        "s_until",
+        "write a[*0:60] ##1 b for a s_until b, or count in a counter",
+    ),
+    (
+        "s_until_with",
+        "write a[*1:60] ##0 b for a s_until_with b, or count in a counter",
+    ),
+    (
+        "until_with",
+        "write a[*1:60] ##0 b for a until_with b, or count in a counter",
+    ),
+    ("implies", "write !a || b for a implies b, or a |-> b"),
+    ("iff", "write !a == !b for a iff b"),
+    (
+        "accept_on",
+        "write disable iff (C), in an assertion of its own",
+    ),
+    ("reject_on", "write a |-> !C, in an assertion of its own"),
+    (
+        "cover",
+        "write assert property (.. S |-> 1): what holds is what was covered",
+    ),
+    ("restrict", "leave it out: it is for formal tools"),
+    (
+        "property",
+        "write its body in each assertion; named sequences are for what is shared",
+    ),
+    (
+        "default",
+        "write the clock and disable iff in each assertion",
+    ),
+    ("clocking", "write the clock in each assertion"),
+    (
+        "negedge",
+        "name a clock that is turned round in the bench: wire nclk = ~clk;",
+    ),
+    ("edge", "write posedge"),
+    (
+        "local",
+        "leave it out: $past(a, n) is for what was sampled before",
+    ),
+];
+
+/// Symbols and system names that the profile leaves out.
+pub const SIGNS: [Hint; 11] = [
+    (
+        "*",
+        "name the product by a wire in the bench, or write a sum or a shift",
+    ),
+    (
+        "/",
+        "name the quotient by a wire in the bench, or write a shift",
+    ),
+    (
+        "%",
+        "name the remainder by a wire in the bench, or write low bits, as a[1:0]",
+    ),
+    ("$", "write a bound, as ##[1:60], or count in a counter"),
+    (
+        "$countones",
+        "write $onehot(v) for == 1, $onehot0(v) for <= 1",
+    ),
+    ("$isunknown", "leave it out: x and z are 0"),
+    ("$sampled", "leave it out: all values are sampled"),
+    (
+        "$error",
+        "leave it out: the report has the clock of each failure",
+    ),
+    (
+        "$display",
+        "leave it out: the report has the clock of each failure",
+    ),
+    (
+        "|->",
+        "write one antecedent: A ##0 B |-> C for A |-> (B |-> C)",
+    ),
+    (
+        "|=>",
+        "write one antecedent: A ##0 B |=> C for A |-> (B |=> C)",
+    ),
+];
+
+/// Codes of faults that say what may stand there.
+pub const CODES: [Hint; 13] = [
+    (
+        "L2",
+        "digits are those of the base, without x, z and ?, and a size is from 1 to 128",
+    ),
+    ("L3", "the comment has no end"),
+    (
+        "P3",
+        "at most 64 brackets and unfinished operators are open at once",
+    ),
+    (
+        "P4",
+        "a bound is a plain decimal from 0 to 127, and the lower one stands first",
+    ),
+    (
+        "Y2",
+        "names of assertions, sequences and counters are all different",
+    ),
+    ("Y3", "a concatenation has at most 128 bits"),
+    (
+        "Y4",
+        "bits are counted from 0 at the right, whatever range is declared",
+    ),
+    (
+        "Y5",
+        "the side can match no clock, whatever the signals are",
+    ),
+    (
+        "Y6",
+        "the consequent may match without a clock: begin its range at 1",
+    ),
+    (
+        "Y7",
+        "all assertions have the clock of the first one: make a file for each clock",
+    ),
+    ("Y8", "a sequence can't be used in itself"),
+    (
+        "Y9",
+        "a side weighs at most 127: split S and T into two assertions, or use a counter",
+    ),
+    (
+        "C1",
+        "the path behind posedge names no variable of the dump",
+    ),
+];
+
+/// What stands beside a word, in the first row that has it.
+pub fn hint_beside(word: &str, rows: &[Hint]) -> Option<&'static str>
+    ensures { option_map (λ hint. hint.now) result ≡ option_map (λ row. row.1.now)
+        (find (λ row. bytes_eq row.0.now word.now) rows.now) }
+{
+    for (other, hint) in rows {
+        if *other == word {
+            return Some(*hint);
+        }
+    }
+    None
+}

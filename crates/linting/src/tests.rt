@@ -1,0 +1,163 @@
+//! Each function on its happy path.
+
+use crate::{
+    CODES, FrontEnd, Linted, MARKS, Place, Refusal, SIGNS, WORDS, blanked, hint_at, hint_beside,
+    item_at, item_ends, lint, nearest, place_of, push_refusal, push_total, span_at,
+};
+use std::alloc::{AllocError, Global};
+use std::test::Fail;
+
+#[test]
+fn places(rt: HostRuntime) -> Result<(), Fail> {
+    for (text, at, line, column) in [
+        ("", 0, 1, 1),
+        ("ab", 1, 1, 2),
+        ("ab\n", 2, 1, 3),
+        ("ab\ncd", 3, 2, 1),
+        ("ab\n\ncd", 5, 3, 2),
+        ("ab\n", 9, 2, 1),
+    ] {
+        assert!(rt;
+            place_of(text, at) == Place { line, column },
+            "{at} in {text}"
+        );
+    }
+    Ok(())
+}
+
+#[test]
+fn refusals_are_told(rt: HostRuntime) -> Result<(), Fail> {
+    let text = "a;\n\tx /* \u{e9} */ y z;\nb;\n";
+    let mut out = String::new(rt.alloc());
+    push_refusal(&mut out, "r.sva", text, 17, "Y1 UnknownName z")?;
+    push_total(&mut out, 1, 3)?;
+    let line = "r.sva:2:15: Y1 UnknownName z\n\tx /* \u{e9} */ y z;\n\t            ^\n";
+    let total = "1 of 3 items refused\n";
+    assert!(rt; out.as_str() == format!(in rt.alloc(); "{line}{total}")?.as_str());
+    Ok(())
+}
+
+#[test]
+fn items_are_blanked(rt: HostRuntime) -> Result<(), Fail> {
+    let text = "a\nb; c;";
+    let left = blanked(rt.alloc(), text, 0, 4)?;
+    assert!(rt; left.as_str() == " \n   c;");
+    Ok(())
+}
+
+/// Names of a dump.
+fn names_of(alloc: Global) -> Result<Vec<String>, AllocError> {
+    let mut names = Vec::new(alloc);
+    for name in ["tb.f_full", "tb.full", "tb.fall", "tb.empty"] {
+        names.push(String::from_str(alloc, name)?)?;
+    }
+    Ok(names)
+}
+
+#[test]
+fn names_are_near(rt: HostRuntime) -> Result<(), Fail> {
+    let names = names_of(rt.alloc())?;
+    for (name, meant) in [
+        ("tb.ful", Some(1)),
+        ("tb.flal", Some(2)),
+        ("tb.fal", Some(2)),
+        ("tb.emtpy", Some(3)),
+        ("tb.f_ful", Some(0)),
+        ("tb.ready", None),
+        ("tb", None),
+    ] {
+        let found = nearest(rt.alloc(), 2, name, names.as_slice())?;
+        assert!(rt; found == meant, "{name}");
+    }
+    Ok(())
+}
+
+#[test]
+fn hints(rt: HostRuntime) -> Result<(), Fail> {
+    assert!(rt; hint_beside("nexttime", &WORDS) == Some("write ##1 S"));
+    assert!(rt; hint_beside("next", &WORDS).is_none());
+    assert!(rt; hint_beside("%", &SIGNS).is_some());
+    assert!(rt; hint_beside("Y3", &CODES) == Some("a concatenation has at most 128 bits"));
+    assert!(rt; hint_at("a === b", 4, &MARKS) == Some("write ==: x and z are 0"));
+    assert!(rt; hint_at("a <<< b", 4, &MARKS) == Some("write <<"));
+    assert!(rt; hint_at("a = b", 2, &MARKS).is_none());
+    Ok(())
+}
+
+/// The ends of a text's items.
+fn are_ends(alloc: Global, text: &str, ends: &[usize]) -> Result<bool, AllocError> {
+    let found = item_ends(alloc, text)?;
+    Ok(found.as_slice() == ends)
+}
+
+#[test]
+fn items_end(rt: HostRuntime) -> Result<(), Fail> {
+    let alloc = rt.alloc();
+    assert!(rt; are_ends(alloc, "", &[])?);
+    assert!(rt; are_ends(alloc, " a; b // ;\n ;", &[3, 13])?);
+    assert!(rt; are_ends(alloc, "sequence s; a; endsequence : s b;", &[30, 33])?);
+    assert!(rt;
+        are_ends(
+            alloc,
+            "property p; a; endproperty assert property (p);",
+            &[26, 47]
+        )?
+    );
+    assert!(rt; are_ends(alloc, "a \"x; y\"; b", &[9, 11])?);
+    assert!(rt; are_ends(alloc, "x = 4'bx; \\a;b ; c;", &[9, 16, 19])?);
+    Ok(())
+}
+
+#[test]
+fn items_hold(rt: HostRuntime) -> Result<(), Fail> {
+    let text = "ab;cd;  ";
+    for (at, item, start, end) in [(0, 0, 0, 3), (2, 0, 0, 3), (3, 1, 3, 6), (6, 2, 6, 8)] {
+        assert!(rt; item_at(&[3, 6], at) == item, "{at}");
+        let Some(span) = span_at(text, &[3, 6], at) else {
+            return Err(Fail::from("there is no span"));
+        };
+        assert!(rt;
+            span.item == item && span.start == start && span.end == end,
+            "{at}"
+        );
+    }
+    Ok(())
+}
+
+/// Refuses each `x` of a text.
+struct NoX;
+
+impl FrontEnd for NoX {
+    ghost use Rattle.std.specs.Prelude.{ℕ, List};
+
+    ghost accepts = { λ _ _. Unit {0} };
+
+    ghost refuses = { λ _ _ _. Unit {0} };
+
+    fn refusal(&self, alloc: Global, text: &str) -> Result<Option<Refusal>, AllocError> {
+        match text.find('x') {
+            None => Ok(None),
+            Some(at) => Ok(Some(Refusal {
+                at,
+                message: String::from_str(alloc, "x")?,
+            })),
+        }
+    }
+}
+
+#[test]
+fn all_are_told(rt: HostRuntime) -> Result<(), Fail> {
+    let text = "a; x b; c x;\nx; d;";
+    let ends = item_ends(rt.alloc(), text)?;
+    let Linted { refusals, rest } = lint(rt.alloc(), &NoX, text, ends.as_slice())?;
+    let mut places = Vec::new(rt.alloc());
+    for refusal in &refusals {
+        places.push(refusal.at)?;
+    }
+    assert!(rt; places.as_slice() == [3, 10, 13].as_slice());
+    let Some(rest) = rest else {
+        return Err(Fail::from("nothing is left"));
+    };
+    assert!(rt; rest.as_str() == "a;          \n   d;");
+    Ok(())
+}
