@@ -240,7 +240,11 @@ fn explain_command<'a>(alloc: Global) -> Result<Command<'a>, AllocError>
 fn lint_command<'a>(alloc: Global) -> Result<Command<'a>, AllocError>
     ensures { IfOk result (λ c. app_of c ≡ lint_app) }
 {
-    text_command(alloc, "lint", "Tells each refusal of assertions over a dump")
+    text_command(
+        alloc,
+        "lint",
+        "Tells each refusal of assertions over a dump",
+    )
 }
 
 fn rules_command<'a>(alloc: Global) -> Result<Command<'a>, AllocError>
