@@ -1,6 +1,7 @@
 pub mod RunLaws
 pub mod PathLaws
 pub mod TextLaws
+pub mod TimeLaws
 pub mod ProgramLaws
 pub mod BuildLaws
 pub mod CheckedLaws

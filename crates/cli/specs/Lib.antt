@@ -2,5 +2,6 @@ pub mod Dumps
 pub mod Named
 pub mod Programs
 pub mod Reported
+pub mod Timed
 pub mod Outcomes
 pub mod Builds

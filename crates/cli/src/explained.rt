@@ -7,10 +7,11 @@ use crate::checked::{TimedSuite, timed_suite};
 use crate::heads::{Heads, heads_of, line_and_column};
 use crate::programs::{lines_fault, report_by_programs};
 use crate::text::file_of;
+use crate::times::times_of;
 use crate::wanted::Wanted;
 use assertions::{Assertion, Suite};
 use cli_faults::Fault;
-use cycle_window::{Clocks, WindowSize, time_of_tick};
+use cycle_window::WindowSize;
 use explaining::{Attempt, Read, push_sheet, sheet_of};
 use expressions::Rows;
 use judging::{Cause, cause_of};
@@ -30,20 +31,6 @@ pub(crate) struct Trace<'a> {
     rows: Rows,
     times: Vec<u64>,
     report: Report,
-}
-
-/// The times of so many ticks.
-fn times_of(
-    alloc: Global,
-    dump: &Dump,
-    clocks: &Clocks,
-    count: usize,
-) -> Result<Vec<u64>, AllocError> {
-    let mut times = Vec::with_capacity(alloc, count)?;
-    for tick in 0..count {
-        times.push(time_of_tick(dump, clocks, tick))?;
-    }
-    Ok(times)
 }
 
 /// What is explained of a text over a dump: the report is that of `check`.

@@ -3,6 +3,7 @@
 //! ```text
 //! let totals = check_one(alloc, &mut dump, text, 1024, &mut out)?;  // the report
 //! let totals = check_all(&rt, alloc, &mut dump, text, 4, 1024, &gate, &mut out)?; // by 4 workers
+//! let timed = report_all(&rt, alloc, &mut dump, text, 4, 1024, &gate)?;  // with its clocks' times
 //! let totals = judge_one(alloc, &mut dump, text, &mut out)?;        // the same, by the slow judge
 //! let bytes = build_one(alloc, &mut dump, text, "grant")?;          // an assertion's program
 //! let count = explain_one(alloc, &mut dump, text, "rules.sva", &wanted, &mut out)?;  // failures
@@ -13,8 +14,9 @@
 //! the text.
 //!
 //! The definitions: what a report on bytes and a text is in `specs/Reported.antt`, what a run comes
-//! to in `specs/Outcomes.antt`, what a build comes to in `specs/Builds.antt`; the report on a suite
-//! in `judging_reports`; faults, their lines and statuses in `cli_faults`.
+//! to in `specs/Outcomes.antt`, the times of clocks in `specs/Timed.antt`, what a build comes to
+//! in `specs/Builds.antt`; the report on a suite in `judging_reports`; faults, their lines and
+//! statuses in `cli_faults`.
 //!
 //! Not promised: that memory suffices; of `check_all`, that it returns, and that two workers were
 //! at work at once.
@@ -30,6 +32,8 @@ mod heads;
 mod judged;
 mod programs;
 mod text;
+mod timed;
+mod times;
 mod wanted;
 
 pub use build::build_one;
@@ -38,4 +42,5 @@ pub use cli_faults::{Fault, fault_line, status};
 pub use cli_lines::{Gate, NoGate};
 pub use cli_words::{Request, WordsFault, read_words};
 pub use explain::explain_one;
+pub use timed::{TimedReport, report_all};
 pub use wanted::Wanted;

@@ -2,6 +2,7 @@
 
 use crate::assertions_text::read_rules;
 use cli_faults::Fault;
+use cli_words::VERSION;
 use signals::{Counted, Sink, write_all};
 use std::fs::Files;
 use std::io;
@@ -15,6 +16,12 @@ fn print_text<R: Print + AllocGlobal>(rt: &R, text: &str) -> Result<(), Fault<'s
         return Err(Fault::Report(ReportFault::Write));
     }
     Ok(())
+}
+
+/// The program's name and version go to standard output.
+pub(crate) fn print_version<R: Print + AllocGlobal>(rt: &R) -> Result<(), Fault<'static>> {
+    let line = format!(in rt.alloc(); "svamon {VERSION}\n")?;
+    print_text(rt, line.as_str())
 }
 
 /// The rules of the ports that a file names go to standard output.

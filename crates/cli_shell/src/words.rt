@@ -1,11 +1,12 @@
 //! The words of the command line, and what they ask for.
 
+use crate::print::print_version;
 use crate::status::shown_status;
 use cli_faults::Fault;
-use cli_words::{Request, read_words};
+use cli_words::{Request, asks_for_version, read_words};
 use std::alloc::AllocError;
 use std::env::Env;
-use std::io::{Eprint, ErrorKind};
+use std::io::{Eprint, ErrorKind, Print};
 use std::{env, io};
 
 /// The words of the command line, the program's name first.
@@ -33,6 +34,22 @@ fn slices_of<'a, R: AllocGlobal>(rt: &R, words: &'a [String]) -> Result<Vec<&'a 
         slices.push(word.as_str())?;
     }
     Ok(slices)
+}
+
+/// Prints the version to standard output, where the words ask for it, and answers the status; None
+/// where they don't.
+pub fn shown_version<R: Print + Eprint + AllocGlobal>(rt: &R, words: &[String]) -> Option<u8> {
+    let asked = match slices_of(rt, words) {
+        Ok(slices) => asks_for_version(slices.as_slice()),
+        Err(_) => return Some(shown_status(rt, Err(Fault::Memory))),
+    };
+    if !asked {
+        return None;
+    }
+    match print_version(rt) {
+        Ok(()) => Some(0),
+        Err(fault) => Some(shown_status(rt, Err(fault))),
+    }
 }
 
 /// What the words of the command line ask for.

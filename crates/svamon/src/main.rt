@@ -2,6 +2,7 @@
 //!
 //! ```text
 //! svamon check --vcd top.vcd --sva rules.sva [--axi ports.txt] [--workers 4] [--window 1024]
+//!     [--junit report.xml] [--json report.json]
 //! svamon judge --vcd top.vcd --sva rules.sva [--axi ports.txt]
 //! svamon build --vcd top.vcd --sva rules.sva [--axi ports.txt] --name r --out r.svm
 //! svamon run --vcd top.vcd --code r.svm [--workers 4] [--window 1024]
@@ -10,6 +11,7 @@
 //! svamon explain --vcd top.vcd --sva rules.sva [--axi ports.txt] [--only r] [--start 9] [--most 1]
 //! svamon lint --vcd top.vcd --sva rules.sva [--axi ports.txt]
 //! svamon rules --axi ports.txt
+//! svamon --version
 //! ```
 //!
 //! A report goes to standard output, a fault as one line to standard error. The status is 0 where

@@ -1,11 +1,13 @@
 //! The commands, from the words of the command line to the answer.
 
-use cli::{Fault, NoGate, Request, Wanted, build_one, check_all, explain_one, judge_one};
+use cli::{
+    Fault, NoGate, Request, Wanted, build_one, check_all, explain_one, judge_one, report_all,
+};
 use cli_code::{run_code, upgrade_code, verify_code};
 use cli_lint::{LintFault, lint_one};
 use cli_shell::{
-    open, print_rules, read_assertions, read_bytes, refuse_words, request_of, shown_status,
-    words_of, write_bytes,
+    FormFiles, Provenance, open, print_report, print_rules, read_assertions, read_bytes,
+    refuse_words, request_of, shown_status, shown_version, words_of, write_bytes,
 };
 use signals::Counted;
 use std::env::Env;
@@ -64,6 +66,53 @@ fn serve_text<R: Files + Print + Eprint + AllocGlobal + Threads + Wait + Sync>(
         Err(fault) => return shown_status(rt, Err(fault)),
     };
     shown_status(rt, judge_text(rt, dump, text.as_str(), team))
+}
+
+/// Judges the text of a path over the dump of another by a team; the report goes to files in other
+/// forms, and to standard output.
+fn judge_into_forms<'a, R: Files + Print + AllocGlobal + Threads + Wait + Sync>(
+    rt: &R,
+    dump: R::File,
+    text: &'a str,
+    vcd: &str,
+    sva: &str,
+    team: Team,
+    files: &FormFiles<'_>,
+) -> Result<[u64; 5], Fault<'a>> {
+    let mut dump = Counted::new(dump);
+    let Team { workers, window } = team;
+    let made = report_all(rt, rt.alloc(), &mut dump, text, workers, window, &NoGate)?;
+    let from = Provenance {
+        dump: vcd,
+        text: sva,
+        times: made.times.as_slice(),
+    };
+    print_report(rt, files, &from, &made.report)
+}
+
+/// Opens the dump, then reads the text, and judges it by a team; the report goes to files in other
+/// forms, too, where there are any.
+fn serve_check<R: Files + Print + Eprint + AllocGlobal + Threads + Wait + Sync>(
+    rt: &R,
+    vcd: &str,
+    sva: &str,
+    axi: Option<&str>,
+    team: Team,
+    files: &FormFiles<'_>,
+) -> u8 {
+    if files.is_empty() {
+        return serve_text(rt, vcd, sva, axi, Some(team));
+    }
+    let dump = match open(rt, vcd) {
+        Ok(dump) => dump,
+        Err(fault) => return shown_status(rt, Err(fault)),
+    };
+    let text = match read_assertions(rt, sva, axi) {
+        Ok(text) => text,
+        Err(fault) => return shown_status(rt, Err(fault)),
+    };
+    let outcome = judge_into_forms(rt, dump, text.as_str(), vcd, sva, team, files);
+    shown_status(rt, outcome)
 }
 
 /// Explains failed attempts of a text's assertions over a dump; the text goes to standard output.
@@ -279,16 +328,19 @@ fn serve<R: Files + Print + Eprint + AllocGlobal + Threads + Wait + Sync>(
             axi,
             workers,
             window,
-        } => serve_text(
-            rt,
-            vcd.as_str(),
-            sva.as_str(),
-            path_of(axi),
-            Some(Team {
+            junit,
+            json,
+        } => {
+            let team = Team {
                 workers: *workers,
                 window: *window,
-            }),
-        ),
+            };
+            let files = FormFiles {
+                junit: path_of(junit),
+                json: path_of(json),
+            };
+            serve_check(rt, vcd.as_str(), sva.as_str(), path_of(axi), team, &files)
+        }
         Request::Build {
             vcd,
             sva,
@@ -348,6 +400,9 @@ pub fn answer<R: Files + Env + Print + Eprint + AllocGlobal + Threads + Wait + S
         Ok(words) => words,
         Err(error) => return refuse_words(rt, &error),
     };
+    if let Some(status) = shown_version(rt, words.as_slice()) {
+        return status;
+    }
     match request_of(rt, words.as_slice()) {
         Ok(request) => serve(rt, &request),
         Err(fault) => shown_status(rt, Err(fault)),

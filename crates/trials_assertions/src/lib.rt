@@ -1,6 +1,6 @@
 //! Tests of what expressions, sequences, sections and programs are made of, from `expressions` to
-//! `bytecode`, and of causes and their sheets, on happy paths: what no table of a program
-//! `oracle_*` reaches by itself.
+//! `bytecode`, of causes and their sheets, and of reports in other forms, on happy paths: what no
+//! table of a program `oracle_*` reaches by itself.
 //!
 //! They stand above those crates, so that the gate proves each of them once, and not once more
 //! beside its tests; and they are several crates, since one process that goes through the tests of
@@ -22,6 +22,8 @@
 //! Not promised: that each form and each fault occurs here; this crate has no public functions.
 #![tactic(auto)]
 
+#[cfg(test)]
+mod forms;
 #[cfg(test)]
 mod named_sequences;
 #[cfg(test)]

@@ -20,9 +20,13 @@ fn line_of(alloc: Global, request: &Request) -> Result<String, AllocError> {
             axi,
             workers,
             window,
+            junit,
+            json,
         } => format!(in alloc;
-            "check {vcd} {sva} {} {workers} {window}",
-            file_or_none(axi)
+            "check {vcd} {sva} {} {workers} {window} {} {}",
+            file_or_none(axi),
+            file_or_none(junit),
+            file_or_none(json)
         ),
         Request::Judge { vcd, sva, axi } => {
             format!(in alloc; "judge {vcd} {sva} {}", file_or_none(axi))
@@ -84,11 +88,15 @@ fn words_are_read(rt: HostRuntime) -> Result<(), Fail> {
     for (words, wanted) in [
         (
             "svamon check --vcd a.vcd --sva a.sva --window 7 --workers 64",
-            "check a.vcd a.sva none 64 7",
+            "check a.vcd a.sva none 64 7 none none",
         ),
         (
             "svamon check --sva a.sva --vcd a.vcd",
-            "check a.vcd a.sva none 4 1024",
+            "check a.vcd a.sva none 4 1024 none none",
+        ),
+        (
+            "svamon check --json b --sva a.sva --vcd a.vcd --junit c",
+            "check a.vcd a.sva none 4 1024 c b",
         ),
         (
             "svamon judge --vcd a.vcd --sva a.sva --axi p",
@@ -125,6 +133,8 @@ fn words_are_read(rt: HostRuntime) -> Result<(), Fail> {
         ("svamon check --vcd a --sva b --workers 0", "refused 2 true"),
         ("svamon run --vcd a --code b --workers 65", "refused 2 true"),
         ("svamon check --vcd a", "refused 2 true"),
+        ("svamon judge --vcd a --sva b --junit c", "refused 2 true"),
+        ("svamon check --vcd a --sva b --json", "refused 2 true"),
         ("svamon chek", "refused 2 true"),
         ("svamon --help", "refused 2 true"),
         ("svamon verify", "refused 2 true"),

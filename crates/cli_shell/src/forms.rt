@@ -1,0 +1,81 @@
+//! A report on standard output, and before it in files in other forms.
+
+use crate::files::write_bytes;
+use cli_faults::{Fault, written};
+use report_forms::{Provenance, json_report, junit_report};
+use signals::Counted;
+use std::alloc::{AllocError, Global};
+use std::fs::Files;
+use std::io;
+use std::io::Print;
+use verdicts::Report;
+
+/// The paths of files into which a report is written in other forms, where there are any.
+#[derive(Clone, Copy)]
+pub struct FormFiles<'a> {
+    /// That of JUnit's XML.
+    pub junit: Option<&'a str>,
+    /// That of JSON.
+    pub json: Option<&'a str>,
+}
+
+impl FormFiles<'_> {
+    /// Whether there is none.
+    pub fn is_empty(&self) -> bool {
+        self.junit.is_none() && self.json.is_none()
+    }
+
+    /// The bytes of the XML, none where it isn't wanted.
+    fn junit_bytes(
+        &self,
+        alloc: Global,
+        from: &Provenance<'_>,
+        report: &Report,
+    ) -> Result<Vec<u8>, AllocError> {
+        match self.junit {
+            None => Ok(Vec::new(alloc)),
+            Some(_) => junit_report(alloc, from, report),
+        }
+    }
+
+    /// The bytes of the JSON, none where it isn't wanted.
+    fn json_bytes(
+        &self,
+        alloc: Global,
+        from: &Provenance<'_>,
+        report: &Report,
+    ) -> Result<Vec<u8>, AllocError> {
+        match self.json {
+            None => Ok(Vec::new(alloc)),
+            Some(_) => json_report(alloc, from, report),
+        }
+    }
+}
+
+/// Makes the file of a path, where there is one.
+fn write_form<R: Files + AllocGlobal>(
+    rt: &R,
+    path: Option<&str>,
+    bytes: &[u8],
+) -> Result<(), Fault<'static>> {
+    match path {
+        None => Ok(()),
+        Some(path) => write_bytes(rt, path, bytes),
+    }
+}
+
+/// Writes a report into files in other forms, which all are made before one is written, and then to
+/// standard output; answers its totals.
+pub fn print_report<R: Files + Print + AllocGlobal>(
+    rt: &R,
+    files: &FormFiles<'_>,
+    from: &Provenance<'_>,
+    report: &Report,
+) -> Result<[u64; 5], Fault<'static>> {
+    let junit = files.junit_bytes(rt.alloc(), from, report)?;
+    let json = files.json_bytes(rt.alloc(), from, report)?;
+    write_form(rt, files.junit, junit.as_slice())?;
+    write_form(rt, files.json, json.as_slice())?;
+    let mut out = Counted::new(io::writer(rt));
+    written(rt.alloc(), report, &mut out)
+}
