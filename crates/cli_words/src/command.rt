@@ -6,7 +6,7 @@ ghost use Rattle.clap.specs.declared.builder.value_parser.ValueParser.TheVariant
 ghost use Rattle.cli_words.specs.Words.{file_rule, word_rule, axi_rule, workers_rule};
 ghost use Rattle.cli_words.specs.Words.{option_rule, window_rule};
 ghost use Rattle.cli_words.specs.Words.{text_app, check_app, build_app, verify_app, run_app};
-ghost use Rattle.cli_words.specs.Words.{judge_app, rules_app, upgrade_app, first_app};
+ghost use Rattle.cli_words.specs.Words.{judge_app, lint_app, rules_app, upgrade_app, first_app};
 ghost use Rattle.cli_words.specs.Words.{explain_app, only_rule, start_rule, most_rule};
 ghost use Rattle.cli_words.specs.Words.{svamon_app};
 
