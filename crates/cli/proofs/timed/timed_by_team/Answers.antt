@@ -1,4 +1,4 @@
-use Rattle.std.proofs.Common.{◌≡◌, ◌∙◌, ℕ, List, length, string_bytes, sym, ap, subst, arith}
+use Rattle.std.proofs.Common.{◌≡◌, ◌∙◌, ℕ, List, length, string_bytes, sym, ap, subst}
 use Rattle.std.specs.Prelude.{slice_index}
 use Rattle.std.proofs.lemmas.List.{get_or-take}
 use Rattle.vcd_reader.specs.Held.{steps_in}
@@ -37,9 +37,9 @@ returns-in-Ok-clause-timed g c = λ k holds.
     let d = c.args.dump in
     let code = code_in t.clocks in
     let before = c.in_ok-times.times.items in
-    let count : c.len.result ≡ length (steps_in d) = omega (arith, ap length c.steps.ensures) in
     let are : AreTimesIn (steps_in d) (ticks_in t.clocks) (length (steps_in d)) before =
-    subst (λ (n : ℕ). AreTimesIn (steps_in d) (ticks_in t.clocks) n before) count c.in_ok-times.ensures in
+    subst (λ (n : ℕ). AreTimesIn (steps_in d) (ticks_in t.clocks) n before) (ap length c.steps.ensures)
+    c.in_ok-times.ensures in
     record {
       suite = t.suite;
       says = c.in_ok-suite.ensures.says k holds;
