@@ -1,5 +1,6 @@
 -- Which texts are accepted over the variables of a dump, and at which byte others are refused.
 use Rattle.std.specs.Prelude.{◌≡◌, ℕ, List, Option, Some, None, Ok, map}
+use Rattle.std.specs.Prelude.{Bool, true, false, ◌==◌}
 use Rattle.lexer.specs.declared.token.Token.{Token}
 use Rattle.lexer.specs.declared.fault.LexFault.{LexFault}
 use Rattle.lexer.specs.declared.fault.LexFault.TheVariants as lexing
@@ -15,6 +16,7 @@ use Rattle.types_names.specs.Asked.{scope_for}
 use Rattle.types_suites.specs.declared.fault.TypeFault.{TypeFault}
 use Rattle.types_suites.specs.declared.fault.TypeFault.TheVariants as types
 use Rattle.types_suites.specs.Faults.{IsFaultless, IsTypeFault}
+use Rattle.types_suites.specs.Texts.{assertions_of, suite_clock}
 use Rattle.vcd_reader.specs.Variables.{Declared}
 use Rattle.cli_lint.specs.Dumps.{width_named}
 
@@ -27,12 +29,21 @@ pub record Spells (text : List ℕ) (tokens : List Token) (items : List ItemForm
   pub cut : tokens_of text ≡ Ok (map cut_of tokens)
   pub spelled : IsFile items tokens
 
--- The text spells items in which no fault of types stands.
+abbrev pub is_one_bit : Option ℕ → Bool
+is_one_bit None = false
+is_one_bit (Some width) = width == 1
+
+-- whether the clock of items is a variable of one bit
+abbrev pub has_clock : List Declared → List ItemForm → Bool
+has_clock vs items = is_one_bit (width_named vs (suite_clock (assertions_of items)))
+
+-- The text spells items in which no fault of types stands, and which have a clock.
 pub record IsAccepted (vs : List Declared) (text : List ℕ) : Type 0 where
   pub tokens : List Token
   pub items : List ItemForm
   pub spells : Spells text tokens items
   pub faultless : IsFaultless (scope_over vs items) items
+  pub clocked : has_clock vs items ≡ true
 
 -- the bytes at which faults stand
 abbrev pub byte_of_lex : LexFault → Option ℕ
@@ -60,8 +71,8 @@ byte_of_type (types.CyclicSequence at) = Some at
 byte_of_type (types.TooWide at) = Some at
 byte_of_type types.Memory = None
 
--- The text is refused at a byte: it has no tokens, its tokens spell no items, or there is a fault
--- of types in its items.
+-- The text is refused at a byte: it has no tokens, its tokens spell no items, there is a fault of
+-- types in its items, or they have no clock.
 pub data IsRefused (vs : List Declared) (text : List ℕ) (at : ℕ) : Type 0 where
   unlexed : (fault : LexFault) → IsLexFault text fault → byte_of_lex fault ≡ Some at
       → IsRefused vs text at
@@ -70,3 +81,5 @@ pub data IsRefused (vs : List Declared) (text : List ℕ) (at : ℕ) : Type 0 wh
   mistyped : (fault : TypeFault) (tokens : List Token) (items : List ItemForm)
       → Spells text tokens items → IsTypeFault (scope_over vs items) items fault
       → byte_of_type fault ≡ Some at → IsRefused vs text at
+  unclocked : (tokens : List Token) (items : List ItemForm) → Spells text tokens items
+      → has_clock vs items ≡ false → IsRefused vs text at

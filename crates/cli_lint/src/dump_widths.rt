@@ -14,7 +14,7 @@ pub(crate) struct DumpWidths<'d> {
 }
 
 /// The width of the variable that a path names, if it can be bound.
-fn width_in_dump(dump: &Dump, path: &str) -> Option<Width>
+pub(crate) fn width_in_dump(dump: &Dump, path: &str) -> Option<Width>
     ensures { option_map (λ w. w.bits) result ≡ width_named (variables_of dump.now) path.now }
 {
     let variable = dump.var(path)?;

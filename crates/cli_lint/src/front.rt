@@ -1,18 +1,22 @@
 //! What refuses texts over a dump.
 
-ghost use Rattle.std.specs.Prelude.{◌≡◌, ◌≢◌, Ok, map, IfOk, IfErr, MatchOption};
+ghost use Rattle.std.specs.Prelude.{◌≡◌, ◌≢◌, Ok, map, IfOk, IfErr};
+ghost use Rattle.std.specs.Prelude.{MatchOption, string_bytes};
 ghost use Rattle.lexer.specs.Cutting.{cut_of, tokens_of};
 ghost use Rattle.parser.specs.Faults.{IsParseFault};
 ghost use Rattle.parser_grammar.specs.Views.{items_of};
 ghost use Rattle.vcd_reader.specs.Held.{variables_of};
 ghost use Rattle.types_suites.specs.Faults.{IsFaultless, IsTypeFault};
-ghost use Rattle.cli_lint.specs.Refused.{IsAccepted, IsRefused, Spells, scope_over};
+ghost use Rattle.types_suites.specs.Texts.{assertions_of, suite_clock};
+ghost use Rattle.cli_lint.specs.Dumps.{width_named};
+ghost use Rattle.cli_lint.specs.Refused.{IsAccepted, IsRefused, Spells, scope_over, is_one_bit};
 
-use crate::dump_widths::DumpWidths;
+use crate::dump_widths::{DumpWidths, width_in_dump};
+use crate::known::told_path;
 use crate::messages::{lex_refusal, parse_refusal, type_refusal};
 use lexer::{Token, lex};
 use linting::{FrontEnd, Refusal};
-use parser::{File, ParseFault, parse};
+use parser::{File, ItemTree, ParseFault, parse};
 use std::alloc::{AllocError, Global};
 use types::check;
 use types_suites::TypeFault;
@@ -26,15 +30,54 @@ pub(crate) struct DumpFront<'d> {
     pub(crate) whole: &'d str,
 }
 
-/// Whether no fault of types stands in the items of a text, or the first.
-fn typed_over(alloc: Global, dump: &Dump, file: &File) -> Result<(), TypeFault>
+/// The clock of items in which no fault of types stands, or the first fault.
+fn typed_over(alloc: Global, dump: &Dump, file: &File) -> Result<String, TypeFault>
     ensures ok { IfOk result (λ _. IsFaultless
         (scope_over (variables_of dump.now) (items_of file.now)) (items_of file.now)) }
+    ensures clock { IfOk result
+        (λ c. string_bytes c ≡ suite_clock (assertions_of (items_of file.now))) }
     ensures err { IfErr result (IsTypeFault
         (scope_over (variables_of dump.now) (items_of file.now)) (items_of file.now)) }
 {
-    check(alloc, file, &DumpWidths { dump })?;
-    Ok(())
+    let suite = check(alloc, file, &DumpWidths { dump })?;
+    Ok(String::from_str(alloc, suite.clock())?)
+}
+
+/// Whether a path names a variable of one bit.
+fn is_clock(dump: &Dump, path: &str) -> bool
+    ensures { result ≡ is_one_bit (width_named (variables_of dump.now) path.now) }
+{
+    match width_in_dump(dump, path) {
+        None => false,
+        Some(width) => width.bits == 1,
+    }
+}
+
+/// The byte at which the first clock of items stands.
+fn clock_place(file: &File) -> usize {
+    for item in &file.items {
+        if let ItemTree::Assertion(assertion) = item {
+            return assertion.clock.first.at;
+        }
+    }
+    0
+}
+
+/// The refusal of items whose clock is none.
+fn unclocked(
+    alloc: Global,
+    front: &DumpFront,
+    file: &File,
+    clock: &str,
+) -> Result<Refusal, AllocError> {
+    let message = match front.dump.var(clock) {
+        None => told_path(alloc, front.names, "C1 NoClock", clock)?,
+        Some(_) => format!(in alloc; "C2 ClockWidth {clock}; a clock has one bit")?,
+    };
+    Ok(Refusal {
+        at: clock_place(file),
+        message,
+    })
 }
 
 /// The refusal of the items that a text spells, if there is one.
@@ -50,10 +93,14 @@ fn typed(
         (text.now ≡ front.now.whole.now → IsAccepted (variables_of front.now.dump.now) text.now)
         (λ refusal. IsRefused (variables_of front.now.dump.now) text.now refusal.at)) }
 {
-    match typed_over(alloc, front.dump, file) {
-        Ok(()) => Ok(None),
-        Err(fault) => Ok(Some(type_refusal(alloc, front.names, text, fault)?)),
+    let clock = match typed_over(alloc, front.dump, file) {
+        Ok(clock) => clock,
+        Err(fault) => return Ok(Some(type_refusal(alloc, front.names, text, fault)?)),
+    };
+    if is_clock(front.dump, clock.as_str()) {
+        return Ok(None);
     }
+    Ok(Some(unclocked(alloc, front, file, clock.as_str())?))
 }
 
 /// Whether a text has no assertion.

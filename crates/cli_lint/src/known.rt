@@ -10,7 +10,7 @@ fn is_path_part(byte: u8) -> bool {
 }
 
 /// The path that begins at a byte of a text.
-fn path_at(text: &str, at: usize) -> &str {
+pub(crate) fn path_at(text: &str, at: usize) -> &str {
     let bytes = text.as_bytes();
     for end in at..bytes.len() {
         if !is_path_part(bytes[end]) {
@@ -50,22 +50,21 @@ fn most_edits(path: &str) -> u8 {
 }
 
 /// What is told of a path that stands for nothing, with the name that may be meant.
-pub(crate) fn unknown_hint(
+pub(crate) fn told_path(
     alloc: Global,
     names: &[String],
-    text: &str,
-    at: usize,
+    what: &str,
+    path: &str,
 ) -> Result<String, AllocError> {
-    let path = path_at(text, at);
     let Some(place) = nearest(alloc, most_edits(path), path, names)? else {
-        return format!(in alloc; "Y1 UnknownName {path}");
+        return format!(in alloc; "{what} {path}");
     };
     let Some(name) = names.get(place) else {
-        return format!(in alloc; "Y1 UnknownName {path}");
+        return format!(in alloc; "{what} {path}");
     };
     let name = name.as_str();
     if name == path {
-        return format!(in alloc; "Y1 UnknownName {path}; it is refused itself, or no value");
+        return format!(in alloc; "{what} {path}; it is refused itself, or no value");
     }
-    format!(in alloc; "Y1 UnknownName {path}; did you mean {name}?")
+    format!(in alloc; "{what} {path}; did you mean {name}?")
 }

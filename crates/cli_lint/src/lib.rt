@@ -15,7 +15,7 @@
 //! `specs/Refused.antt`; what is told of all items, and its text, in `linting`.
 //!
 //! Not promised: what a message says behind its code, that the text is written without a failure,
-//! and that a text is compiled: faults of the clock and of programs (C, K) aren't told.
+//! and that a text is compiled: faults of programs (K) aren't told.
 #![tactic(auto)]
 
 mod dump_widths;

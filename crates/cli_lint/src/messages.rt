@@ -3,7 +3,7 @@
 ghost use Rattle.std.specs.Prelude.{◌≡◌, IfOk, Some};
 ghost use Rattle.cli_lint.specs.Refused.{byte_of_lex, byte_of_parse, byte_of_type};
 
-use crate::known::unknown_hint;
+use crate::known::{path_at, told_path};
 use lexer::LexFault;
 use linting::{CODES, MARKS, Refusal, SIGNS, WORDS, hint_at, hint_beside};
 use parser::ParseFault;
@@ -89,7 +89,7 @@ pub(crate) fn parse_refusal(
 fn unknown(alloc: Global, names: &[String], text: &str, at: usize) -> Result<Refusal, AllocError>
     ensures { IfOk result (λ r. r.at ≡ at) }
 {
-    let message = unknown_hint(alloc, names, text, at)?;
+    let message = told_path(alloc, names, "Y1 UnknownName", path_at(text, at))?;
     Ok(Refusal { at, message })
 }
 

@@ -41,3 +41,14 @@ fn each_item_is_told(rt: HostRuntime) -> Result<(), Fail> {
     assert!(rt; is_told(rt.alloc(), text, wanted, 2)?);
     Ok(())
 }
+
+#[test]
+fn a_clock_is_told(rt: HostRuntime) -> Result<(), Fail> {
+    let text = "a: assert property (@(posedge tb.clj) tb.gnt);\n";
+    let wanted = "r.sva:1:31: C1 NoClock tb.clj; did you mean tb.clk?\n\
+                  a: assert property (@(posedge tb.clj) tb.gnt);\n\
+                  \x20                             ^\n\
+                  1 of 1 items refused\n";
+    assert!(rt; is_told(rt.alloc(), text, wanted, 1)?);
+    Ok(())
+}
