@@ -1,5 +1,6 @@
 pub mod Blanked
 pub mod Hints
+pub mod Strays
 pub mod Items
 pub mod Linted
 pub mod Nearest

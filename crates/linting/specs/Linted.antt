@@ -4,11 +4,20 @@ use Rattle.std.specs.Prelude.{◌≡◌, ℕ, ◌-◌, [], ◌∷◌, ◌++◌, 
 use Rattle.std.specs.Prelude.{string_bytes, String}
 use Rattle.std.specs.declared.alloc.Global.{Global}
 use Rattle.linting.specs.Blanked.{blanked}
+use Rattle.std.specs.Prelude.{nat_lt, ◌&&◌, if◌then◌else◌, slice_index}
 use Rattle.linting.specs.Items.{item_at, start_of, stop_of}
+use Rattle.linting.specs.Strays.{closes_nothing}
 
--- the item in which a refusal stands: at the end of the text, the one that is not ended
+-- the item that holds a byte: at the end of the text, the one that is not ended
+abbrev pub item_with : List ℕ → List ℕ → ℕ → ℕ
+item_with text ends at = item_at ends (min at (length text - 1))
+
+-- The item that is refused by a fault at a byte: the one that holds it; but the one before that,
+-- where this closes nothing, since such a word is taken for a label of what follows.
 abbrev pub item_of : List ℕ → List ℕ → ℕ → ℕ
-item_of text ends at = item_at ends (min at (length text - 1))
+item_of text ends at =
+    let item = item_with text ends at in
+    if nat_lt 0 item && closes_nothing text (slice_index ends (item - 1)) then item - 1 else item
 
 -- the text without the item in which a refusal stands
 abbrev pub without : List ℕ → List ℕ → ℕ → List ℕ

@@ -34,6 +34,7 @@ mod marks;
 mod names;
 mod place;
 mod span;
+mod stray;
 #[cfg(test)]
 mod tests;
 mod told;

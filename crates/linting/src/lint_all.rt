@@ -7,7 +7,8 @@ ghost use Rattle.linting.specs.Linted.{without, IsTold};
 
 use crate::blank::blanked;
 use crate::front::{FrontEnd, Refusal};
-use crate::span::{Span, span_at};
+use crate::span::{Span, span_of_item};
+use crate::stray::refused_item;
 use std::alloc::{AllocError, Global};
 
 /// What is told of a text: its refusals, and the text without the items that are refused. That is
@@ -18,8 +19,7 @@ pub struct Linted {
     pub rest: Option<String>,
 }
 
-/// The bytes of the item in which a refusal stands: at the end of the text, those of the one that
-/// is not ended.
+/// The bytes of the item that a refusal refuses.
 fn span_of(text: &str, ends: &[usize], at: usize) -> Option<Span>
     ensures order { IfSome result (λ s. s.start ≤ s.end) }
     ensures start { IfSome result (λ s. IsCharBoundary text.now s.start) }
@@ -27,7 +27,7 @@ fn span_of(text: &str, ends: &[usize], at: usize) -> Option<Span>
     ensures without { IfSome result
         (λ s. blanked text.now s.start s.end ≡ without text.now ends.now at) }
 {
-    span_at(text, ends, at.min(text.len().saturating_sub(1)))
+    span_of_item(text, ends, refused_item(text, ends, at))
 }
 
 /// The text without an item.

@@ -67,7 +67,7 @@ fn behind(bytes: &[u8], at: usize) -> &[u8]
 }
 
 /// Whether a mark stands so many bytes before a byte.
-fn stands_before(text: &str, at: usize, mark: &str, back: usize) -> bool
+pub(crate) fn stands_before(text: &str, at: usize, mark: &str, back: usize) -> bool
     ensures { result ≡ stands_before text.now at mark.now back }
 {
     if back > at {

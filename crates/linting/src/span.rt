@@ -24,20 +24,18 @@ fn start_of(ends: &[usize], item: usize) -> usize
     ends.get(item - 1).copied().unwrap_or(0)
 }
 
-/// The bytes of the item that holds a byte, with all that stands before its first token; what is
-/// left behind the last item where no item does.
+/// The bytes of an item, with all that stands before its first token; of the number of all items,
+/// what is left after the last.
 ///
 /// None where the text can't be cut there: it can at the ends of its own items.
-pub fn span_at(text: &str, ends: &[usize], at: usize) -> Option<Span>
+pub(crate) fn span_of_item(text: &str, ends: &[usize], item: usize) -> Option<Span>
     ensures order { IfSome result (λ s. s.start ≤ s.end) }
     ensures start { IfSome result (λ s. IsCharBoundary text.now s.start) }
     ensures end { IfSome result (λ s. IsCharBoundary text.now s.end) }
-    ensures item { IfSome result (λ s. s.item ≡ item_at ends.now at) }
-    ensures begins { IfSome result (λ s. s.start ≡ start_of ends.now (item_at ends.now at)) }
-    ensures stops { IfSome result
-        (λ s. s.end ≡ stop_of (length text.now) ends.now (item_at ends.now at)) }
+    ensures item { IfSome result (λ s. s.item ≡ item) }
+    ensures begins { IfSome result (λ s. s.start ≡ start_of ends.now item) }
+    ensures stops { IfSome result (λ s. s.end ≡ stop_of (length text.now) ends.now item) }
 {
-    let item = item_at(ends, at);
     let start = start_of(ends, item);
     let end = ends.get(item).copied().unwrap_or(text.len());
     if start > end {
@@ -50,4 +48,20 @@ pub fn span_at(text: &str, ends: &[usize], at: usize) -> Option<Span>
         return None;
     }
     Some(Span { item, start, end })
+}
+
+/// The bytes of the item that holds a byte, with all that stands before its first token; what is
+/// left after the last item where no item does.
+///
+/// None where the text can't be cut there: it can at the ends of its own items.
+pub fn span_at(text: &str, ends: &[usize], at: usize) -> Option<Span>
+    ensures order { IfSome result (λ s. s.start ≤ s.end) }
+    ensures start { IfSome result (λ s. IsCharBoundary text.now s.start) }
+    ensures end { IfSome result (λ s. IsCharBoundary text.now s.end) }
+    ensures item { IfSome result (λ s. s.item ≡ item_at ends.now at) }
+    ensures begins { IfSome result (λ s. s.start ≡ start_of ends.now (item_at ends.now at)) }
+    ensures stops { IfSome result
+        (λ s. s.end ≡ stop_of (length text.now) ends.now (item_at ends.now at)) }
+{
+    span_of_item(text, ends, item_at(ends, at))
 }

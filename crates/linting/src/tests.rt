@@ -161,3 +161,16 @@ fn all_are_told(rt: HostRuntime) -> Result<(), Fail> {
     assert!(rt; rest.as_str() == "a;          \n   d;");
     Ok(())
 }
+
+#[test]
+fn words_that_close_nothing(rt: HostRuntime) -> Result<(), Fail> {
+    let text = "a; endmodule x b; c;";
+    let ends = item_ends(rt.alloc(), text)?;
+    let Linted { refusals, rest } = lint(rt.alloc(), &NoX, text, ends.as_slice())?;
+    assert!(rt; refusals.len() == 2 && refusals[0].at == 13 && refusals[1].at == 13);
+    let Some(rest) = rest else {
+        return Err(Fail::from("nothing is left"));
+    };
+    assert!(rt; rest.as_str() == "a;                c;");
+    Ok(())
+}
