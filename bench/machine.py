@@ -3,7 +3,7 @@
 
 bench/machine.py write: writes bench/machine_small.hex and bench/machine_large.hex
 bench/machine.py sums FILE CLOCKS: what an independent machine (scripts/models/machine_model.py) comes to
-over the trace that bench/machine.c describes: `verdicts V ticks K`
+over the trace that bench/machine.c describes: `verdicts V cost K`
 """
 import os
 import sys
@@ -66,16 +66,16 @@ def trace_of(program):
 
 
 def sums(path, clocks):
-    """Over all that was decided, start * 31 + verdict * 7 + clock; and all ticks."""
+    """Over all that was decided, start * 31 + verdict * 7 + clock; and all cost."""
     assert clocks <= TRACE_ROWS
     with open(path) as file:
         program = decode(bytes.fromhex(file.read()))
-    machine, rows, verdicts, ticks = Machine(program), trace_of(program), 0, 0
+    machine, rows, verdicts, cost = Machine(program), trace_of(program), 0, 0
     for _ in range(clocks):
         for start, name, clock in machine.clock(next(rows)):
             verdicts += start * 31 + VERDICTS[name] * 7 + clock
-        ticks += machine.spent
-    return f'verdicts {verdicts % (1 << 64)} ticks {ticks}'
+        cost += machine.spent
+    return f'verdicts {verdicts % (1 << 64)} cost {cost}'
 
 
 def main(words):

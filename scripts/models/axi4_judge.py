@@ -23,7 +23,7 @@ FIXED = {"len": 8, "size": 3, "burst": 2, "lock": 1, "cache": 4, "prot": 3, "las
 INCR, WRAP, EXOKAY = 1, 2, 1
 VERDICTS = ("holds", "vacuous", "fails", "disabled", "open")
 
-# A rule: at a tick where `asks` is true, `wants` must be true at one of the ticks from `least` to `most` behind it.
+# A rule: at a tick where `asks` is true, `wants` must be true at one of the ticks from `least` to `most` after it.
 Rule = collections.namedtuple("Rule", "name asks wants least most in_reset", defaults=(0, 0, False))
 
 
@@ -57,7 +57,7 @@ def count(rows, port):
 
 
 def after(now, row, port):
-    """The counters behind a tick that isn't in reset."""
+    """The counters after a tick that isn't in reset."""
     aw, w, b, ar, r = (row[c + "valid"] and row[c + "ready"] for c in PAYLOAD)
     then = collections.Counter(now)
     then["awo"] = held(now["awo"] + bool(aw) - bool(b), 16)

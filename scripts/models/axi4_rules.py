@@ -4,7 +4,7 @@
 `scripts/models/axi4_rules.py FOLDER` writes FOLDER/data/ports.txt, ports at the edges of what a port file
 may say, FOLDER/data/faults.txt, small port files with byte 1 between them, and FOLDER/stdout: of
 each port its assertions, its tokens, and a sum of the tokens (FNV-1a of 64 bits, each token with a
-space behind); of each small file how many ports it has, or its fault.
+space after); of each small file how many ports it has, or its fault.
 `scripts/models/axi4_rules.py --text FILE` prints the tokens of the rules of a port file's ports, a rule a
 line.
 

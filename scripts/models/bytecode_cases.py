@@ -22,7 +22,7 @@ SMALL = bytes.fromhex(
 # The same without positions.
 EMPTY = SMALL[:SMALL.index(b"\x34") + 1] + bytes(17) * 2
 
-# The operands behind each opcode of sample code, and of blocks: a width, a value of that width, a number of two bytes,
+# The operands after each opcode of sample code, and of blocks: a width, a value of that width, a number of two bytes,
 # one of them but 0, a byte, the highest bit of a slice and its lowest.
 SAMPLE = {0x01: "wv", 0x02: "t", 0x03: "tp", 0x27: "w", 0x28: "hl", 0x30: "t", 0x31: "t", 0x32: "b", 0x33: "b"}
 SAMPLE |= {code: "" for code in [*range(0x10, 0x1B), *range(0x20, 0x27), 0x29, 0x34]}

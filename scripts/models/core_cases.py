@@ -6,7 +6,7 @@ stands, and in a case byte 2 between its four parts: a dump, whose clock is `clk
 of its monitors in hexadecimal digits, one a line; a line with how many workers there are and how many
 clocks a window has; and the steps, one a line: `slide`, `claim W`, `advance W K`, `publish W`, `gather`.
 Its answer is a line `replies` with a letter for each step, D for one that was done and R for a refused
-one, and what is on the board behind the last one: a line `batch M A B (START VERDICT CLOCK) ..` for each
+one, and what is on the board after the last one: a line `batch M A B (START VERDICT CLOCK) ..` for each
 batch, in the order in which they were published, or, where a list is long, how many there are and a sum
 of these lines.
 """
@@ -119,7 +119,7 @@ def good_step(draw, core):
 
 
 def dump_of(widths, columns, clocks, is_noisy):
-    """A dump in which each signal has its values at the ticks of the clock, and others right behind them."""
+    """A dump in which each signal has its values at the ticks of the clock, and others right after them."""
     codes = {path: f"s{at}" for at, path in enumerate(widths)}
     lines = ["$var wire 1 ! clk $end"]
     lines += [f"$var wire {width} {codes[path]} {path.decode()} $end" for path, width in widths.items()]
@@ -192,7 +192,7 @@ def worked_case(steps, replies, board):
 
 
 def worked_cases():
-    """Nothing to publish at first; what is refused and done in the first window, and in the second, behind which the
+    """Nothing to publish at first; what is refused and done in the first window, and in the second, after which the
     board has two batches."""
     first = [("claim", 0), ("slide",), ("claim", 1), ("claim", 0), ("advance", 0, 2), ("advance", 0, 1), ("slide",),
              ("publish", 0), ("slide",), ("gather",)]

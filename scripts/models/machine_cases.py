@@ -4,8 +4,8 @@
 `scripts/models/machine_cases.py FOLDER` writes FOLDER/stdin and FOLDER/stdout. A case in stdin is a line
 `case NAME`, a line `program HEX` of a file of bytecode, and for each clock a line `row V V ..` of
 the signals' values. Its answer in stdout is the line `case NAME`, for each clock a line
-`ticks T (START VERDICT CLOCK) ..` of the ticks spent and what was decided, in the order of the
-starts, and a line `open START ..` of the attempts that are live behind the last clock.
+`cost T (START VERDICT CLOCK) ..` of the cost and what was decided, in the order of the
+starts, and a line `open START ..` of the attempts that are live after the last clock.
 
 Named cases come first, most of them with answers that were worked out by hand; then random ones,
 and those files that are accepted of all with one byte of the smallest made another.
@@ -33,10 +33,10 @@ RANDOM_FIRST = 150
 SWEPT_ROWS = 100
 
 
-def named(name, program, rows, decided=None, ticks=None, still=""):
-    """A case, and what was worked out by hand: all that is decided, as START VERDICT CLOCK behind
-    commas, the ticks of each clock, and the open starts."""
-    return name, program, rows, (decided, ticks, still)
+def named(name, program, rows, decided=None, costs=None, still=""):
+    """A case, and what was worked out by hand: all that is decided, as START VERDICT CLOCK after
+    commas, the cost of each clock, and the open starts."""
+    return name, program, rows, (decided, costs, still)
 
 
 # Sections of one antecedent or consequent, each atom being a boolean.
@@ -163,9 +163,9 @@ def block_cases():
 def first_cases():
     """Programs of version 2, whose antecedent accepts first."""
     small = changed(SMALL, antecedent=accepting(0, FIRST))
-    for value, verdict, ticks in (("1", "Holds", 14), ("0", "Fails", 13)):
+    for value, verdict, cost in (("1", "Holds", 14), ("0", "Fails", 13)):
         yield named(f"first_of_one_tick_{verdict.lower()}", small, columns("1", value),
-                    f"0 {verdict} 0", [ticks])
+                    f"0 {verdict} 0", [cost])
     ends = over_bits(3, repeated_then(3, 0, 1, FIRST), accepting(2))
     assert (ends.attempts, ends.obligations) == (4, 1)
     yield named("first_of_several_ends", ends, columns("1110", "0111", "1101"),
@@ -174,7 +174,7 @@ def first_cases():
     others = placed(3, step(0, FIRST), [("Enter", 2), STOP], [FIRST, STOP])
     yield named("other_blocks_run", over_bits(1, others, accepting(0)), columns("100"),
                 "0 Holds 0, 1 Fails 2", [14, 9, 16], still="2")
-    # What was entered before is dropped too, and what the block itself enters behind it.
+    # What was entered before is dropped too, and what the block itself enters after it.
     before = placed(3, [("Enter", 2), STOP], step(0, FIRST, ("Enter", 2)), [ACCEPT, STOP])
     yield named("entered_before_is_dropped", over_bits(1, before, always()), columns("101"),
                 "0 Holds 0, 1 Holds 2, 2 Holds 2")
@@ -212,7 +212,7 @@ def told(*bits):
 
 
 def sample_cases():
-    """How code goes on, and what stands behind it."""
+    """How code goes on, and what stands after it."""
     set_it = ("SetAtom", 0)
     jump = [("Load", 1), ("JumpIfZero", 3), ("Halt",), ("Load", 0), set_it]
     yield named("halts_in_the_middle", judged([1], jump), columns("010"), told(1, 0, 1))
@@ -256,7 +256,7 @@ def history_cases():
 
 
 def count_up(width, *behind):
-    """Code that adds 1 to counter 0, behind one signal, and reads it."""
+    """Code that adds 1 to counter 0, after one signal, and reads it."""
     return [("Load", 2), ("Push", width, 1), ("AddSat",), ("Store", 0), *behind, ("Load", 2)]
 
 
@@ -438,17 +438,17 @@ def written(decided):
 
 def check(name, clocks, starts, hand):
     """What was worked out by hand is what the machine says."""
-    decided, ticks, still = hand
+    decided, costs, still = hand
     if decided is not None:
         said = written([it for _, clock in clocks for it in clock])
         assert said == decided, (name, said, decided)
         assert " ".join(map(str, starts)) == still, (name, starts)
-    if ticks is not None:
-        assert [spent for spent, _ in clocks] == ticks, (name, clocks)
+    if costs is not None:
+        assert [spent for spent, _ in clocks] == costs, (name, clocks)
 
 
 def answered(case, version):
-    """The lines of a case, those of its answer, and the machine behind its last clock."""
+    """The lines of a case, those of its answer, and the machine after its last clock."""
     name, program, rows, hand = case
     assert verdict(program).startswith("accepted"), (name, verdict(program))
     clocks, machine = run(program, rows)

@@ -1,7 +1,7 @@
 #!/usr/bin/env python3
 """Says of each text of the assertion language whether it is a file of the profile, or else which fault it has and at
 which byte. It is an Earley recogniser over the grammar as it is written down for users (docs/DEFINITIONS.md), so it
-takes nothing from the program's parser: a text's fault stands at the first token behind which no file of the grammar
+takes nothing from the program's parser: a text's fault stands at the first token after which no file of the grammar
 goes on.
 
     scripts/models/reference_parser.py TEXTS           a verdict for each line of the file
@@ -147,7 +147,7 @@ NAMES = []
 
 
 def names_for(tokens):
-    """A sequence's closing name is its own: one rule for each word that stands behind `sequence`."""
+    """A sequence's closing name is its own: one rule for each word that stands after `sequence`."""
     words = {text for (_, before, _), (kind, text, at) in zip(tokens, tokens[1:]) if before == 'sequence'
              and passes('NAME', (kind, text, at))}
     NAMES[:] = [(f'AGAIN {word}', ([], [':', f'AGAIN {word}'])) for word in sorted(words)] + [('NAME', ([],))]
@@ -252,7 +252,7 @@ def outside(tokens, position):
 
 
 def item_start(tokens, position):
-    """Where the item of the token begins: behind the last item that ends before it."""
+    """Where the item of the token begins: after the last item that ends before it."""
     start, i = 0, 0
     while i < position:
         if tokens[start][1] == 'sequence' and start == i:
@@ -361,7 +361,7 @@ WIDTHS = ['0', '1', '128', '129', "8'd4", 'w', '1_2']
 
 
 def nested(count):
-    """Nesting of each kind: so deep, within what is left behind `property (`."""
+    """Nesting of each kind: so deep, within what is left after `property (`."""
     deep = '(' * count + 'a' + ')' * count
     return [asserted(deep), asserted('!' * count + 'a'), asserted('a ? b : ' * count + 'c'),
             asserted('a throughout ' * count + 'b'),

@@ -7,7 +7,7 @@ draw is from one seed, so each run writes the same two files:
 
     scripts/models/reference_values.py EXPRESSIONS VALUES
 
-EXPRESSIONS has a line for each word of a small language in which operators stand behind their operands: `trace` begins
+EXPRESSIONS has a line for each word of a small language in which operators stand after their operands: `trace` begins
 a new trace, `row` adds a row of signals, `counter` a counter with its clauses, `count` runs the counters, and `value W`
 is an expression in a context of W bits (W = 0: its own width). A line that begins with `#` is the expression as one
 writes it. VALUES has, for each `value` line, the own width and the value at each tick.
@@ -186,7 +186,7 @@ def text(tree):
 
 
 def words(tree):
-    """The expression with each operator behind its operands."""
+    """The expression with each operator after its operands."""
     kind = tree[0]
     if kind == 'constant':
         return ["%d'%d" % (tree[1], tree[2])]

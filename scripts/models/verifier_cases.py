@@ -409,7 +409,7 @@ def chain_cases():
 
 
 def start_cases():
-    """Start sets of the last position, and of the one behind it."""
+    """Start sets of the last position, and of the one after it."""
     for bit in (0, 1, 126, 127):
         yield roomy(antecedent=Section(1 << bit, [[STOP]] * bit + [[STOP]] * (bit < 127)))
         yield roomy(consequent=Section(1 << bit, [[STOP]] * bit))

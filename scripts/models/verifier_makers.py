@@ -110,7 +110,7 @@ class Maker:
             self.emit("SetAtom", self.rng.randrange(self.program.atoms))
 
     def guarded(self, depth):
-        """Code behind conditions that all lead past it, or past a Halt at its end."""
+        """Code after conditions that all lead past it, or past a Halt at its end."""
         jumps = []
         for _ in range(self.rng.choice((1, 1, 2, 3))):
             self.value(1, depth)

@@ -332,7 +332,7 @@ def header_faults(program):
 
 
 def longest_from(nexts, at, known):
-    """The most steps from a place: one, and the most from a place behind it."""
+    """The most steps from a place: one, and the most from a place after it."""
     if at not in known:
         most = 0
         for it in nexts(at):

@@ -4,7 +4,7 @@
     scripts/random/random_axi4.py SVAMON [CASES [SEED]]
 
 SVAMON is the program. Each case is a port file of one or two ports and a dump with their signals. For
-it `check --axi`, `check` over the text that `rules --axi` prints behind a text of its own, and
+it `check --axi`, `check` over the text that `rules --axi` prints after a text of its own, and
 `judge --axi` must print the report of axi4_judge.py, byte for byte, with its status; and the tokens of
 `rules --axi` must be those of axi4_rules.py. In one case of eight the port file is a faulty one, and
 the fault is compared.
@@ -64,7 +64,7 @@ def payload(name, size, watch):
 
 
 def next_row(row, names, watch, chances):
-    """The values of a port's signals behind those of the last clock."""
+    """The values of a port's signals after those of the last clock."""
     then = {}
     for c, parts in axi4_judge.PAYLOAD.items():
         is_waiting = row.get(c + "valid") and not row.get(c + "ready")

@@ -4,7 +4,7 @@ scripts/random/random_machine.py PROGRAM [CASES [ROWS [SEED]]]
 
 PROGRAM is oracle_machine. So many programs are made that are accepted (10,000), every other one of version 2 whose
 antecedent may accept first, each with so many rows (100). The answers are those of machine_model.py: for each clock the
-ticks and what was decided, then the open starts. Then the same for each file with one byte changed of the smallest
+cost and what was decided, then the open starts. Then the same for each file with one byte changed of the smallest
 monitor that an independent verifier accepts; no clock of it may spend more than its budget. It stops at the first that
 differs, or where so many take too long.
 """

@@ -1,4 +1,4 @@
--- Verdicts rest on nothing behind the last tick.
+-- Verdicts rest on nothing after the last tick.
 use Rattle.std.proofs.Common.{◌≡◌, inl, inr, ℕ, ◌+◌, ◌<◌, ◌≤◌, Bool, true, false, ◌||◌, List, Option, Some, None, refl}
 use Rattle.std.proofs.Common.{sym, subst, arith}
 use Rattle.std.specs.Prelude.{nat_le, slice_get, length, IsTrue}

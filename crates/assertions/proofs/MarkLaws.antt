@@ -53,7 +53,7 @@ mark-new true marks p place h = elim (cases_eq place p) [
   | inr other ↦ inl (sym (get_or-set_other marks p place true false other) ∙ h)
 ]
 
--- the first of names, and those behind it
+-- the first of names, and those after it
 behind : (n : Name) (names : List Name) (origin : Origin) (place : ℕ) → IsAmong origin names place
     → IsAmong origin (n ∷ names) place
 behind n names origin place a = record {

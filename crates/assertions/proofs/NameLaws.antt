@@ -84,7 +84,7 @@ chosen-names node kept c a b is =
     ap (λ (s : Seen). names_in s.term) (ap seen_node is ∙ ap seen_node (sym (rolls-Choose kept c a b))
     ∙ fold-roll-Node Seen seen_step (Node-F.Choose kept c a b))
 
--- names behind those of the first part
+-- names after those of the first part
 pub behind-first : {T E : Type 0} (r : Result T E) (old first mid rest whole new : List Name) → mid ≡ old ++ first
     → whole ≡ first ++ rest →
     OnOk r (new ≡ mid ++ rest) → OnOk r (new ≡ old ++ whole)

@@ -234,7 +234,7 @@ found-to-do names done from at name next is =
     (subst (λ n. waits done n ≡ true)
     (some-one next.name name (sym next.is ∙ found-here names done from at name next is)) next.waiting)
 
--- no names behind names, where no counter is there
+-- no names after names, where no counter is there
 pub not-there : (counters : List Counter) (place : ℕ) → length counters ≤ place → (names : List Name) →
     names ≡ names ++ names_of (slice_get counters place)
 not-there counters place out names =

@@ -54,7 +54,7 @@ filled_keeps : (ts : List (Bor (List ℕ))) (i : ℕ) (d : Bor (List ℕ)) → i
     ≡ (get_or ts i d).now ∷ filled_ones (map (λ t. t.now) (drop (i + 1) ts))
 filled_keeps ts i d below h = rw (drop-next ts i d below, h) refl
 
--- the same from one that isn't, behind those that were found
+-- the same from one that isn't, after those that were found
 pub filled_more : (ts found new : List (Bor (List ℕ))) (i : ℕ) (d : Bor (List ℕ)) → i < length ts
     → is_empty ((get_or ts i d).now) ≡ false → new ≡ found ++ get_or ts i d ∷ []
     → map (λ t. t.now) found ++ filled_ones (map (λ t. t.now) (drop i ts))

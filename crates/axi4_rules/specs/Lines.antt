@@ -15,7 +15,7 @@ abbrev pub ◌>>=◌ : {A B : Type 0} → Option A → (A → Option B) → Opti
 (Some x) >>= f = f x
 None >>= f = None
 
--- what stands behind the key, in a field that begins with it
+-- what stands after the key, in a field that begins with it
 abbrev pub value_in : List ℕ → List ℕ → Option (List ℕ)
 value_in key field = if starts_with nat_eq field key then Some (drop (length key) field) else None
 
@@ -37,7 +37,7 @@ optional key fs = at_most_one (values key fs)
 unfoldable pub required : List ℕ → List (List ℕ) → Option (List ℕ)
 required key fs = optional key fs >>= (λ o. o)
 
--- the number that decimal digits stand for, behind digits that stand for n
+-- the number that decimal digits stand for, after digits that stand for n
 unfoldable pub decimal_from : ℕ → List ℕ → ℕ
 decimal_from n [] = n
 decimal_from n (d ∷ ds) = decimal_from (10 * n + (d - 48)) ds

@@ -32,7 +32,7 @@ unfoldable pub are_ids : ℕ → List ℕ → Bool
 are_ids width ids =
     nat_le (length ids) 16 && list_all (λ i. nat_lt i (2 ^ width)) ids && are_different ids
 
--- the name is a word; the clock, the reset, and the prefix with awvalid behind it are paths
+-- the name is a word; the clock, the reset, and the prefix with awvalid after it are paths
 unfoldable pub are_names : List ℕ → PathData → Bool
 are_names name p =
     is_word name && is_path p.clock && is_path p.reset && is_path (p.prefix ++ codes "awvalid")

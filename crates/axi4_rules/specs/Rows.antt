@@ -26,7 +26,7 @@ line_in Rule f r = rule_line f r
 line_in Always f r = reset_line f r
 line_in Counter f r = counter_line f r
 
--- the words of a row, with a template behind its name
+-- the words of a row, with a template after its name
 abbrev pub row_words : rules.Filling → rules.Row → List ℕ → List ℕ
 row_words f r middle = words f r.name ++ words f middle ++ words f r.first ++ words f r.second
 

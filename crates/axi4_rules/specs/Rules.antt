@@ -27,7 +27,7 @@ abbrev pub in_case : Case → List ℕ → List ℕ
 in_case cases.Lower name = name
 in_case cases.Upper name = map to_ascii_uppercase name
 
--- a signal of the channel, behind the prefix and in the port's case
+-- a signal of the channel, after the prefix and in the port's case
 abbrev pub signal : Filling → List ℕ → List ℕ
 signal f word = f.port.paths.prefix ++ in_case f.port.case (f.channel ++ with_item f.item word)
 
@@ -50,7 +50,7 @@ filled f word =
     else (if bytes_eq word (codes "RESET") then f.port.paths.reset
     else filled_word f word)
 
--- words, each filled and with a space behind
+-- words, each filled and with a space after
 abbrev pub all_filled : Filling → List (List ℕ) → List ℕ
 all_filled f ws = flat_map (λ w. filled f w ++ codes " ") ws
 
@@ -80,7 +80,7 @@ reset_line f r =
     words f r.name ++ words f (codes ": assert property ( @ ( posedge CLOCK )")
     ++ words f r.first ++ words f r.second ++ codes ") ;"
 
--- a counter that reset clears; its name has its width behind it
+-- a counter that reset clears; its name has its width after it
 unfoldable pub counter_line : Filling → Row → List ℕ
 counter_line f r =
     codes "counter " ++ words f r.name ++ words f (codes "clear ( ! RESET )")

@@ -5,7 +5,7 @@ use Rattle.std.specs.Global.{Global}
 use Rattle.axi4_rules.specs.Texts.{tokens}
 use Rattle.axi4_rules.specs.Rules.{tokens_of}
 
--- what stands behind the text adds its own tokens
+-- what stands after the text adds its own tokens
 abbrev pub IsWhole : List ℕ → Type 0
 IsWhole text = (more : List ℕ) → tokens (text ++ more) ≡ tokens text ++ tokens more
 

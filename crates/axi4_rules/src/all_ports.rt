@@ -33,7 +33,7 @@ fn push_ports(alloc: Global, text: &mut RuleText, ports: &[(Port, Mode)]) -> Res
     Ok(())
 }
 
-/// The rules of all ports of a port file: a port's behind the other's, each with a line feed at
+/// The rules of all ports of a port file: a port's after the other's, each with a line feed at
 /// its end; or what is wrong with the file's first faulty line.
 #[tactic(auto, unfolding(crate::specs::Files::file_rules))]
 pub fn port_rules(alloc: Global, ports_text: &str) -> Result<String, PortFault>

@@ -1,6 +1,6 @@
 //! The case of a port's signal names.
 
-/// How signal names behind the prefix are written.
+/// How signal names after the prefix are written.
 #[derive(Clone, Copy)]
 pub enum Case {
     /// `awvalid`

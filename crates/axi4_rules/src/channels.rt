@@ -38,7 +38,7 @@ fn push_wait(
     push_row(alloc, text, Form::Rule, filling, WAIT_ROW)
 }
 
-/// Adds the rules of every channel, behind a comment.
+/// Adds the rules of every channel, after a comment.
 pub(crate) fn push_channel(
     alloc: Global,
     text: &mut RuleText,
@@ -81,7 +81,7 @@ fn push_address_rows(
     push_rows(alloc, text, Form::Rule, filling, &ADDRESS_ROWS)
 }
 
-/// Adds the rules of an address channel, behind a comment.
+/// Adds the rules of an address channel, after a comment.
 pub(crate) fn push_address(
     alloc: Global,
     text: &mut RuleText,

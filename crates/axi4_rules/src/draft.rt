@@ -84,7 +84,7 @@ fn watched_in(alloc: Global, fields: &[&str]) -> Result<Option<Vec<u32>>, AllocE
     }
 }
 
-/// What the fields behind the name say.
+/// What the fields after the name say.
 #[tactic(auto, unfolding(crate::specs::Lines::said_by))]
 fn said_by<'t>(
     alloc: Global,

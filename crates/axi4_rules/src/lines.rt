@@ -15,7 +15,7 @@ const OUT_OF_RESET: &str = ": assert property ( @ ( posedge CLOCK ) disable iff 
 
 const ALWAYS: &str = ": assert property ( @ ( posedge CLOCK )";
 
-/// Adds the words of a row, with a template behind the name.
+/// Adds the words of a row, with a template after the name.
 fn push_row_words(
     alloc: Global,
     line: &mut String,

@@ -24,7 +24,7 @@ pub struct Port {
     pub id: u32,
     /// The most ticks that a channel may wait, up to 64; 0 for no bound.
     pub wait: u32,
-    /// The case of its signals' names, behind the prefix.
+    /// The case of its signals' names, after the prefix.
     pub case: Case,
     /// Up to 16 different IDs that are counted one by one.
     pub watch: Vec<u32>,

@@ -21,7 +21,7 @@ use crate::ranges::{are_ids, are_sizes};
 use crate::text::{fields, pieces};
 use std::alloc::{AllocError, Global};
 
-/// Whether the signals behind the prefix have paths.
+/// Whether the signals after the prefix have paths.
 fn is_prefix(alloc: Global, prefix: &str) -> Result<bool, AllocError>
     ensures { IfOk result (λ r. r ≡ is_path (prefix.now ++ codes "awvalid")) }
 {

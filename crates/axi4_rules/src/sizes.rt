@@ -17,14 +17,14 @@ pub(crate) struct Sizes {
     pub wait: u32,
 }
 
-/// The number behind the key, which stands once.
+/// The number after the key, which stands once.
 fn required_number(fields: &[&str], key: &str) -> Option<u32>
     ensures { result ≡ required_number key.now (texts_of fields.now) }
 {
     number(required_value(fields, key)?)
 }
 
-/// The number behind the key, or another.
+/// The number after the key, or another.
 fn optional_number(fields: &[&str], key: &str, other: u32) -> Option<u32>
     ensures { result ≡ optional_number other key.now (texts_of fields.now) }
 {

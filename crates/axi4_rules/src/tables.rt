@@ -39,7 +39,7 @@ pub(crate) const BURST_ROWS: [Row<'static>; 2] = [
     },
 ];
 
-/// The rules of an address channel that stand behind that of a beat's size.
+/// The rules of an address channel that stand after that of a beat's size.
 pub(crate) const ADDRESS_ROWS: [Row<'static>; 7] = [
     Row {
         name: "__wrap_len",

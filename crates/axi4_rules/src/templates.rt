@@ -103,7 +103,7 @@ fn push_filled(
     push_word(alloc, line, filling, word)
 }
 
-/// Adds words, each with a space behind.
+/// Adds words, each with a space after.
 fn push_all(
     alloc: Global,
     line: &mut String,

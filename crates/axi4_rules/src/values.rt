@@ -14,7 +14,7 @@ use std::alloc::{AllocError, Global};
 /// What is larger is out of range everywhere.
 const MOST: u32 = 65_536;
 
-/// What stands behind the key, if anything; `None` where the key stands twice.
+/// What stands after the key, if anything; `None` where the key stands twice.
 pub(crate) fn optional<'t>(fields: &[&'t str], key: &str) -> Option<Option<&'t str>>
     ensures { option_map text_in result ≡ optional key.now (texts_of fields.now) }
 {
@@ -31,7 +31,7 @@ pub(crate) fn optional<'t>(fields: &[&'t str], key: &str) -> Option<Option<&'t s
     Some(found)
 }
 
-/// What stands behind the key, which stands once.
+/// What stands after the key, which stands once.
 #[tactic(auto, unfolding(crate::specs::Lines::required))]
 pub(crate) fn required_value<'t>(fields: &[&'t str], key: &str) -> Option<&'t str>
     ensures { text_in result ≡ required key.now (texts_of fields.now) }

@@ -1,4 +1,4 @@
--- Bytes that are put behind others, one field after another.
+-- Bytes that are put after others, one field after another.
 use Rattle.std.proofs.Common.{◌≡◌, ℕ, ◌+◌, ◌<◌, ◌≤◌, List, [], ◌∷◌, ◌++◌, length, get_or, take, sym, ap, ◌∙◌}
 use Rattle.std.proofs.Common.{append_assoc}
 use Rattle.std.specs.List.{flat_map}
@@ -16,7 +16,7 @@ flat_map-more f xs i d below =
     ∙ flat_map-append f (take i xs) (get_or xs i d ∷ [])
     ∙ ap (λ t. flat_map f (take i xs) ++ t) (append-nil (f (get_or xs i d)))
 
--- one more of a list, behind a front
+-- one more of a list, after a front
 pub put_next : {A : Type 0} (f : A → List ℕ) (xs : List A) (i : ℕ) (d : A) (old front out new : List ℕ)
     → i < length xs → out ≡ old ++ (front ++ flat_map f (take i xs)) → new ≡ out ++ f (get_or xs i d)
     → new ≡ old ++ (front ++ flat_map f (take (i + 1) xs))

@@ -4,7 +4,7 @@ use Rattle.bytecode.specs.Values.{ProgramData, fits_program_in}
 use Rattle.bytecode_files.specs.Spelling.{spelling_in}
 
 -- No spelling begins another, of any version: where two wholes are the same, so are the versions,
--- the programs and what stands behind.
+-- the programs and what stands after.
 abbrev pub SpellingsArePrefixFree : Type 0
 SpellingsArePrefixFree =
     (first other : Bool) (x y : ProgramData) (a b : List ℕ) → IsTrue (fits_program_in first x)

@@ -48,7 +48,7 @@ abbrev pub Gives : {X Y : Type 0} → (X → Y) → Result X Stop → Result Y S
 Gives view (Ok x) read = read ≡ Ok (view x)
 Gives view (Err e) read = Fails e read
 
--- a field: what it holds, and the bytes behind it
+-- a field: what it holds, and the bytes after it
 abbrev pub Reader : Type 0 → Type 0
 Reader A = List ℕ → Result (A × List ℕ) Stop
 
@@ -156,7 +156,7 @@ abbrev pub plain_at : ℕ → Option SampleInstr → Reader SampleInstr
 plain_at left None bytes = Err (stops.Opcode left)
 plain_at left (Some i) bytes = Ok (i, bytes)
 
--- the operands behind the byte o, where so many bytes were left
+-- the operands after the byte o, where so many bytes were left
 unfoldable pub operands_at : ℕ → ℕ → Reader SampleInstr
 operands_at o left bytes =
     if o == 0x01 then push_at bytes

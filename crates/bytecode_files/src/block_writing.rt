@@ -7,7 +7,7 @@ use crate::field_writing::put_two;
 use bytecode::BlockInstr;
 use std::alloc::AllocError;
 
-/// Puts an instruction behind what was written.
+/// Puts an instruction after what was written.
 pub(crate) fn put_step(out: &mut Vec<u8>, instr: BlockInstr) -> Result<(), AllocError>
     ensures { OnOk result (out.new.items ≡ out.old.items ++ block_spelling instr) }
 {

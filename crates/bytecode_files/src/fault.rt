@@ -21,7 +21,7 @@ pub enum CodeFault {
     /// The first byte of the field.
     #[error("B5 BadField {0}")]
     BadField(usize),
-    /// The first byte behind the program.
+    /// The first byte after the program.
     #[error("B6 TrailingBytes {0}")]
     TrailingBytes(usize),
     #[error("OutOfMemory")]

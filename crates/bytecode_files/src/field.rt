@@ -7,7 +7,7 @@ ghost use Rattle.bytecode_files.specs.Reading.{Gives, byte_at, number_at, sixtee
 use crate::read::read;
 use crate::stop::Stop;
 
-/// A field, and the bytes behind it.
+/// A field, and the bytes after it.
 pub(crate) type Field<'b, T> = Result<(T, &'b [u8]), Stop>;
 
 /// A byte.

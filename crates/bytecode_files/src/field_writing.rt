@@ -5,14 +5,14 @@ ghost use Rattle.bytecode_files.specs.Spelling.{two, sixteen, text_spelling};
 
 use std::alloc::AllocError;
 
-/// Puts a number of two bytes behind what was written.
+/// Puts a number of two bytes after what was written.
 pub(crate) fn put_two(out: &mut Vec<u8>, value: u16) -> Result<(), AllocError>
     ensures { OnOk result (out.new.items ≡ out.old.items ++ two value) }
 {
     out.extend_from_slice(&value.to_be_bytes())
 }
 
-/// Puts a number of sixteen bytes behind what was written.
+/// Puts a number of sixteen bytes after what was written.
 pub(crate) fn put_sixteen(out: &mut Vec<u8>, value: u128) -> Result<(), AllocError>
     ensures { OnOk result (out.new.items ≡ out.old.items ++ sixteen value) }
 {
@@ -22,7 +22,7 @@ pub(crate) fn put_sixteen(out: &mut Vec<u8>, value: u128) -> Result<(), AllocErr
     out.extend_from_slice(&low.to_be_bytes())
 }
 
-/// Puts a text behind what was written.
+/// Puts a text after what was written.
 pub(crate) fn put_text(out: &mut Vec<u8>, text: &str) -> Result<(), AllocError>
     requires { length text.now < 65536 }
     ensures { OnOk result (out.new.items ≡ out.old.items ++ text_spelling text.now) }

@@ -14,7 +14,7 @@ use crate::sample_writing::put_sample;
 use bytecode::{BlockInstr, SampleInstr, Slot};
 use std::alloc::AllocError;
 
-/// Puts instructions of sample code behind what was written.
+/// Puts instructions of sample code after what was written.
 pub(crate) fn put_samples(out: &mut Vec<u8>, sample: &[SampleInstr]) -> Result<(), AllocError>
     requires { length sample.now < 65536 }
     ensures { OnOk result (out.new.items ≡ out.old.items
@@ -27,7 +27,7 @@ pub(crate) fn put_samples(out: &mut Vec<u8>, sample: &[SampleInstr]) -> Result<(
     Ok(())
 }
 
-/// Puts a block behind what was written.
+/// Puts a block after what was written.
 pub(crate) fn put_block(out: &mut Vec<u8>, block: &[BlockInstr]) -> Result<(), AllocError>
     requires { length block.now < 65536 }
     ensures { OnOk result (out.new.items ≡ out.old.items
@@ -40,7 +40,7 @@ pub(crate) fn put_block(out: &mut Vec<u8>, block: &[BlockInstr]) -> Result<(), A
     Ok(())
 }
 
-/// Puts the widths of counters behind what was written.
+/// Puts the widths of counters after what was written.
 pub(crate) fn put_widths(out: &mut Vec<u8>, widths: &[u8]) -> Result<(), AllocError>
     requires { length widths.now < 65536 }
     ensures { OnOk result (out.new.items ≡ out.old.items ++ counted_spelling byte widths.now) }
@@ -52,7 +52,7 @@ pub(crate) fn put_widths(out: &mut Vec<u8>, widths: &[u8]) -> Result<(), AllocEr
     Ok(())
 }
 
-/// Puts signals behind what was written.
+/// Puts signals after what was written.
 pub(crate) fn put_slots(out: &mut Vec<u8>, slots: &[Slot]) -> Result<(), AllocError>
     requires few { length slots.now < 65536 }
     requires fit { IsTrue (list_all fits_slot (map slot_data slots.now)) }

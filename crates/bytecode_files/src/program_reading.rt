@@ -122,7 +122,7 @@ fn parts_at(alloc: Global, bytes: &[u8]) -> Field<'_, Parts>
     Ok((parts, rest))
 }
 
-/// All parts of a program, behind which nothing stands.
+/// All parts of a program, after which nothing stands.
 #[tactic(auto, unfolding(crate::specs::Reading::whole_of))]
 fn whole_of(alloc: Global, bytes: &[u8]) -> Result<Parts, Stop>
     ensures { Gives parts_data result (whole_of bytes.now) }

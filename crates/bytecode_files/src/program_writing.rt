@@ -15,7 +15,7 @@ use crate::list_writing::{put_block, put_samples, put_slots, put_widths};
 use bytecode::{BlockInstr, Limits, Program, Section};
 use std::alloc::{AllocError, Global};
 
-/// Puts limits behind what was written.
+/// Puts limits after what was written.
 fn put_limits(out: &mut Vec<u8>, limits: Limits) -> Result<(), AllocError>
     ensures { OnOk result (out.new.items ≡ out.old.items ++ limits_spelling limits) }
 {
@@ -36,7 +36,7 @@ fn disable_byte(disable: Option<u8>) -> u8
     }
 }
 
-/// Puts blocks behind what was written.
+/// Puts blocks after what was written.
 fn put_blocks(out: &mut Vec<u8>, blocks: &[Vec<BlockInstr>]) -> Result<(), AllocError>
     requires { IsTrue (list_all (fits_list fits_block) (map (λ b. b.items) blocks.now)) }
     ensures { OnOk result (out.new.items ≡ out.old.items
@@ -48,7 +48,7 @@ fn put_blocks(out: &mut Vec<u8>, blocks: &[Vec<BlockInstr>]) -> Result<(), Alloc
     Ok(())
 }
 
-/// Puts a section behind what was written.
+/// Puts a section after what was written.
 fn put_section(out: &mut Vec<u8>, section: &Section) -> Result<(), AllocError>
     requires { IsTrue (fits_section (section_data section.now)) }
     ensures { OnOk result (out.new.items ≡ out.old.items
@@ -60,7 +60,7 @@ fn put_section(out: &mut Vec<u8>, section: &Section) -> Result<(), AllocError>
     Ok(())
 }
 
-/// Puts what stands before the texts behind what was written.
+/// Puts what stands before the texts after what was written.
 fn put_front(out: &mut Vec<u8>, program: &Program) -> Result<(), AllocError>
     ensures { OnOk result (out.new.items ≡ out.old.items
         ++ front_spelling (data_of program.now).header) }
@@ -72,7 +72,7 @@ fn put_front(out: &mut Vec<u8>, program: &Program) -> Result<(), AllocError>
     Ok(())
 }
 
-/// Puts what stands before the lists behind what was written.
+/// Puts what stands before the lists after what was written.
 fn put_header(out: &mut Vec<u8>, program: &Program) -> Result<(), AllocError>
     ensures { OnOk result (out.new.items ≡ out.old.items
         ++ (head_spelling ++ header_spelling (data_of program.now).header)) }

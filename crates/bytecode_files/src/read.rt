@@ -1,4 +1,4 @@
-//! How a reader goes on behind a step.
+//! How a reader goes on after a step.
 
 /// What a step reads. Where it stops, so does its caller.
 macro_rules! read {

@@ -54,7 +54,7 @@ fn slice_at(bytes: &[u8]) -> Field<'_, SampleInstr>
     Ok((SampleInstr::Slice(high, low), rest))
 }
 
-/// What an instruction without operands is, behind its first byte, where so many bytes were left.
+/// What an instruction without operands is, after its first byte, where so many bytes were left.
 fn plain_at(opcode: u8, left: usize, bytes: &[u8]) -> Field<'_, SampleInstr>
     ensures { Gives (λ x. (x.0, x.1.now)) result (plain_at left (plain_of opcode) bytes.now) }
 {
@@ -64,7 +64,7 @@ fn plain_at(opcode: u8, left: usize, bytes: &[u8]) -> Field<'_, SampleInstr>
     }
 }
 
-/// The operands behind an instruction's first byte, where so many bytes were left.
+/// The operands after an instruction's first byte, where so many bytes were left.
 #[tactic(auto, unfolding(crate::specs::Reading::operands_at))]
 fn operands_at(opcode: u8, left: usize, bytes: &[u8]) -> Field<'_, SampleInstr>
     ensures { Gives (λ x. (x.0, x.1.now)) result (operands_at opcode left bytes.now) }

@@ -79,7 +79,7 @@ fn sample_opcode(instr: SampleInstr) -> u8
     }
 }
 
-/// Puts the operands of an instruction behind what was written.
+/// Puts the operands of an instruction after what was written.
 fn put_operands(out: &mut Vec<u8>, instr: SampleInstr) -> Result<(), AllocError>
     ensures { OnOk result (out.new.items ≡ out.old.items ++ sample_operands instr) }
 {
@@ -113,7 +113,7 @@ fn put_operands(out: &mut Vec<u8>, instr: SampleInstr) -> Result<(), AllocError>
     }
 }
 
-/// Puts an instruction behind what was written.
+/// Puts an instruction after what was written.
 pub(crate) fn put_sample(out: &mut Vec<u8>, instr: SampleInstr) -> Result<(), AllocError>
     ensures { OnOk result (out.new.items ≡ out.old.items ++ sample_spelling instr) }
 {

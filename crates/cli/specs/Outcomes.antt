@@ -16,7 +16,7 @@ use Rattle.types_suites.specs.declared.fault.TypeFault.TheVariants as types
 use Rattle.types_suites.specs.Faults.{IsFirst}
 use Rattle.compiler.specs.declared.fault.CompileFault.{CompileFault}
 use Rattle.compiler.specs.declared.fault.CompileFault.TheVariants as compiles
-use Rattle.cli_lines.specs.Faults.{HasNoProgram, HasBadCount}
+use Rattle.cli_suites.specs.Faults.{HasNoProgram, HasBadCount}
 use Rattle.vcd_reader.specs.declared.fault.VcdFault.TheVariants as dumps
 use Rattle.vcd_reader.specs.Dump.{Contents, Gave, GaveDump, dump_of}
 use Rattle.cycle_window.specs.declared.fault.WindowFault.{WindowFault}
@@ -143,7 +143,7 @@ pub record IsRefusedReport (r : Run) (fault : Fault) : Type 0 where
   pub reads : r.source_after.failures ≡ r.source_before.failures
   pub unwritten : IsUnwritten r
 
--- the sink failed, and holds a beginning of the report's text behind what it held before
+-- the sink failed, and holds a beginning of the report's text after what it held before
 pub record IsCutShort (r : Run) : Type 0 where
   pub bytes : List ℕ
   pub gave : Gave r.source_before.remaining r.source_after.remaining bytes

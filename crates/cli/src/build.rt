@@ -1,4 +1,4 @@
-//! The call behind the command `build`.
+//! The call of the command `build`.
 
 ghost use Rattle.std.specs.Prelude.{IfOk, IfErr, MatchOption};
 ghost use Rattle.std.specs.List.{AllByRecursion};

@@ -1,4 +1,4 @@
-//! The calls behind the commands `check` and `judge`.
+//! The calls of the commands `check` and `judge`.
 
 ghost use Rattle.std.specs.Prelude.{◌≡◌, ◌↔◌, ◌≤◌, Err, IfOk, IfErr};
 ghost use Rattle.cycle_window.specs.Bound.{IsBadSize};
@@ -10,7 +10,7 @@ ghost use Rattle.cli_faults.specs.Runs.{run_of};
 use crate::checked::{check_by_team, check_through};
 use crate::judged::run_through;
 use cli_faults::Fault;
-use cli_lines::Gate;
+use cli_suites::Gate;
 use cycle_window::WindowSize;
 use signals::{Sink, Source};
 use std::alloc::Global;
@@ -30,7 +30,7 @@ use workers_core::TeamSize;
 /// (V1 to V8), with the text (L1 to L3, P1 to P4, then Y1 to Y9), with its clock (C1, C2), with the
 /// first of its assertions that has no program (K1 to K4), and with their number (U3: more than
 /// 4,096), all before anything is written; G1 where the sink failed, which then holds a beginning
-/// of the report behind what it held before; and want of memory.
+/// of the report after what it held before; and want of memory.
 ///
 /// IEEE 1800-2017, clauses 11, 16.5 to 16.9, 16.12 to 16.15; IEEE 1364-2005, clause 18.2.
 pub fn check_one<'a, S: Source, W: Sink>(

@@ -1,4 +1,4 @@
-//! The call behind the command `explain`.
+//! The call of the command `explain`.
 
 use crate::explained::{Explained, Trace, trace_of};
 use crate::wanted::Wanted;

@@ -39,7 +39,7 @@ mod wanted;
 pub use build::build_one;
 pub use check::{check_all, check_one, judge_one};
 pub use cli_faults::{Fault, fault_line, status};
-pub use cli_lines::{Gate, NoGate};
+pub use cli_suites::{Gate, NoGate};
 pub use cli_words::{Request, WordsFault, read_words};
 pub use explain::explain_one;
 pub use timed::{TimedReport, report_all};

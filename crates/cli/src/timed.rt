@@ -16,7 +16,7 @@ use crate::checked::{TimedSuite, timed_suite};
 use crate::programs::lines_fault;
 use crate::times::times_of;
 use cli_faults::Fault;
-use cli_lines::{Gate, suite_report};
+use cli_suites::{Gate, suite_report};
 use cycle_window::WindowSize;
 use signals::Source;
 use std::alloc::Global;
@@ -53,7 +53,7 @@ fn timed_by_team<'a, G: Gate + Sync, R: Threads + Wait + Sync>(
         → IfErr result (WhyNoneByPrograms c text.entry.now) }
 {
     let TimedSuite { suite, clocks } = timed_suite(alloc, &dump, text)?;
-    // No more clocks than steps; those behind the last one have no time.
+    // No more clocks than steps; those after the last one have no time.
     let mut times = times_of(alloc, &dump, &clocks, dump.steps().len())?;
     match suite_report(rt, alloc, dump, clocks, &suite, team, size, gate) {
         Ok(report) => {

@@ -5,9 +5,9 @@ use Rattle.bytecode_files.specs.declared.fault.CodeFault.TheVariants as codes
 use Rattle.bytecode.specs.Values.{ProgramData, fits_program_in}
 use Rattle.bytecode_files.specs.Spelling.{spelling_in}
 use Rattle.bytecode_files.specs.Reading.{IsFirstFault}
-use Rattle.verifier_inference.specs.declared.refusal.Refusal.{Refusal}
-use Rattle.verifier_inference.specs.declared.refusal.Refusal.TheVariants as refusals
-use Rattle.verifier_inference.specs.Order.{IsFirstRefusal}
+use Rattle.verifier.specs.declared.refusal.Refusal.{Refusal}
+use Rattle.verifier.specs.declared.refusal.Refusal.TheVariants as refusals
+use Rattle.verifier.specs.Order.{IsFirstRefusal}
 use Rattle.verifier.specs.Programs.{all_faults, IsAccepted}
 use Rattle.cli_faults.specs.declared.fault.Fault.{Fault}
 use Rattle.cli_faults.specs.declared.fault.Fault.TheVariants.{Code, Refused, Memory}

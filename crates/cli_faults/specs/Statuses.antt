@@ -9,7 +9,7 @@ use Rattle.cycle_window.specs.declared.fault.WindowFault.TheVariants as windows
 use Rattle.axi4_rules.specs.declared.fault.PortFault.TheVariants as ports
 use Rattle.verdicts.specs.declared.write.ReportFault.TheVariants as reports
 use Rattle.bytecode_files.specs.declared.fault.CodeFault.TheVariants as codes
-use Rattle.verifier_inference.specs.declared.refusal.Refusal.TheVariants as refusals
+use Rattle.verifier.specs.declared.refusal.Refusal.TheVariants as refusals
 use Rattle.cli_words.specs.declared.fault.WordsFault.TheVariants as words
 use Rattle.cli_faults.specs.declared.fault.Fault.{Fault}
 use Rattle.cli_faults.specs.declared.fault.Fault.TheVariants.{Vcd, Lex, Parse, Typing, Window}

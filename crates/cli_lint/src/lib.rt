@@ -1,4 +1,4 @@
-//! All refusals of a text over a dump: the call behind the command `lint`.
+//! All refusals of a text over a dump: the call of the command `lint`.
 //!
 //! ```text
 //! let refused = lint_one(alloc, &mut dump, text, "rules.sva", &mut out)?;
@@ -14,7 +14,7 @@
 //! The definitions: which texts are accepted, and at which byte others are refused, in
 //! `specs/Refused.antt`; what is told of all items, and its text, in `linting`.
 //!
-//! Not promised: what a message says behind its code, that the text is written without a failure,
+//! Not promised: what a message says after its code, that the text is written without a failure,
 //! and that a text is compiled: faults of programs (K) aren't told.
 #![tactic(auto)]
 

@@ -1,4 +1,4 @@
-//! The call behind the command `lint`.
+//! The call of the command `lint`.
 
 ghost use Rattle.std.specs.Prelude.{◌≡◌, ℕ, List, [], map, IfOk};
 ghost use Rattle.linting.specs.Linted.{IsTold};

@@ -10,7 +10,7 @@ use parser::ParseFault;
 use std::alloc::{AllocError, Global};
 use types_suites::TypeFault;
 
-/// A refusal at a byte, with a hint behind it if there is one.
+/// A refusal at a byte, with a hint after it if there is one.
 fn refusal_at(
     alloc: Global,
     at: usize,

@@ -1,4 +1,4 @@
-//! The text of the assertions: that of the file, and behind it the rules of ports.
+//! The text of the assertions: that of the file, and after it the rules of ports.
 
 use crate::files::{open, read_opened, read_text, text_of};
 use axi4_rules::{joined_text, port_rules};

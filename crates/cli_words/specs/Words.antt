@@ -1,6 +1,6 @@
 -- svamon's command line, in the words of `clap`, which reads it: a command has a name, its rules
 -- (options) and subcommands; `subcommand_of` says which subcommand words name, and with which
--- rows (an option's id, and the values behind it or else its defaults).
+-- rows (an option's id, and the values after it or else its defaults).
 use Rattle.std.specs.Prelude.{◌≡◌, ℕ, ◌≤◌, List, [], ◌∷◌, Option, Some, None, Ok, true, codes}
 use Rattle.std.specs.Prelude.{String, string_bytes, Bool, false, ◌||◌, bytes_eq}
 use Rattle.std.specs.Global.{Global}
@@ -215,7 +215,7 @@ pub record IsNamed (matches : ArgMatches) (request : Request) : Type 0 where
   pub entered : subcommand_rows_of matches ≡ Some (command_of request, rows)
   pub given : IsGiven rows request
 
--- the first word behind the program's name asks for its version
+-- the first word after the program's name asks for its version
 abbrev pub asks_for_version : List Text → Bool
 asks_for_version [] = false
 asks_for_version (name ∷ []) = false

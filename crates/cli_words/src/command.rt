@@ -51,7 +51,7 @@ fn axi_option<'a>(alloc: Global) -> Arg<'a>
     ensures local { result.global ≡ false }
 {
     Arg::new(alloc, "axi").long("axi").value_name("FILE").help(
-        "A port file, whose ports' rules stand behind the assertions",
+        "A port file, whose ports' rules stand after the assertions",
     )
 }
 

@@ -18,7 +18,7 @@
 //!
 //! The words are read by `clap`, and what they give is `clap`'s own definition of that
 //! (`subcommand_of`, for a command written out in `specs/Words.antt`): the command that is named,
-//! and for each of its options the value behind it or else its default; the file of `verify` and
+//! and for each of its options the value after it or else its default; the file of `verify` and
 //! that of `upgrade` is a word alone, and `--axi` may be left out where a text is read, as may
 //! `--junit` and `--json` of `check`, which gives None. The contract of `read_words` says that a
 //! request is that command with those values, that there are 1 to 64 workers, that a window has

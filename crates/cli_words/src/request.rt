@@ -8,7 +8,7 @@ pub enum Request {
     Check {
         vcd: String,
         sva: String,
-        /// A port file: the rules of its ports stand behind the text.
+        /// A port file: the rules of its ports stand after the text.
         axi: Option<String>,
         /// From 1 to 64.
         workers: u64,
@@ -23,7 +23,7 @@ pub enum Request {
     Build {
         vcd: String,
         sva: String,
-        /// A port file: the rules of its ports stand behind the text.
+        /// A port file: the rules of its ports stand after the text.
         axi: Option<String>,
         /// The assertion's name.
         name: String,
@@ -47,14 +47,14 @@ pub enum Request {
     Judge {
         vcd: String,
         sva: String,
-        /// A port file: the rules of its ports stand behind the text.
+        /// A port file: the rules of its ports stand after the text.
         axi: Option<String>,
     },
     /// Explains failed attempts of the assertions of a text over a dump.
     Explain {
         vcd: String,
         sva: String,
-        /// A port file: the rules of its ports stand behind the text.
+        /// A port file: the rules of its ports stand after the text.
         axi: Option<String>,
         /// The name of the one assertion that is asked for.
         only: Option<String>,
@@ -67,7 +67,7 @@ pub enum Request {
     Lint {
         vcd: String,
         sva: String,
-        /// A port file: the rules of its ports stand behind the text.
+        /// A port file: the rules of its ports stand after the text.
         axi: Option<String>,
     },
     /// Prints the rules of the ports of a port file.

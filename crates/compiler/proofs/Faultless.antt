@@ -3,7 +3,7 @@ use Rattle.std.proofs.Common.{◌≡◌, ◌<◌, ◌≤◌, ℕ, Bool, List, le
 use Rattle.assertions.specs.declared.assertion.Assertion.{Assertion}
 use Rattle.assertions.specs.declared.suite.Suite.{Suite}
 use Rattle.assertions.specs.Shapes.{written_form}
-use Rattle.verifier_inference.specs.Sections.{instructions_in}
+use Rattle.verifier.specs.Sections.{instructions_in}
 use Rattle.bytecode.specs.Values.{ProgramData, SectionData}
 use Rattle.compiler.specs.declared.fault.CompileFault.{CompileFault}
 use Rattle.compiler.specs.declared.fault.CompileFault.TheVariants.{TooManyAtoms, CodeTooLong}

@@ -24,11 +24,11 @@ use Rattle.bytecode.specs.Instructions.{frame_of}
 use Rattle.bytecode.specs.Values.{ProgramData, SectionData, in_byte, in_two, is_width, fits_text, fits_slot, fits_list}
 use Rattle.bytecode.specs.Values.{fits_sample, fits_block, fits_section, fits_disable, fits_limits, fits_header}
 use Rattle.bytecode.specs.Values.{fits_program}
-use Rattle.verifier_inference.specs.declared.refusal.Refusal.{Refusal}
-use Rattle.verifier_inference.specs.declared.refusal.Refusal.TheVariants.{SlotRange, Cycle}
-use Rattle.verifier_inference.specs.Rules.{block_rules}
-use Rattle.verifier_inference.specs.Typing.{IsFine}
-use Rattle.verifier_inference.specs.Sections.{IsSection, AreTyped, instructions_in}
+use Rattle.verifier.specs.declared.refusal.Refusal.{Refusal}
+use Rattle.verifier.specs.declared.refusal.Refusal.TheVariants.{SlotRange, Cycle}
+use Rattle.verifier.specs.Rules.{block_rules}
+use Rattle.verifier.specs.Typing.{IsFine}
+use Rattle.verifier.specs.Sections.{IsSection, AreTyped, instructions_in}
 use Rattle.compiler_expressions.proofs.FitLaws.{samples-fit}
 use Rattle.assertions.specs.Marks.{is_marked, places_from}
 use Rattle.assertions.proofs.SlotLaws.{place-at}

@@ -22,8 +22,8 @@ use Rattle.bytecode.specs.declared.flow.Flow.TheVariants.{Stops, GoesOn, Jumps, 
 use Rattle.bytecode.specs.declared.block_instr.BlockInstr.{BlockInstr}
 use Rattle.bytecode.specs.Values.{ProgramData, SectionData}
 use Rattle.bytecode.specs.Instructions.{frame_of, sample_flow, block_flow}
-use Rattle.verifier_inference.specs.Sections.{IsSection, instructions_in}
-use Rattle.verifier_inference.specs.Typing.{longest_list}
+use Rattle.verifier.specs.Sections.{IsSection, instructions_in}
+use Rattle.verifier.specs.Typing.{longest_list}
 use Rattle.verifier.specs.Limits.{path_of, paths_from, longest_path, path_sum}
 use Rattle.verifier.specs.Programs.{IsAtom, IsWellFormed, HasRoom, IsAccepted, least_limits, least_attempts}
 use Rattle.verifier.specs.Programs.{least_obligations, least_stack}
@@ -36,9 +36,9 @@ use Rattle.compiler_expressions.specs.Depths.{depth, IsShortPast, IsBounded}
 use Rattle.compiler_expressions.proofs.Quiet.{samples-are-typed}
 use Rattle.compiler_expressions.proofs.DepthLaws.{depth-bounds-code}
 use Rattle.assertions.specs.Marks.{is_marked, places_from}
-use Rattle.compiler_positions.specs.Sequences.{atom_of}
-use Rattle.compiler_positions.specs.Laws.{Occurs, IsThere, section_for, led_section}
-use Rattle.compiler_positions.proofs.Theorem.{law-section_is_well_formed, law-section_is_small}
+use Rattle.compiler_sequences.specs.Sequences.{atom_of}
+use Rattle.compiler_sequences.specs.Laws.{Occurs, IsThere, section_for, led_section}
+use Rattle.compiler_sequences.proofs.Theorem.{law-section_is_well_formed, law-section_is_small}
 use Rattle.compiler.specs.Conditions.{IsKnownTerm, FitsSuite}
 use Rattle.compiler.specs.Programs.{disabling_atom, IsSlotOf, IsProgramOf}
 use Rattle.compiler.specs.Readings.{IsReading, slots_over, counters_read}

@@ -51,7 +51,7 @@ pub all-zeros : {A : Type 0} (f : A → ℕ) (xs : List A) → ((x : A) → f x 
 all-zeros f [] zeros = refl
 all-zeros f (x ∷ xs) zeros = ap (λ y. y ∷ map f xs) (zeros x) ∙ ap (λ ys. 0 ∷ ys) (all-zeros f xs zeros)
 
--- what stands in a row behind the constant
+-- what stands in a row after the constant
 pub in-first : {A : Type 0} (f : A → ℕ) (xs : List A) (ys : List ℕ) (i : ℕ) (x : A) → slice_get xs i ≡ Some x →
     slice_get (map f xs ++ ys) i ≡ Some (f x)
 in-first f [] ys i x is = absurd (omega (arith, slice_get_within [] i x is))

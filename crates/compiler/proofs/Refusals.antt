@@ -1,9 +1,9 @@
 -- A program without a fault is refused for want of memory alone.
 use Rattle.std.proofs.Common.{◌≡◌, ◌⊎◌, List, [], inl, inr, subst}
-use Rattle.verifier_inference.specs.declared.refusal.Refusal.{Refusal}
-use Rattle.verifier_inference.specs.declared.refusal.Refusal.TheVariants.{Memory}
-use Rattle.verifier_inference.specs.Inference.{Found}
-use Rattle.verifier_inference.specs.Order.{IsIn, IsFirstRefusal}
+use Rattle.verifier.specs.declared.refusal.Refusal.{Refusal}
+use Rattle.verifier.specs.declared.refusal.Refusal.TheVariants.{Memory}
+use Rattle.verifier.specs.Inference.{Found}
+use Rattle.verifier.specs.Order.{IsIn, IsFirstRefusal}
 use Rattle.bytecode.specs.Values.{ProgramData}
 use Rattle.verifier.specs.Programs.{IsAccepted}
 

@@ -12,7 +12,7 @@ use Rattle.expressions.specs.declared.name.Name.{Name}
 use Rattle.expressions.specs.declared.expr.Expr.{Expr}
 use Rattle.expressions.specs.declared.counter.Counter.{Counter as Counting}
 use Rattle.expressions.specs.Terms.{Term}
-use Rattle.verifier_inference.specs.Sections.{instructions_in}
+use Rattle.verifier.specs.Sections.{instructions_in}
 use Rattle.assertions.specs.declared.sequence.Boolean.{Boolean}
 use Rattle.assertions.specs.declared.sequence.Boolean.TheVariants.{One}
 use Rattle.assertions.specs.declared.assertion.Assertion.{Assertion}
@@ -27,10 +27,10 @@ use Rattle.compiler_expressions.specs.Samples.{Held, sample_code}
 use Rattle.compiler_expressions.specs.Chosen.{term_found, terms_at, held_counters}
 use Rattle.compiler_expressions.specs.Laws.{size}
 use Rattle.compiler_expressions.proofs.Lengths.{samples-are-short}
-use Rattle.compiler_positions.specs.Sequences.{atom_of}
-use Rattle.compiler_positions.specs.Lengths.{HasLongSection}
-use Rattle.compiler_positions.specs.Laws.{booleans}
-use Rattle.compiler_positions.proofs.Short.{law-section_is_short, law-tables_are_short}
+use Rattle.compiler_sequences.specs.Sequences.{atom_of}
+use Rattle.compiler_sequences.specs.Lengths.{HasLongSection}
+use Rattle.compiler_sequences.specs.Laws.{booleans}
+use Rattle.compiler_sequences.proofs.Short.{law-section_is_short, law-tables_are_short}
 use Rattle.compiler.specs.Readings.{IsReading, slots_over, boolean_terms, counters_read, code_over}
 use Rattle.compiler.specs.Small.{IsSmallSide, IsSmall, SmallHaveCode}
 

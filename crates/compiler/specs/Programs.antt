@@ -22,8 +22,8 @@ use Rattle.assertions.specs.Reads.{Reads}
 use Rattle.compiler_expressions.specs.Codes.{Slots}
 use Rattle.compiler_expressions.specs.Samples.{Held, sample_code}
 use Rattle.compiler_expressions.specs.Laws.{EachPart, OfName, program_terms}
-use Rattle.compiler_positions.specs.Sequences.{atom_of}
-use Rattle.compiler_positions.specs.Laws.{section_for, led_section}
+use Rattle.compiler_sequences.specs.Sequences.{atom_of}
+use Rattle.compiler_sequences.specs.Laws.{section_for, led_section}
 
 -- What a program holds of a suite: the places of signals, and counters, in the order of its slots.
 pub record Layout : Type 0 where

@@ -9,7 +9,7 @@
 //!
 //! A program samples the signals and counts the counters that the assertion reads, also through
 //! other counters; it has an atom for each boolean of the assertion's list, and a section for each
-//! side, made by `compiler_positions`. Its limits are the least that serve it, by the verifier's
+//! side, made by `compiler_sequences`. Its limits are the least that serve it, by the verifier's
 //! own functions, and the verifier accepts it always: `compile` answers no refusal of the verifier.
 //!
 //! The definitions: what a program of an assertion is in `specs/Programs.antt` (that it decides as

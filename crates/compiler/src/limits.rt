@@ -1,7 +1,7 @@
 //! The limits of a program.
 
 ghost use Rattle.std.specs.Prelude.{◌≡◌, IfOk};
-ghost use Rattle.verifier_inference.specs.declared.refusal.Refusal.{Refusal};
+ghost use Rattle.verifier.specs.declared.refusal.Refusal.{Refusal};
 ghost use Rattle.bytecode.specs.Programs.{data_of};
 ghost use Rattle.verifier.specs.Programs.{IsWellFormed, HasRoom, least_limits};
 ghost use Rattle.compiler.specs.Parts.{AreModest, no_limits, declared_from, with_limits};

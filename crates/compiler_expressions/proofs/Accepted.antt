@@ -5,9 +5,9 @@ use Rattle.bytecode.specs.declared.limits.Limits.{Limits}
 use Rattle.bytecode.specs.declared.sample_instr.SampleInstr.{SampleInstr}
 use Rattle.bytecode.specs.declared.sample_instr.SampleInstr.TheVariants.{Halt}
 use Rattle.bytecode.specs.Instructions.{FrameData, leaves, frame_of, LeadsTo, sample_flow}
-use Rattle.verifier_inference.specs.Rules.{sample_rules}
-use Rattle.verifier_inference.specs.Inference.{after_of}
-use Rattle.verifier_inference.specs.Typing.{IsCodeTyped, longest_list}
+use Rattle.verifier.specs.Rules.{sample_rules}
+use Rattle.verifier.specs.Inference.{after_of}
+use Rattle.verifier.specs.Typing.{IsCodeTyped, longest_list}
 use Rattle.verifier.specs.Limits.{farthest, longest_path}
 use Rattle.machine_definition.specs.Outcomes.{done}
 use Rattle.machine_definition.specs.Samples.{Operand, operand_width, results, nothing_made, run_sample}

@@ -170,7 +170,7 @@ pub reads-no_shift :
 reads-no_shift e [] none = refl
 reads-no_shift e (s ∷ rest) none = absurd (omega (arith, none))
 
--- What a loop over a chain knows of the operand that it has come to, and of those behind it.
+-- What a loop over a chain knows of the operand that it has come to, and of those after it.
 module _ {O : Type 0} (xs : List (O × Node)) (i : ℕ) (x : O × Node) (lt : i < length xs) (is : x ≡
     get_or xs i x) where
   abbrev left : ℕ → List (O × Seen)

@@ -21,7 +21,7 @@ module _ (places : List ℕ) (i : ℕ) (lt : i < length places) where
   cut : drop i places ≡ place ∷ drop (i + 1) places
   cut = rw (drop-cons places i 0, add-one) refl
 
-  -- the expression of a place, behind those before
+  -- the expression of a place, after those before
   pub terms_more :
       (all : List Expr) (x : Expr) → place < length all → x ≡ get_or all place x →
       terms_at all (drop i places) ≡ term_of x ∷ terms_at all (drop (i + 1) places)

@@ -90,7 +90,7 @@ module _ (f : FrameData) (d : Limits) (t : Samples) (at : Slots) (s : ℕ → �
       ∙ ap (λ j. value_of t e j w) (omega arith))
       (raw-leaves f d at s one e w 0 h.placed le (omega (arith, h.near)))
 
-  -- one bit behind the code: the truth
+  -- one bit after the code: the truth
   pub truth-puts :
       (e : Term) → Here e → Gives (truth_code at e) 1 (one_if (is_true t e k)) (need e)
   truth-puts e h =
@@ -166,7 +166,7 @@ module _ (f : FrameData) (d : Limits) (t : Samples) (at : Slots) (s : ℕ → �
         moves-to f d s (Load slot ∷ []) [] w (s 0 slot) now 1 is
         (read-moves f d s slot 0 w stands (omega arith))
 
-    -- two operators one behind the other
+    -- two operators one after the other
     two-joins :
         (x y z : ℕ) →
         Moves f d s (Join SubSat ∷ Join AddSat ∷ []) (operand w z ∷ operand w y ∷ operand w x ∷ [])

@@ -1,4 +1,4 @@
--- What stands behind operands makes of them what the operators do.
+-- What stands after operands makes of them what the operators do.
 use Rattle.std.proofs.Common.{◌≡◌, ℕ, zero, suc, ◌+◌, ◌-◌, ◌/◌, ◌%◌, ◌^◌, ◌<◌}
 use Rattle.std.proofs.Common.{◌≤◌, Bool, true, false, ◌&&◌, List, [], ◌∷◌, ◌++◌, refl}
 use Rattle.std.proofs.Common.{ap, subst, arith}
@@ -82,7 +82,7 @@ abbrev pub raw_connected : Connective → ℕ → ℕ → ℕ
 raw_connected Both a b = bit_and a b
 raw_connected Either a b = bit_or a b
 
--- what stands behind the left operand of a comparison leaves
+-- what stands after the left operand of a comparison leaves
 abbrev pub turned : Comparison → ℕ → ℕ → ℕ
 turned Equal w a = a
 turned Differs w a = a
@@ -91,7 +91,7 @@ turned AtLeast w a = a
 turned Greater w a = complement w a
 turned AtMost w a = complement w a
 
--- what stands behind the left operand of a change leaves
+-- what stands after the left operand of a change leaves
 abbrev pub low_width : Change → ℕ → ℕ
 low_width Rose w = 1
 low_width Fell w = 1

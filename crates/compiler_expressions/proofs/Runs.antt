@@ -131,7 +131,7 @@ module _ (f : FrameData) (d : Limits) (s : ℕ → ℕ → ℕ) where
       run-straight (before ++ (code ++ after)) code (length before) left (state xs made)
       (state (operand w v ∷ xs) made) (stands-between before code after) (h xs made fits)
 
-  -- to the Halt behind code
+  -- to the Halt after code
   halts :
       (code : List SampleInstr) (left : ℕ) (made : Made) →
       run_sample f d s (code ++ Halt ∷ []) (suc left) (0 + length code) [] made ≡ done made left

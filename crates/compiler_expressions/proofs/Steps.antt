@@ -57,7 +57,7 @@ module _ (f : FrameData) (d : Limits) (sample : ℕ → ℕ → ℕ) where
   onward-append a b None s more h = cc
   onward-append a b (Some r) s more h = more r h
 
-  -- code behind code
+  -- code after code
   pub steps-append :
       (a b : List SampleInstr) (r s : State) → steps a r ≡ Some s → steps (a ++ b) r ≡ steps b s
   steps-append [] b r s h = ap (steps b) (same_Some r s h)
@@ -129,7 +129,7 @@ module _ (f : FrameData) (d : Limits) (sample : ℕ → ℕ → ℕ) where
       Moves a (y ∷ x ∷ []) (z ∷ y ∷ x ∷ []) (2 + n)
   puts-below a x y z n h xs made fits = h (y ∷ x ∷ xs) made (omega (arith, fits))
 
-  -- an end behind the code of one operand, of two, of three
+  -- an end after the code of one operand, of two, of three
   pub puts-one :
       (a end : List SampleInstr) (x y : Operand) (m : ℕ) → 1 ≤ m → Puts a x m →
       Moves end (x ∷ []) (y ∷ []) 1 → Puts (a ++ end) y m

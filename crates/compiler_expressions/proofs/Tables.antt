@@ -12,9 +12,9 @@ use Rattle.bytecode.specs.declared.sample_instr.SampleInstr.{SampleInstr}
 use Rattle.bytecode.specs.declared.sample_instr.SampleInstr.TheVariants.{Past, Halt}
 use Rattle.bytecode.specs.Instructions.{FrameData, Effect, leaves, too_few, misfit, LeadsTo}
 use Rattle.bytecode.specs.Instructions.{sample_flow, sample_effect, is_there}
-use Rattle.verifier_inference.specs.Rules.{sample_rules}
-use Rattle.verifier_inference.specs.Inference.{after_of}
-use Rattle.verifier_inference.specs.Typing.{IsFine, longest_list}
+use Rattle.verifier.specs.Rules.{sample_rules}
+use Rattle.verifier.specs.Inference.{after_of}
+use Rattle.verifier.specs.Typing.{IsFine, longest_list}
 use Rattle.verifier.specs.Limits.{reach_of, farthest, path_of, paths_from, longest_path}
 use Rattle.machine_definition.specs.Samples.{Operand, operand_width, results, making, reaches}
 use Rattle.machine_definition.proofs.Samples.{results-widths}
@@ -33,7 +33,7 @@ pub record Taken (f : FrameData) (d : Limits) (s : ℕ → ℕ → ℕ) (i : Sam
   pub back : reaches d i ≡ true
   pub left : state (results f s i from.operands) (making i from.operands from.made) ≡ to
 
--- an element of a list with one more behind it
+-- an element of a list with one more after it
 get-split :
     {A : Type 0} (xs : List A) (x y : A) (k : ℕ) → slice_get (xs ++ x ∷ []) k ≡ Some y →
     (slice_get xs k ≡ Some y) ⊎ ((k ≡ length xs) × (x ≡ y))
@@ -127,7 +127,7 @@ module _ (f : FrameData) (d : Limits) (s : ℕ → ℕ → ℕ) where
         others = parts.3;
       }
 
-  -- the widths of the operands before each instruction, and behind the last
+  -- the widths of the operands before each instruction, and after the last
   abbrev pub lists_of : List SampleInstr → List Operand → ℕ → List ℕ
   lists_of [] xs k = map operand_width xs
   lists_of (i ∷ part) xs zero = map operand_width xs
@@ -204,7 +204,7 @@ module _ (f : FrameData) (d : Limits) (s : ℕ → ℕ → ℕ) where
       ap (λ flow. path_of pc flow (paths_from (pc + 1) flows)) g.on
       ∙ omega (arith, path-steps part g.next to g.others (pc + 1))
 
-  -- code to the Halt behind it, from no operands to none
+  -- code to the Halt after it, from no operands to none
   module _ (code : List SampleInstr) (from to : State) (h : steps f d s code from ≡ Some to) (none :
       from.operands ≡ []) (end : to.operands ≡ []) where
     abbrev whole : List SampleInstr

@@ -1,4 +1,4 @@
--- The code of what a chain has behind its first operand. Contracts of public functions name no
+-- The code of what a chain has after its first operand. Contracts of public functions name no
 -- chain.
 use Rattle.std.specs.Prelude.{ℕ, max, List, [], ◌∷◌, ◌++◌}
 use Rattle.expressions.specs.declared.operator.Arithmetic.{Arithmetic}

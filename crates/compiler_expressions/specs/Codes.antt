@@ -63,7 +63,7 @@ abbrev pub guarded : Bool → ℕ → ℕ → List SampleInstr → List SampleIn
 guarded true w n code = code
 guarded false w n code = slot_read 0 n ++ code ++ Push w 0 ∷ Mux ∷ []
 
--- What stands behind the operands. Of a comparison and of a change, something also stands between
+-- What stands after the operands. Of a comparison and of a change, something also stands between
 -- them: of two complements the lesser is that of the greater, so no operand changes its place.
 abbrev pub reduction_end : Reduction → List SampleInstr
 reduction_end Zero = Reduce RedOr ∷ Not ∷ []

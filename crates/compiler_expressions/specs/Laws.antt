@@ -14,8 +14,8 @@ use Rattle.bytecode.specs.declared.limits.Limits.{Limits}
 use Rattle.bytecode.specs.declared.sample_instr.SampleInstr.{SampleInstr}
 use Rattle.bytecode.specs.Values.{ProgramData, fits_sample}
 use Rattle.bytecode.specs.Instructions.{FrameData, frame_of, sample_flow}
-use Rattle.verifier_inference.specs.Rules.{sample_rules}
-use Rattle.verifier_inference.specs.Typing.{IsCodeTyped, AreShort, longest_list}
+use Rattle.verifier.specs.Rules.{sample_rules}
+use Rattle.verifier.specs.Typing.{IsCodeTyped, AreShort, longest_list}
 use Rattle.verifier.specs.Limits.{farthest, longest_path}
 use Rattle.verifier.specs.Programs.{IsAccepted}
 use Rattle.machine_definition.specs.Outcomes.{done}

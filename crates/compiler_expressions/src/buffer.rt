@@ -13,7 +13,7 @@ use std::marker::Model;
 const MOST: usize = 4096;
 
 /// Sample code that is being made: to its users its instructions, or none where they would be over
-/// 4,096. Nothing behind those is kept, so it may be asked to hold any number of them.
+/// 4,096. Nothing after those is kept, so it may be asked to hold any number of them.
 #[derive(Drop)]
 pub struct CodeBuffer {
     instructions: Vec<SampleInstr>,

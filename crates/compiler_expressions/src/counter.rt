@@ -65,7 +65,7 @@ fn number_code(
     cut(code, own, width)
 }
 
-/// A rule's condition, and behind it the number by which it counts.
+/// A rule's condition, and after it the number by which it counts.
 fn rule_code(
     code: &mut CodeBuffer,
     rule: &Rule,

@@ -173,7 +173,7 @@ fn before_code(
     code.put(SampleInstr::Mux)
 }
 
-/// Each operand of a chain of sums, behind the code so far.
+/// Each operand of a chain of sums, after the code so far.
 #[cycle(emission)]
 fn combine_all(
     code: &mut CodeBuffer,
@@ -195,7 +195,7 @@ fn combine_all(
     Ok(())
 }
 
-/// Each count of a chain of shifts, behind the code so far.
+/// Each count of a chain of shifts, after the code so far.
 #[cycle(emission)]
 fn shift_all(
     code: &mut CodeBuffer,
@@ -215,7 +215,7 @@ fn shift_all(
     Ok(())
 }
 
-/// Each operand of a chain of comparisons, behind the code so far of so many bits.
+/// Each operand of a chain of comparisons, after the code so far of so many bits.
 #[cycle(emission)]
 fn compare_all(
     code: &mut CodeBuffer,
@@ -241,7 +241,7 @@ fn compare_all(
     Ok(())
 }
 
-/// Each operand of a chain of connectives, behind the code so far of so many bits.
+/// Each operand of a chain of connectives, after the code so far of so many bits.
 #[cycle(emission)]
 fn connect_all(
     code: &mut CodeBuffer,
@@ -266,7 +266,7 @@ fn connect_all(
     Ok(())
 }
 
-/// Each part of a concatenation, behind the code so far.
+/// Each part of a concatenation, after the code so far.
 #[cycle(emission)]
 fn join_all(
     code: &mut CodeBuffer,

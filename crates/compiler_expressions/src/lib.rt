@@ -7,7 +7,7 @@
 //! let code = sample_code(alloc, booleans, &atoms, counters, &stores, &slots)?;
 //! ```
 //!
-//! The code has no jumps. It goes through an expression from the left: each operand, and behind
+//! The code has no jumps. It goes through an expression from the left: each operand, and after
 //! them what their operator does. `$past` reads the rows of so many ticks before, and a guard by
 //! slot 0, the constant 1, makes 0 of it where there were fewer ticks. A call that compares with
 //! the tick before has the code of its operand twice, so code can be twice as long for each such

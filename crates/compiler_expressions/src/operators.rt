@@ -1,4 +1,4 @@
-//! What stands behind and between the operands of operators.
+//! What stands after and between the operands of operators.
 
 ghost use Rattle.std.specs.Prelude.{OnOk};
 ghost use Rattle.compiler_expressions.specs.Codes.{extension, bit_test, slot_read, reduction_end};
@@ -91,7 +91,7 @@ pub(crate) fn shift(code: &mut CodeBuffer, op: Shift) -> Result<(), AllocError>
     }
 }
 
-/// Behind the left operand.
+/// After the left operand.
 pub(crate) fn turn(code: &mut CodeBuffer, op: Comparison) -> Result<(), AllocError>
     ensures { OnOk result (Writes code.old code.new (comparison_middle op)) }
 {
@@ -150,7 +150,7 @@ pub(crate) fn cut_now(code: &mut CodeBuffer, op: Change) -> Result<(), AllocErro
     }
 }
 
-/// Behind both.
+/// After both.
 pub(crate) fn compare_ticks(code: &mut CodeBuffer, op: Change) -> Result<(), AllocError>
     ensures { OnOk result (Writes code.old code.new (change_end op)) }
 {

@@ -182,7 +182,7 @@ edge-tick d c h code k size before after edge one b a tells =
     (add-one k) ∙ held-last d c h code (suc k))
     ∙ rw one refl
 
--- the value behind a last change is the sample
+-- the value after a last change is the sample
 pub sample-is : (d : Dump) (c : Contents) → HoldsContents d c
     → (k v value : ℕ) (last : Option Change)
     → last ≡ last_of (code_number (variables_of d) v) (changes_to (steps_in d) k)
@@ -235,7 +235,7 @@ rows-more row ticks i values new lt so-far is =
     ∙ ap (λ (xs : List ℕ). flat_map row (take i ticks) ++ xs)
     (append-nil (row (get_or ticks i 0))))
 
--- the place behind one more row
+-- the place after one more row
 pub place-more : (i w : ℕ) → (i + 1) * w ≡ i * w + w
 place-more i w = ap (λ (n : ℕ). n * w) (add-one i) ∙ suc-mul i w
 

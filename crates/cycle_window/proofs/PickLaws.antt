@@ -134,7 +134,7 @@ place-at : (vs : List VarId) (i : ℕ) (v : VarId) → i < length vs
     → get_or (places vs) i 0 ≡ (get_or vs i v).place
 place-at vs i v lt = get_or-map (λ (x : VarId). x.place) vs i v 0 lt
 
--- the places of one variable more, which may have been put behind the others
+-- the places of one variable more, which may have been put after the others
 pub shared-more :
     (vs new : List VarId) (picks more : List ℕ) (wanted : List VarId) (i p : ℕ) (v : VarId)
     → i < length wanted → v ≡ get_or wanted i v

@@ -46,7 +46,7 @@ ticks-ahead c code at long ticks is steps first end le inside before =
           omega (arith, one, other, order);
     }
 
--- none of them is behind a later tick
+-- none of them is after a later tick
 pub ticks-behind : (c : Contents) (code : ℕ) (ticks : List ℕ) → ticks ≡ ticks_of c code
     → (first end : ℕ) → first ≤ end → end ≤ length ticks → (n : ℕ) → end ≤ n → n < length ticks
     → (m : ℕ) → m < length (slice_range ticks first end)

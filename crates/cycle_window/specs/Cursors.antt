@@ -7,7 +7,7 @@ use Rattle.cycle_window.specs.declared.cursor.Cursor.{Cursor}
 use Rattle.cycle_window.specs.Changes.{changes_to, IsTable}
 use Rattle.cycle_window.specs.Variables.{AreCodesBelow}
 
--- The cursor is at one of the dump's steps or behind the last, and has the last changes before it.
+-- The cursor is at one of the dump's steps or after the last, and has the last changes before it.
 pub record IsCursorOf (d : Dump) (vs : List VarId) (k : Cursor) : Type 0 where
   pub inside : k.at ≤ length (steps_in d)
   pub table : IsTable k.last.items (changes_to (steps_in d) k.at)

@@ -7,7 +7,7 @@ use Rattle.vcd_reader.specs.Held.{HoldsContents}
 use Rattle.cycle_window.specs.Ticks.{ticks_of, row_of}
 
 -- The values are the rows of the variables with these places at the ticks of the clock with that
--- code, from the tick `first` up to the tick `end`, which is not among them, one behind the other.
+-- code, from the tick `first` up to the tick `end`, which is not among them, one after the other.
 abbrev pub AreRowsOf : Dump → ℕ → List ℕ → ℕ → ℕ → List ℕ → Type 0
 AreRowsOf d code places first end values =
     (c : Contents) → HoldsContents d c

@@ -25,7 +25,7 @@ pub(crate) fn last_change(before: Option<Change>, code: usize, changes: &[Change
     last
 }
 
-/// The value of a variable behind the last change of its code.
+/// The value of a variable after the last change of its code.
 pub(crate) fn value_behind(dump: &Dump, last: Option<Change>, var: VarId) -> u128
     requires of { IsOf dump.now var }
     requires code { ForSome last (λ c. IsChangeOf dump.now c var) }

@@ -21,7 +21,7 @@
 //!
 //! The definitions: `specs/Ticks.antt` (ticks and rows of what a dump says; `ticks_law` has that
 //! these are all the rising edges, in order), `specs/Held.antt` (what clocks, columns and windows
-//! hold), `specs/Bound.antt` (what is wrong with a path, a width or a size). Behind them:
+//! hold), `specs/Bound.antt` (what is wrong with a path, a width or a size). Below them:
 //! `specs/Rows.antt`, `specs/Cursors.antt`, `specs/Changes.antt`, `specs/Picks.antt`.
 //!
 //! Not promised: a memory of earlier rows, or a way back. `slide` asks for ticks that are left, and

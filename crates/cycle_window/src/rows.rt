@@ -1,4 +1,4 @@
-//! Rows of variables at ticks, one behind the other.
+//! Rows of variables at ticks, one after the other.
 
 ghost use Rattle.std.specs.Prelude.{◌≡◌, ℕ, ◌+◌, ◌<◌, ◌≤◌, ◌++◌, Some, None, IfOk, IfErr, length};
 ghost use Rattle.std.specs.Prelude.{map, get_or, [], vec_len, vec_capacity};
@@ -96,7 +96,7 @@ pub(crate) fn blank_table(alloc: Global, len: usize) -> Result<Vec<Option<Change
     Ok(table)
 }
 
-/// Adds the row of the variables behind the last changes of their codes. There is room for it.
+/// Adds the row of the variables after the last changes of their codes. There is room for it.
 pub(crate) fn push_row(
     values: &mut Vec<u128>,
     dump: &Dump,

@@ -18,7 +18,7 @@ pub(crate) struct Shared {
     ghost below: { AreBelow (length variables.items) picks.items },
 }
 
-/// Where the variable stands: at the likely place, or else behind all others, where it is put.
+/// Where the variable stands: at the likely place, or else after all others, where it is put.
 fn place_of(variables: &mut Vec<VarId>, variable: VarId, likely: usize) -> Result<usize, AllocError>
     ensures inside { IfOk result (λ p. p < length variables.new.items) }
     ensures here { IfOk result (λ p. get_or variables.new.items p variable ≡ variable) }

@@ -27,7 +27,7 @@ pub struct Window<'d> {
     pub(crate) first: usize,
     pub(crate) end: usize,
     pub(crate) cursor: Cursor,
-    /// Rows of the columns' variables, one behind the other.
+    /// Rows of the columns' variables, one after the other.
     pub(crate) values: Vec<u128>,
     ghost ordered: { first ≤ end },
     ghost inside: { end ≤ columns.count },

@@ -12,7 +12,7 @@ ghost use Rattle.cycle_window.specs.Cursors.{IsCursorOf};
 use crate::cursor::Cursor;
 use vcd_reader::{Dump, VarId};
 
-/// Puts the rows at the ticks in the place of other rows, one behind the other, and reads on to the
+/// Puts the rows at the ticks in the place of other rows, one after the other, and reads on to the
 /// last of them. There is room for them.
 pub(crate) fn fill_rows(
     values: &mut Vec<u128>,

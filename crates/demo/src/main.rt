@@ -95,7 +95,7 @@ fn show_port<R: Files + Print + AllocGlobal>(rt: &R, folder: &str) -> io::Result
     print_report(rt, folder, "axi_port", text.as_str())
 }
 
-/// The folder of the examples: the first word behind the program's name, or the one that it runs
+/// The folder of the examples: the first word after the program's name, or the one that it runs
 /// in.
 fn folder_of<R: Env + AllocGlobal>(rt: &R) -> io::Result<String> {
     match env::args(rt)?.nth(1) {

@@ -13,7 +13,7 @@ use Rattle.expressions.specs.Nodes.{node_term, is_typed, step_of}
 use Rattle.expressions.specs.Chains.{sums_from, shifts_from, compares_from, connects_from, concats_from, total_of}
 use Rattle.expressions.specs.Chains.{tested_width, AllNarrow}
 
--- the step at a place, and those behind it
+-- the step at a place, and those after it
 pub step_at : {A : Type 0} (B : Type 0) (f : A → B) (xs : List A) (i : ℕ) (x : A) → i < length xs → x ≡ get_or xs i x →
     map f (drop i xs) ≡ f x ∷ map f (drop (i + 1) xs)
 step_at B f xs i x lt is = rw (drop-cons xs i x lt, add-one, ← is) refl

@@ -43,7 +43,7 @@ abbrev pub total_of : ℕ → List Seen → ℕ
 total_of w [] = w
 total_of w (part ∷ rest) = total_of (w + width_of part.term) rest
 
--- one bit behind a test
+-- one bit after a test
 abbrev pub tested_width : {O : Type 0} → ℕ → List (O × Seen) → ℕ
 tested_width w [] = w
 tested_width w (s ∷ rest) = tested_width 1 rest

@@ -11,7 +11,7 @@ use Rattle.expressions.specs.Laws.{AgreeTo}
 abbrev pub samples_of : Rows → Samples
 samples_of t = record { signal_at = column t.signals; counter_at = column t.counters }
 
--- The rows have what these counters count over their signals, up to the tick behind the last row.
+-- The rows have what these counters count over their signals, up to the tick after the last row.
 abbrev pub HasCounts : List Counter → Rows → Type 0
 HasCounts counters t =
     AgreeTo (length t.signals) (samples_of t) (counter_samples (column t.signals) counters)

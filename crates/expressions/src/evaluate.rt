@@ -177,7 +177,7 @@ fn connect_all(first: Bits, steps: &[(Connective, Node)], rows: &Rows, tick: usi
     left
 }
 
-/// The bits of each part behind those before.
+/// The bits of each part after those before.
 #[cycle(evaluation)]
 fn join_all(first: Bits, parts: &[Node], rows: &Rows, tick: usize) -> Bits
     requires typed { IsTrue (all_parts_typed (map seen_node parts.now)) }

@@ -173,7 +173,7 @@ impl Expr {
         Ok(Expr { node })
     }
 
-    /// `{self, right}`; further parts go behind the result, as `{{a, b}, c}` is `{a, b, c}`.
+    /// `{self, right}`; further parts go after the result, as `{{a, b}, c}` is `{a, b, c}`.
     pub fn concat(self, alloc: Global, right: Expr) -> Result<Expr, AllocError>
         requires { width_of (term_of self) + width_of (term_of right) ≤ 128 }
         ensures { IfOk result (λ e. term_of e ≡ concat (term_of self) (term_of right)) }

@@ -6,7 +6,7 @@
 //! reads the low bits of its column, among the signals or the counters; where a table has no such
 //! row or column, that is 0. What `$past` and the changes read before the first tick is 0. `count`
 //! adds the counters to rows of signals: 0 at the first tick, and at each next one, up to that
-//! behind the last row, what their clauses say of the tick before.
+//! after the last row, what their clauses say of the tick before.
 //!
 //! ```text
 //! let a = Name { origin: Origin::Signal, place: 0, width: 8 };

@@ -209,7 +209,7 @@ verdict_seen all places t first end values d (Some (n, decision)) h long =
     (first_true-same first n (off_at values d first) (off_in all places t d)
     (λ k from below. off_seen all places t first values d h k from (omega (arith, long))))
 
--- the tick at which it is found, or the ticks behind it
+-- the tick at which it is found, or the ticks after it
 pub found_here : (find : ℕ → Option Decision) (start below end : ℕ) (d : Decision) → below < end
     → first_in below end find ≡ first_in start end find → find below ≡ Some d
     → Some (below, d) ≡ first_in start end find

@@ -248,7 +248,7 @@ module _ (B : Type 0) (holds : B → ℕ → Bool) where
       (λ a b a_in b_in. body.each a b (all_marked a a_in) (omega arith)) k i j inside))
 
   module _ (b : B) (true_one : (k : ℕ) → IsTrue (holds b k)) where
-    -- the places so far behind
+    -- the places so far after
     abbrev pub lies_moved : List (List Bool) → ℕ → ℕ → ℕ → ℕ → Bool
     lies_moved fronts least end i j = some_in least end (λ gap. nat_le gap j && has_link fronts i (j - gap))
 

@@ -180,7 +180,7 @@ pub ended_here : (row : List Bool) (j : ℕ) (before ended : Bool) → before �
 ended_here row j before ended was is =
     is ∙ ap (λ b. b || marks row j) was ∙ sym (some_in-snoc 0 j (marks row) (omega arith))
 
--- the places behind those of a row by a number from the least up to below a gap
+-- the places after those of a row by a number from the least up to below a gap
 abbrev pub moved_below : List Bool → ℕ → ℕ → ℕ → Bool
 moved_below front least end j = some_in least end (λ gap. nat_le gap j && marks front (j - gap))
 

@@ -1,5 +1,5 @@
 -- Tables of marks, with a row for each start: which places a sequence reaches from it. Place k is
--- the tick that lies k behind the attempt's first.
+-- the tick that lies k after the attempt's first.
 use Rattle.std.specs.Prelude.{◌≡◌, ℕ, ◌+◌, ◌<◌, ◌&&◌, ◌||◌, ◌-◌, List, [], Bool, true, false}
 use Rattle.std.specs.Prelude.{Option, Some, None, IsTrue, nat_le, length, slice_index_or}
 use Rattle.assertions.specs.declared.sequence.Boolean.{Boolean}
@@ -37,7 +37,7 @@ reached_from front rest gap i j =
     some_in 0 (length (row_at front i))
     (λ m. marks (row_at front i) m && (nat_le (m + gap) j && has_link rest m j))
 
--- What passes from a place of the one table, or behind a place of the other.
+-- What passes from a place of the one table, or after a place of the other.
 abbrev pub passes_behind : List (List Bool) → List (List Bool) → (ℕ → ℕ → Bool) → ℕ → ℕ → Bool
 passes_behind moved shared test i j =
     some_in 0 (j + 1) (λ m. has_link moved i m && test m j)

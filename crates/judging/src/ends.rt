@@ -67,7 +67,7 @@ pub(crate) fn ends_from(
     }
 }
 
-/// The places up to which the second matches a number of ticks behind the first, of which the table
+/// The places up to which the second matches a number of ticks after the first, of which the table
 /// has the ends.
 #[cycle(ends)]
 fn ends_delayed(
@@ -91,7 +91,7 @@ fn ends_delayed(
     ends_behind(alloc, &apart, &together, second, seen, starts)
 }
 
-/// The places up to which the body matches a number of ticks behind each start.
+/// The places up to which the body matches a number of ticks after each start.
 #[cycle(ends)]
 fn ends_late(
     alloc: Global,
@@ -112,7 +112,7 @@ fn ends_late(
     ends_behind(alloc, &apart, &none, body, seen, starts)
 }
 
-/// The places up to which the rest matches from those of the one table, or behind those of the
+/// The places up to which the rest matches from those of the one table, or after those of the
 /// other.
 #[cycle(ends)]
 fn ends_behind(

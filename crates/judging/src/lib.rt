@@ -14,7 +14,7 @@
 //! assertion's booleans, and works out from all that were seen whether the attempt is decided, by
 //! tables that say which places each part of a sequence reaches from which. The first decision ends
 //! it, or the last row does. Then it looks for the first of these ticks at which the disabling
-//! boolean was true. So each boolean is evaluated at most once at each tick, and at none behind the
+//! boolean was true. So each boolean is evaluated at most once at each tick, and at none after the
 //! one that decides. `cause_of` says of an attempt that failed with which ticks its antecedent
 //! ended by then, and which of these is the first whose obligation is broken.
 //!

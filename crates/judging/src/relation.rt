@@ -30,7 +30,7 @@ pub(crate) fn same(alloc: Global, wanted: bool, starts: &[bool]) -> Result<Table
     Ok(all)
 }
 
-/// The place behind each start at which the boolean holds.
+/// The place after each start at which the boolean holds.
 pub(crate) fn next(
     alloc: Global,
     boolean: Boolean,
@@ -53,7 +53,7 @@ pub(crate) fn next(
     Ok(all)
 }
 
-/// The places that lie so far behind those of each start.
+/// The places that lie so far after those of each start.
 pub(crate) fn moved_places(
     alloc: Global,
     front: &Table,
@@ -232,7 +232,7 @@ pub(crate) fn reached_places(
     Ok(all)
 }
 
-/// The places behind those of the one table, and those of the other.
+/// The places after those of the one table, and those of the other.
 pub(crate) fn starts_behind(
     alloc: Global,
     moved: &Table,
@@ -251,7 +251,7 @@ pub(crate) fn starts_behind(
     Ok(all)
 }
 
-/// What a table reaches from the places of the one, and behind the places of the other.
+/// What a table reaches from the places of the one, and after the places of the other.
 pub(crate) fn composition_behind(
     alloc: Global,
     moved: &Table,

@@ -49,7 +49,7 @@ pub(crate) fn every_place(alloc: Global, count: usize) -> Result<Vec<bool>, Allo
     Ok(row)
 }
 
-/// Marks what lies so far behind the places of the other row.
+/// Marks what lies so far after the places of the other row.
 fn merge_behind(row: &mut Vec<bool>, front: &[bool], gap: usize)
     ensures long { length row.new.items ≡ length row.old.items }
     ensures each { (j : ℕ) → j < length row.old.items → marks row.new.items j
@@ -61,7 +61,7 @@ fn merge_behind(row: &mut Vec<bool>, front: &[bool], gap: usize)
     }
 }
 
-/// The places that lie behind those of the row by a number from the least up to below the end.
+/// The places that lie after those of the row by a number from the least up to below the end.
 pub(crate) fn moved_row(
     alloc: Global,
     front: &[bool],

@@ -50,7 +50,7 @@ abbrev or_zero : Option ℕ → ℕ
 or_zero None = 0
 or_zero (Some v) = v
 
--- and behind `Some` it is the place itself
+-- and after `Some` it is the place itself
 back : (ps : List ℕ) → map or_zero (map (λ (v : ℕ). Some v) ps) ≡ ps
 back [] = refl
 back (p ∷ ps) = ap (λ l. p ∷ l) (back ps)

@@ -13,7 +13,7 @@ use expressions::Table;
 use std::alloc::{AllocError, Global};
 use vcd_reader::Dump;
 
-/// Adds the rows of a window behind those of the clocks before it.
+/// Adds the rows of a window after those of the clocks before it.
 fn push_rows(alloc: Global, rows: &mut Table<u128>, window: &Window<'_>) -> Result<(), AllocError>
     requires order { first_in window.now ≤ end_in window.now }
     requires behind { length rows.old ≡ first_in window.now }

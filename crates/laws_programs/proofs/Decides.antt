@@ -23,19 +23,19 @@ use Rattle.verifier.specs.Programs.{IsAccepted}
 use Rattle.machine_definition.specs.Clocks.{disabling}
 use Rattle.verdicts.specs.Lines.{line_data_of}
 use Rattle.machine_runs.specs.Lines.{IsLineOver}
-use Rattle.machine_sections.specs.Automata.{AutomatonFollows}
-use Rattle.machine_sections.specs.Effects.{automaton_of}
-use Rattle.machine_sections.specs.Monitors.{program_monitor}
-use Rattle.machine_sections.specs.History.{SamplesAs}
-use Rattle.machine_sections.specs.Laws.{Watches, Fills}
+use Rattle.laws_sections.specs.Automata.{AutomatonFollows}
+use Rattle.laws_sections.specs.Effects.{automaton_of}
+use Rattle.laws_sections.specs.Monitors.{program_monitor}
+use Rattle.laws_sections.specs.History.{SamplesAs}
+use Rattle.laws_sections.specs.Laws.{Watches, Fills}
 use Rattle.laws_programs.specs.LineLaws.{AreVerdicts}
 use Rattle.laws_programs.proofs.Lines.{by-meaning}
-use Rattle.compiler_positions.specs.Laws.{Occurs, section_for, led_section}
-use Rattle.compiler_positions.specs.Sections.{told_atom}
-use Rattle.compiler_positions.proofs.Theorem.{law-section_follows}
-use Rattle.compiler_positions.proofs.Firsts.{law-follows_first}
+use Rattle.compiler_sequences.specs.Laws.{Occurs, section_for, led_section}
+use Rattle.compiler_sequences.specs.Sections.{told_atom}
+use Rattle.compiler_sequences.proofs.Theorem.{law-section_follows}
+use Rattle.compiler_sequences.proofs.Firsts.{law-follows_first}
 use Rattle.assertions.specs.Listed.{EachBoolean, IsListed, IsListedOption}
-use Rattle.compiler_positions.specs.Sequences.{atom_of}
+use Rattle.compiler_sequences.specs.Sequences.{atom_of}
 use Rattle.compiler.specs.Programs.{disabling_atom, IsProgramOf}
 use Rattle.laws_programs.specs.Laws.{AreSuiteRows, picked_row, AreVerdictsOver, ProgramsDecide}
 use Rattle.laws_programs.proofs.Samples as made

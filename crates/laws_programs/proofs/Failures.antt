@@ -11,8 +11,8 @@ use Rattle.signals.specs.declared.verdict.Verdict.TheVariants.{Holds, Vacuous, F
 use Rattle.signals.specs.declared.verdict.Decided.{Decided}
 use Rattle.verdicts.specs.declared.line.Failure.{Failure}
 use Rattle.verdicts.specs.Tallies.{fails_at, failing_at, failing_in, clock_behind, end_of, failing_of}
-use Rattle.machine_sections.specs.Standing.{select_ticks, falls_at}
-use Rattle.machine_sections.specs.Laws.{fallen, all_fallen, open_starts}
+use Rattle.laws_sections.specs.Standing.{select_ticks, falls_at}
+use Rattle.laws_sections.specs.Laws.{fallen, all_fallen, open_starts}
 use Rattle.machine_runs.specs.Lines.{failure_of}
 use Rattle.laws_programs.specs.LineLaws.{FallsBefore, still_open}
 
@@ -74,7 +74,7 @@ open-none : (cs : List ℕ) → filter_map failure_of (map (λ c. record { start
 open-none [] = refl
 open-none (c ∷ cs) = open-none cs
 
--- behind the end nothing fails
+-- after the end nothing fails
 never-fails : (j : ℕ) (w : Verdict) → clock_behind w ≤ j → fails_at j w ≡ false
 never-fails j Open h = refl
 never-fails j (Holds t) h = refl

@@ -16,11 +16,11 @@ use Rattle.machine_definition.specs.Clocks.{Attempt}
 use Rattle.machine_definition.specs.Runs.{Decides}
 use Rattle.machine_definition.specs.Runs.{open_ones}
 use Rattle.machine_runs.specs.Lines.{failure_of, line_over}
-use Rattle.machine_sections.specs.Monitors.{program_monitor}
-use Rattle.machine_sections.specs.Laws.{all_fallen, starts_of}
-use Rattle.machine_sections.proofs.Selections.{map-same}
-use Rattle.machine_sections.proofs.Histories.{listed}
-use Rattle.machine_sections.proofs.Rows.{by-meaning as runs-by-meaning}
+use Rattle.laws_sections.specs.Monitors.{program_monitor}
+use Rattle.laws_sections.specs.Laws.{all_fallen, starts_of}
+use Rattle.laws_sections.proofs.Selections.{map-same}
+use Rattle.laws_sections.proofs.Histories.{listed}
+use Rattle.laws_sections.proofs.Rows.{by-meaning as runs-by-meaning}
 use Rattle.laws_programs.specs.LineLaws.{FallsBefore, still_open, row_of, LinesAreOne, LineByMeaning}
 use Rattle.laws_programs.proofs.Tallied.{tallied}
 use Rattle.laws_programs.proofs.Failures.{failures}

@@ -25,8 +25,8 @@ use Rattle.verifier.specs.Programs.{IsAccepted}
 use Rattle.machine_definition.specs.Outcomes.{Meets}
 use Rattle.machine_definition.specs.Samples.{nothing_made}
 use Rattle.machine_definition.specs.Machine.{sample_of, stored}
-use Rattle.machine_sections.specs.History.{clock_row, sample_rows, slot_held_at, IsSampleMade, SamplesAs}
-use Rattle.machine_sections.proofs.Histories.{reads}
+use Rattle.laws_sections.specs.History.{clock_row, sample_rows, slot_held_at, IsSampleMade, SamplesAs}
+use Rattle.laws_sections.proofs.Histories.{reads}
 use Rattle.laws_programs.specs.LineLaws.{row_of}
 use Rattle.compiler_expressions.specs.Codes.{slot_of}
 use Rattle.compiler_expressions.specs.Samples.{Held, held_slot}

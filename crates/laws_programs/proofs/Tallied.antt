@@ -9,7 +9,7 @@ use Rattle.std.proofs.lemmas.List.Sums.{sum_by-append, sum_by-cons}
 use Rattle.signals.specs.declared.verdict.Verdict.{Verdict}
 use Rattle.signals.specs.declared.verdict.Verdict.TheVariants.{Holds, Vacuous, Fails, Disabled, Open}
 use Rattle.signals.specs.declared.verdict.Decided.{Decided}
-use Rattle.machine_sections.specs.Standing.{select_ticks, is_open, falls_at}
+use Rattle.laws_sections.specs.Standing.{select_ticks, is_open, falls_at}
 use Rattle.laws_programs.specs.LineLaws.{FallsBefore}
 
 -- x for each of so many clocks that passes

@@ -11,9 +11,9 @@ use Rattle.verifier.specs.Programs.{IsAccepted}
 use Rattle.assertions.specs.declared.sequence.Boolean.{Boolean}
 use Rattle.assertions.specs.Segments.{Seq}
 use Rattle.assertions.specs.Attempts.{Antecedent, IsVerdict}
-use Rattle.machine_sections.specs.Monitors.{program_monitor}
-use Rattle.machine_sections.specs.History.{SamplesAs}
-use Rattle.machine_sections.specs.Laws.{Watches, Fills, all_fallen, open_starts}
+use Rattle.laws_sections.specs.Monitors.{program_monitor}
+use Rattle.laws_sections.specs.History.{SamplesAs}
+use Rattle.laws_sections.specs.Laws.{Watches, Fills, all_fallen, open_starts}
 use Rattle.machine_runs.specs.Lines.{line_over, IsLineOver}
 
 -- the verdict falls before this clock, if it falls
@@ -30,7 +30,7 @@ still_open verdict count =
     map (λ c. record { start = c; verdict = Open }) (open_starts verdict count)
 
 -- Where verdict c is that on the attempt that begins at tick c, the line of the attempts by the
--- clock at which they are decided, then start, with the open ones behind them, is that of the
+-- clock at which they are decided, then start, with the open ones after them, is that of the
 -- verdicts by start.
 abbrev pub LinesAreOne : Type 0
 LinesAreOne =

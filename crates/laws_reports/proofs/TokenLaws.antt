@@ -31,7 +31,7 @@ abbrev pub lies_in : List Token → ℕ → ℕ × ℕ
 lies_in [] at = (0, 0)
 lies_in (t ∷ ts) at = if eqb t.at at then t.text.ref_ptr else lies_in ts at
 
--- each stands behind the byte at which the one before it does
+-- each stands after the byte at which the one before it does
 abbrev AreApart : ℕ → List Cut → Type 0
 AreApart from [] = Unit {0}
 AreApart from (c ∷ cs) = (from ≤ c.at) × AreApart (suc c.at) cs
@@ -49,7 +49,7 @@ abbrev LieAt : (ℕ → ℕ × ℕ) → List Token → Type 0
 LieAt lies [] = Unit {0}
 LieAt lies (t ∷ ts) = (lies t.at ≡ t.text.ref_ptr) × LieAt lies ts
 
--- A token in front of those that stand behind it changes nothing for them.
+-- A token in front of those that stand after it changes nothing for them.
 lies-behind : (t : Token) (ts us : List Token) (from : ℕ) → t.at < from
     → AreApart from (map cut_of us) → LieAt (lies_in ts) us → LieAt (lies_in (t ∷ ts)) us
 lies-behind t ts [] from lt apart h = tt

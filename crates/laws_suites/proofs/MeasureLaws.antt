@@ -3,7 +3,7 @@ use Rattle.std.proofs.Common.{◌≡◌, List, [], ◌∷◌, ◌++◌, map, ref
 use Rattle.assertions.specs.Written.{Written, boolean, delay, lead, repeat, or, and, intersect, throughout}
 use Rattle.types_sequences.specs.Outlines.{map_written}
 use Rattle.types_sequences.specs.Leaves.{leaves}
-use Rattle.compiler_positions.specs.Laws.{IsPlain, booleans}
+use Rattle.compiler_sequences.specs.Laws.{IsPlain, booleans}
 
 map_two : {B C : Type 0} (f : B → C) (xs ys : List B) → map f xs ++ map f ys ≡ map f (xs ++ ys)
 map_two f [] ys = refl

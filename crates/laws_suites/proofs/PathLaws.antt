@@ -56,7 +56,7 @@ pub both : (ps qs : List (List ℕ)) → ArePaths ps → ArePaths qs → ArePath
 both [] qs h g = g
 both (p ∷ ps) qs h g = (h.0, both ps qs h.1 g)
 
--- what a rule spells, and what is left behind it
+-- what a rule spells, and what is left after it
 members_words : {ws ts rest : Tokens} → AreMembers ws ts rest → AreWorded ts →
     AreWords ws × AreWorded rest
 members_words no_member h = (tt, h)

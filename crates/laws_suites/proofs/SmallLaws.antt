@@ -18,7 +18,7 @@ use Rattle.assertions.specs.Shapes.{written_form}
 use Rattle.assertions.specs.Names.{expression_names}
 use Rattle.compiler_expressions.specs.Chosen.{term_found, terms_at}
 use Rattle.compiler_expressions.specs.Laws.{EachPart, IsNoChange, size}
-use Rattle.compiler_positions.specs.Laws.{IsPlain, booleans}
+use Rattle.compiler_sequences.specs.Laws.{IsPlain, booleans}
 use Rattle.types_sequences.specs.Drafts.{Draft}
 use Rattle.types_sequences.specs.Outlines.{map_written}
 use Rattle.types_sequences.specs.Leaves.{leaves, place_listed, sequence_places, is_one, form_of}

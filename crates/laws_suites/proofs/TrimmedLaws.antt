@@ -14,7 +14,7 @@ use Rattle.assertions.specs.Written.{IsOrdered}
 use Rattle.assertions.specs.Emptiness.{admits_empty}
 use Rattle.types_sequences.specs.Trimmed.{weightless_form, IsReplaced, IsTrimmed}
 use Rattle.types_sequences.specs.Leaves.{leaves, place_listed, sequence_places}
-use Rattle.compiler_positions.specs.Laws.{IsPlain, booleans}
+use Rattle.compiler_sequences.specs.Laws.{IsPlain, booleans}
 
 zero_factor : (a b : ℕ) → a * b ≡ 0 → (a ≡ 0) ⊎ (b ≡ 0)
 zero_factor zero b h = inl refl

@@ -37,14 +37,14 @@ use Rattle.assertions.specs.Attempts.{Antecedent, verdict}
 use Rattle.machine_definition.specs.Outcomes.{Ran, done, and_then}
 use Rattle.machine_definition.specs.Machine.{State, Outcome, opening, clocks}
 use Rattle.machine_definition.specs.Runs.{outcome_behind, run_from}
-use Rattle.machine_sections.specs.Monitors.{program_monitor}
-use Rattle.machine_sections.specs.Standing.{select_ticks, falls_at, is_open, falling}
-use Rattle.machine_sections.specs.History.{SamplesAs}
-use Rattle.machine_sections.specs.Laws.{Watches, Fills, fallen, open_starts, starts_of, all_fallen}
-use Rattle.machine_sections.proofs.Selections.{map-same, select-same}
-use Rattle.machine_sections.proofs.Histories.{listed}
-use Rattle.machine_sections.proofs.Deciding.{falling-fallen}
-use Rattle.machine_sections.proofs.Rows.{by-meaning}
+use Rattle.laws_sections.specs.Monitors.{program_monitor}
+use Rattle.laws_sections.specs.Standing.{select_ticks, falls_at, is_open, falling}
+use Rattle.laws_sections.specs.History.{SamplesAs}
+use Rattle.laws_sections.specs.Laws.{Watches, Fills, fallen, open_starts, starts_of, all_fallen}
+use Rattle.laws_sections.proofs.Selections.{map-same, select-same}
+use Rattle.laws_sections.proofs.Histories.{listed}
+use Rattle.laws_sections.proofs.Deciding.{falling-fallen}
+use Rattle.laws_sections.proofs.Rows.{by-meaning}
 use Rattle.machine_runs.proofs.BatchLaws.{joined, later}
 use Rattle.machine_runs.proofs.CutLaws.{cuts, ends-as}
 use Rattle.machine_runs.specs.Batches.{rows_between, batch_of, decided_in}
@@ -61,7 +61,7 @@ flat-same f g i (suc k) same =
     ∙ ap (λ xs. g i ++ xs)
     (flat-same f g (i + 1) k (λ j from below. same j (omega arith) (omega arith)))
 
--- the clocks from i on, cut behind so many
+-- the clocks from i on, cut after so many
 flat-cut : (f : ℕ → List Decided) (i j k : ℕ)
     → flat_map f (range_with_len i j) ++ flat_map f (range_with_len (i + j) k)
     ≡ flat_map f (range_with_len i (j + k))
@@ -175,7 +175,7 @@ module _ (p : ProgramData) (rows : List (List ℕ)) (counters : ℕ → List ℕ
       (told ∙ ap (falls 0) (sym e) ∙ sym (flat-cut (fallen over (length rows)) 0 a (b - a))
       ∙ ap (λ i. falls 0 a ++ falls i (b - a)) z)
 
-  -- the attempts that are live behind the last clock
+  -- the attempts that are live after the last clock
   pub open-live : (n : ℕ) (last : State) → n ≡ length rows
       → clocks p (opening p) (take n rows) ≡ done last 0
       → starts_of last.standing.attempts ≡ open_starts over (length rows)

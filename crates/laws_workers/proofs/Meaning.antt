@@ -41,9 +41,9 @@ use Rattle.verifier.specs.Programs.{IsAccepted}
 use Rattle.vcd_reader.specs.Variables.{variable_named}
 use Rattle.vcd_reader.specs.Dump.{Contents}
 use Rattle.cycle_window.specs.Ticks.{ticks_of, sample, row_of}
-use Rattle.machine_sections.specs.Monitors.{program_monitor}
-use Rattle.machine_sections.specs.History.{SamplesAs}
-use Rattle.machine_sections.specs.Laws.{open_starts, starts_of}
+use Rattle.laws_sections.specs.Monitors.{program_monitor}
+use Rattle.laws_sections.specs.History.{SamplesAs}
+use Rattle.laws_sections.specs.Laws.{open_starts, starts_of}
 use Rattle.machine_definition.specs.Outcomes.{done}
 use Rattle.machine_definition.specs.Machine.{State, opening, clocks}
 use Rattle.machine_runs.specs.Batches.{batch_of}

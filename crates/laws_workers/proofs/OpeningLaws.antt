@@ -7,7 +7,7 @@ use Rattle.bytecode.specs.Values.{ProgramData}
 use Rattle.verifier.specs.Programs.{IsAccepted}
 use Rattle.vcd_reader.specs.Dump.{Contents}
 use Rattle.cycle_window.specs.Ticks.{ticks_of}
-use Rattle.workers_lines.proofs.RoundLaws.{many-rows}
+use Rattle.workers_single.proofs.RoundLaws.{many-rows}
 use Rattle.workers_core.specs.States.{MonitorState}
 use Rattle.workers_core.specs.Opening.{opened_monitor}
 use Rattle.workers_core.specs.Values.{JobValue, opening_core, setting_of}

@@ -39,7 +39,7 @@ use Rattle.laws_workers.proofs.MonitorLaws.{Goes}
 abbrev pub from : Setting → List Step → CoreState → Option CoreState
 from g steps s = state_after g s steps
 
--- steps behind steps
+-- steps after steps
 append-step : (g : Setting) (xs ys : List Step) →
     ((s : CoreState) → state_after g s (xs ++ ys) ≡ option_and_then (from g ys) (state_after g s xs)) →
     (o : Option CoreState) →
@@ -224,7 +224,7 @@ joined-next : (D : ℕ → List ℕ) (v low : ℕ) (owners : List ℕ)
 joined-next D v low owners =
     fun_ext (λ w. join-one (v == w) (D w) (owned_from (low + 1) owners w) low)
 
--- behind all turns
+-- after all turns
 abbrev through : Setting → ℕ → ℕ → ℕ → ℕ → ℕ → List MonitorState → List MonitorState →
     (ℕ → List ℕ) → List BatchState → CoreState
 through g a b k n low before ms D board =

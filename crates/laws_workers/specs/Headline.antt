@@ -15,7 +15,7 @@ use Rattle.vcd_reader.specs.Variables.{variable_named}
 use Rattle.vcd_reader.specs.Dump.{Contents}
 use Rattle.cycle_window.specs.Ticks.{ticks_of, sample}
 use Rattle.assertions.specs.Reads.{Reads}
-use Rattle.machine_sections.specs.Laws.{fallen, open_starts, starts_of}
+use Rattle.laws_sections.specs.Laws.{fallen, open_starts, starts_of}
 use Rattle.compiler.specs.Programs.{IsProgramOf}
 use Rattle.laws_programs.specs.Laws.{AreSuiteRows}
 use Rattle.workers_core.specs.States.{MonitorState, BatchState, place}
@@ -32,7 +32,7 @@ fallen_between verdict count first end =
     flat_map (fallen verdict count) (range_with_len first (end - first))
 
 -- Each batch of the monitor of that number has the verdicts that fall at the batch's clocks, and no
--- other; and behind the last clock its live attempts are the open ones.
+-- other; and after the last clock its live attempts are the open ones.
 pub record PublishesVerdicts (v : CoreValue) (number count : ℕ) (verdict : ℕ → Verdict) :
     Type 0 where
   pub batches : (n : ℕ) (b : BatchState) → slice_get v.state.board n ≡ Some b →

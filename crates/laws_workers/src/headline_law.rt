@@ -7,7 +7,7 @@ ghost use Rattle.laws_workers.specs.Headline.{DecidesAsMeant};
 
 use workers_core::Core;
 
-/// Every core, so the one behind any list of steps: it follows the checked machine, and where a
+/// Every core, so the one after any list of steps: it follows the checked machine, and where a
 /// program is that of an assertion, what its monitor published is the assertion's meaning.
 pub fn headline(core: &Core<'_>)
     ensures machine { (c : Contents) → Says core.now.job c → FollowsMachine core.now c }

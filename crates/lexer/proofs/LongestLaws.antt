@@ -189,7 +189,7 @@ digits_tail-here (Some base) (b ∷ bs) n h =
     no_digit base b bs zero h = refl
     no_digit base b bs (suc n) h = absurd (omega arith)
 
--- behind a quote
+-- after a quote
 base_len-le : (bs : List ℕ) → base_len bs ≤ length bs
 unfolding base_len
 base_len-le [] = omega arith
@@ -222,7 +222,7 @@ longest-quote_alone b bs e h = rw e (longest-none 39 bs (λ n le. alone n le))
     alone zero le = refl
     alone (suc n) le = rw (base_tail-past bs (suc n) (omega arith) le) refl
 
--- behind a first digit
+-- after a first digit
 size_len-le : (bs : List ℕ) → size_len bs ≤ length bs
 unfolding size_len
 size_len-le [] = omega arith
@@ -288,7 +288,7 @@ longest-number b bs h k d =
     numbered : (ts : List ℕ) (t : Bool) → size_tail ts ≡ t → shape_of b ts ≡ when t shape.Number
     numbered ts t e = rw (h, k, d, e) refl
 
--- What stands behind a first digit: more of them, and a quote with what belongs to it.
+-- What stands after a first digit: more of them, and a quote with what belongs to it.
 abbrev pub quote_len : List ℕ → ℕ
 quote_len [] = 0
 quote_len (b ∷ bs) = cond (eqb b 39) (with_quote (base_len bs)) 0

@@ -159,7 +159,7 @@ kind_same bytes m n s r k h l some none =
     ∙ ap (λ (x : Shape). kind_of x (take n bytes)) (shape_same bytes m n s r h l) in
     absurd cc
 
--- a fault behind so many bytes
+-- a fault after so many bytes
 carried : (at m n : ℕ) (bytes : List ℕ) (fault : LexFault) → m ≡ n → IsFaulty (at + m) (drop m bytes) fault
     → IsFaulty (at + n) (drop n bytes) fault
 carried at m n bytes fault e h = subst (λ (i : ℕ). IsFaulty (at + i) (drop i bytes) fault) e h
@@ -193,7 +193,7 @@ cut_faultless (over_token {n = n} {shape = s} {kind = kind} {bytes = bytes} apar
     (bad_number {n = m} {shape = r} also h j) = kind_same bytes n m s r kind l h k j
 cut_faultless (over_token apart l k cs) fault (unclosed w open_ended) = apart.no_comment w
 
--- what one token is, and those behind it
+-- what one token is, and those after it
 token_same : (at m n : ℕ) (bytes : List ℕ) (s r : Shape) (j k : Kind) (cs ds : List Cut) → IsLongest bytes m s
     → IsLongest bytes n r → kind_of s (take m bytes) ≡ Some j → kind_of r (take n bytes) ≡ Some k → cs ≡ ds
     → record { kind = j; at = at; text = take m bytes } ∷ cs ≡ record { kind = k; at = at; text = take n bytes } ∷ ds

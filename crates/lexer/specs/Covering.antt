@@ -30,7 +30,7 @@ abbrev pub HasFirstClose : List ℕ → List ℕ → Type 0
 HasFirstClose inside rest =
     (n : ℕ) → n < length inside → BeginsWith 42 47 (drop n (inside ++ 42 ∷ 47 ∷ rest)) → ⊥
 
--- White space, or a comment. A comment in the form /* .. */ ends at the first */ behind its /*, so
+-- White space, or a comment. A comment in the form /* .. */ ends at the first */ after its /*, so
 -- /*/ does not end.
 pub data IsGap : List ℕ → List ℕ → Type 0 where
   white : {b : ℕ} {rest : List ℕ} → is_space b ≡ true → IsGap (b ∷ []) rest

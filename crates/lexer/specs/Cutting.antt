@@ -62,7 +62,7 @@ abbrev pub next_lexeme : Option (ℕ × Shape) → Next
 next_lexeme None = Stray
 next_lexeme (Some r) = Lexeme r.0 r.1
 
--- what comes next, where the byte b stands, and behind it bs
+-- what comes next, where the byte b stands, and after it bs
 unfoldable pub next : ℕ → List ℕ → Next
 next b bs =
     if is_space b then Gap 1

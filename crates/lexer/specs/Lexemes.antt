@@ -24,15 +24,15 @@ is_digit b = nat_le 48 b && nat_le b 57
 abbrev pub is_letter : ℕ → Bool
 is_letter b = (nat_le 97 b && nat_le b 122) || (nat_le 65 b && nat_le b 90) || (b == 95)
 
--- of a word, behind its first letter
+-- of a word, after its first letter
 abbrev pub is_word_part : ℕ → Bool
 is_word_part b = is_letter b || is_digit b || (b == 36)
 
--- of a system name, behind $
+-- of a system name, after $
 abbrev pub is_system_part : ℕ → Bool
 is_system_part b = is_letter b || is_digit b
 
--- of a decimal or a size, behind its first digit
+-- of a decimal or a size, after its first digit
 abbrev pub is_digit_part : ℕ → Bool
 is_digit_part b = is_digit b || (b == 95)
 
@@ -60,11 +60,11 @@ is_unknown_digit b = (b == 120) || (b == 88) || (b == 122) || (b == 90) || (b ==
 unfoldable pub is_based_digit : Base → ℕ → Bool
 is_based_digit base b = is_valued_digit base b || is_unknown_digit b
 
--- of the digits of a base, behind the first
+-- of the digits of a base, after the first
 unfoldable pub is_based_part : Base → ℕ → Bool
 is_based_part base b = is_based_digit base b || (b == 95)
 
--- digits ::= digit (digit | "_")*, behind a base letter; none at all is a number without a value
+-- digits ::= digit (digit | "_")*, after a base letter; none at all is a number without a value
 abbrev pub digits_tail : Option Base → List ℕ → Bool
 digits_tail None bs = false
 digits_tail (Some base) [] = true
@@ -170,7 +170,7 @@ abbrev pub or_shorter : Option Shape → ℕ → Option (ℕ × Shape) → Optio
 or_shorter None n shorter = shorter
 or_shorter (Some s) n shorter = Some (n, s)
 
--- The longest text that is something: the byte and at most n of those behind it. Its length, and
+-- The longest text that is something: the byte and at most n of those after it. Its length, and
 -- what it is.
 unfoldable pub longest_from : ℕ → List ℕ → ℕ → Option (ℕ × Shape)
 longest_from b bs zero = or_shorter (shape_of b []) 1 None

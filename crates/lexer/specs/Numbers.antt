@@ -31,7 +31,7 @@ digit_value b =
     else (if nat_le 65 b && nat_le b 70 then Some (b - 55)
     else None))
 
--- The value of the digits behind others that are worth v. Underscores count for nothing.
+-- The value of the digits after others that are worth v. Underscores count for nothing.
 unfoldable pub value_from : ℕ → ℕ → List ℕ → Option ℕ
 value_from radix v [] = Some v
 value_from radix v (b ∷ bs) =

@@ -17,14 +17,14 @@ is_part part.System b = is_system_part b
 is_part part.Digit b = is_digit_part b
 is_part (part.Based base) b = is_based_part base b
 
--- how many bytes of a number stand behind its base letter, that letter among them
+-- how many bytes of a number stand after its base letter, that letter among them
 abbrev pub digits_len : Option Base → List ℕ → ℕ
 digits_len None bs = 0
 digits_len (Some base) [] = 1
 digits_len (Some base) (b ∷ bs) =
     if is_based_digit base b then suc (suc (run (is_based_part base) bs)) else 1
 
--- and behind its quote
+-- and after its quote
 unfoldable pub base_len : List ℕ → ℕ
 base_len [] = 0
 base_len (b ∷ bs) = digits_len (base_of b) bs
@@ -34,7 +34,7 @@ abbrev pub with_quote : ℕ → ℕ
 with_quote zero = zero
 with_quote (suc n) = suc (suc n)
 
--- and behind its first digit
+-- and after its first digit
 unfoldable pub size_len : List ℕ → ℕ
 size_len [] = 0
 size_len (b ∷ bs) =

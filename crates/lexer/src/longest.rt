@@ -198,7 +198,7 @@ pub(crate) fn run_end(bytes: &[u8], start: usize, part: Part) -> usize
     at
 }
 
-/// Where the base letter and the digits end that stand behind a quote: right there if no base
+/// Where the base letter and the digits end that stand after a quote: right there if no base
 /// letter does.
 fn base_end(bytes: &[u8], start: usize) -> usize
     requires { start ≤ length bytes.now }

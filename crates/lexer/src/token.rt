@@ -47,7 +47,7 @@ pub enum Symbol {
     Percent,
 }
 
-/// The base of a number: the letter behind its quote, in either case.
+/// The base of a number: the letter after its quote, in either case.
 #[derive(Clone, Copy, PartialEq, Eq)]
 pub enum Base {
     Binary,

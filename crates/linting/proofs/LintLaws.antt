@@ -24,7 +24,7 @@ told-more refuses ends text left next rs all r before refused pushed blanked =
     (subst (λ (l : List ℕ). AreRefusals refuses ends text (map at rs ++ r.at ∷ []) l) (sym blanked)
     (more before refused))
 
--- one refusal more, behind which nothing is left
+-- one refusal more, after which nothing is left
 pub told-last : (refuses : List ℕ → ℕ → Type 0) (ends text left : List ℕ) (rs all : List Refusal) (r : Refusal)
     → AreRefusals refuses ends text (map (λ (x : Refusal). x.at) rs) left → refuses left r.at
     → all ≡ rs ++ r ∷ [] → IsTold refuses ends text (map (λ (x : Refusal). x.at) all) None

@@ -32,7 +32,7 @@ abbrev pub through : List (List ℕ) → List Token → ℕ
 through words [] = 0
 through words (t ∷ ts) = if is_one words t then 1 else 1 + through words ts
 
--- how many tokens a name behind a colon has, if one stands first
+-- how many tokens a name after a colon has, if one stands first
 abbrev pub closing_name : List Token → ℕ
 closing_name [] = 0
 closing_name (t ∷ ts) = if is_one (codes ":" ∷ []) t then 1 + min 1 (length ts) else 0
@@ -48,11 +48,11 @@ item_length [] = 0
 item_length (t ∷ ts) =
     if is_one openers t then block_length (t ∷ ts) else through ends (t ∷ ts)
 
--- the byte behind a token, which is no more than the text has
+-- the byte after a token, which is no more than the text has
 abbrev pub end_of : ℕ → Token → ℕ
 end_of size token = min size (token.at + length token.text.now)
 
--- the byte behind the first item
+-- the byte after the first item
 abbrev pub item_end : ℕ → List Token → ℕ
 item_end size ts =
     unwrap_or (option_map (end_of size) (slice_get ts (item_length ts - 1))) size
@@ -67,24 +67,24 @@ abbrev pub is_over : List Token → Bool
 is_over [] = true
 is_over (t ∷ ts) = is_end t.kind
 
--- These are the bytes behind the items of tokens.
+-- These are the bytes after the items of tokens.
 pub data AreEnds (size : ℕ) : List Token → List ℕ → Type 0 where
   over : {ts : List Token} → is_over ts ≡ true → AreEnds size ts []
   item : {ts : List Token} {ends : List ℕ} → is_over ts ≡ false
       → AreEnds size (drop (item_length ts) ts) ends
       → AreEnds size ts (item_end size ts ∷ ends)
 
--- These are the bytes behind the items of a text.
+-- These are the bytes after the items of a text.
 pub record AreItemEnds (text ends : List ℕ) : Type 0 where
   pub tokens : List Token
   pub cut : tokens_of text ≡ Ok (map cut_of tokens)
   pub are : AreEnds (length text) tokens ends
 
--- which item holds a byte: the first that ends behind it, and what is left where none does
+-- which item holds a byte: the first that ends after it, and what is left where none does
 abbrev pub item_at : List ℕ → ℕ → ℕ
 item_at ends at = prefix_len (λ e. nat_le e at) ends
 
--- where an item begins: behind the one before it
+-- where an item begins: after the one before it
 abbrev pub start_of : List ℕ → ℕ → ℕ
 start_of ends n = if n == 0 then 0 else slice_index ends (n - 1)
 

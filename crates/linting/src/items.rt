@@ -53,7 +53,7 @@ fn through(words: &[&str], tokens: &[Token]) -> usize
     tokens.len()
 }
 
-/// How many tokens a name behind a colon has, if one stands first.
+/// How many tokens a name after a colon has, if one stands first.
 fn closing_name(tokens: &[Token]) -> usize
     ensures count { result ≡ closing_name tokens.now }
     ensures high { result ≤ length tokens.now }
@@ -92,14 +92,14 @@ fn item_length(tokens: &[Token]) -> usize
     through(&ENDS, tokens)
 }
 
-/// The byte behind a token, which is no more than the text has.
+/// The byte after a token, which is no more than the text has.
 fn end_of(size: usize, token: Token) -> usize
     ensures { result ≡ end_of size token.entry }
 {
     token.at.saturating_add(token.text.len()).min(size)
 }
 
-/// The byte behind the first item.
+/// The byte after the first item.
 fn item_end(size: usize, tokens: &[Token]) -> usize
     ensures { result ≡ item_end size tokens.now }
 {
@@ -119,7 +119,7 @@ fn is_over(tokens: &[Token]) -> bool
     }
 }
 
-/// The bytes behind the items of tokens.
+/// The bytes after the items of tokens.
 fn ends_in(alloc: Global, size: usize, tokens: &[Token]) -> Result<Vec<usize>, AllocError>
     ensures { IfOk result (λ ends. AreEnds size tokens.now ends.items) }
 {
@@ -132,8 +132,8 @@ fn ends_in(alloc: Global, size: usize, tokens: &[Token]) -> Result<Vec<usize>, A
     Ok(ends)
 }
 
-/// The bytes behind the items of a text, in its order: an item ends with `;`, or with the word that
-/// ends what its first word opens. Behind the last of them only what is no token stands.
+/// The bytes after the items of a text, in its order: an item ends with `;`, or with the word that
+/// ends what its first word opens. After the last of them only what is no token stands.
 ///
 /// What no token begins with is passed over.
 pub fn item_ends(alloc: Global, text: &str) -> Result<Vec<usize>, AllocError>
@@ -148,7 +148,7 @@ pub fn item_ends(alloc: Global, text: &str) -> Result<Vec<usize>, AllocError>
     }
 }
 
-/// The item that holds a byte: the first that ends behind it; the number of all items where none
+/// The item that holds a byte: the first that ends after it; the number of all items where none
 /// does.
 pub fn item_at(ends: &[usize], at: usize) -> usize
     ensures { result ≡ item_at ends.now at }

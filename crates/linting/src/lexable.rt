@@ -27,7 +27,7 @@ fn is_number_part(byte: u8) -> bool {
     byte.is_ascii_alphanumeric() || byte == b'_' || byte == b'\'' || byte == b'?'
 }
 
-/// The byte behind the string that begins there, or else the end of its line.
+/// The byte after the string that begins there, or else the end of its line.
 fn string_end(bytes: &[u8], start: usize) -> usize
     requires { start < length bytes.now }
     ensures { result ≤ length bytes.now }
@@ -43,7 +43,7 @@ fn string_end(bytes: &[u8], start: usize) -> usize
     bytes.len()
 }
 
-/// The byte behind the name that begins there with a backslash.
+/// The byte after the name that begins there with a backslash.
 fn escaped_end(bytes: &[u8], start: usize) -> usize
     requires { start < length bytes.now }
     ensures { result ≤ length bytes.now }
@@ -56,7 +56,7 @@ fn escaped_end(bytes: &[u8], start: usize) -> usize
     bytes.len()
 }
 
-/// The byte behind the number without a value that begins there.
+/// The byte after the number without a value that begins there.
 fn number_end(bytes: &[u8], start: usize) -> usize
     requires { start < length bytes.now }
     ensures { result ≤ length bytes.now }
@@ -69,7 +69,7 @@ fn number_end(bytes: &[u8], start: usize) -> usize
     bytes.len()
 }
 
-/// The byte behind what is no token: a string, an escaped name, a number without a value, a comment
+/// The byte after what is no token: a string, an escaped name, a number without a value, a comment
 /// without an end, or one character.
 fn stray_end(text: &str, start: usize) -> usize
     requires { start < length text.now }

@@ -7,7 +7,7 @@
 //! push_refusal(&mut out, "rules.sva", text, 52, message)?; // rules.sva:2:9: .., line and caret
 //! let meant = nearest(alloc, 2, "tb.ful", &names)?;        // the place of `tb.full` among names
 //! let instead = hint_beside("within", &WORDS);             // what to write in its place
-//! let ends = item_ends(alloc, text)?;                      // the byte behind each item
+//! let ends = item_ends(alloc, text)?;                      // the byte after each item
 //! let written = hint_at(text, 47, &MARKS);                 // the same, of marks as `===`
 //! let span = span_at(text, &ends, 52);                     // the item that holds byte 52
 //! let rest = blanked(alloc, text, start, end)?;            // the text without it, places kept

@@ -18,7 +18,7 @@ fn count_feeds(bytes: &[u8]) -> usize
     bytes.iter().filter(|byte| **byte == b'\n').count()
 }
 
-/// How many bytes stand behind the last line feed.
+/// How many bytes stand after the last line feed.
 fn count_behind_feed(bytes: &[u8]) -> usize
     ensures count { result ≡ suffix_len is_no_feed bytes.now }
     ensures high { result ≤ length bytes.now }

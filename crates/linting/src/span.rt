@@ -14,7 +14,7 @@ pub struct Span {
     pub end: usize,
 }
 
-/// Where an item begins: behind the one before it.
+/// Where an item begins: after the one before it.
 fn start_of(ends: &[usize], item: usize) -> usize
     ensures { result ≡ start_of ends.now item }
 {

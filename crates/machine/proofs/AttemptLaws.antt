@@ -50,7 +50,7 @@ joined-more seen accepted a b (done vs m) =
     (sym (or-assoc accepted b vs.accepted))
 joined-more seen accepted a b (trapped t) = refl
 
--- a walk that visits: what lies behind it, and what the visits of what is left come to
+-- a walk that visits: what lies after it, and what the visits of what is left come to
 pub record Visiting (p : ProgramData) (atoms : List Bool) (now : ℕ) (pool : Pooled AttemptRecord) (at : Option ℕ)
     (left : ℕ) (accepted : Bool) (old : Pooled AttemptRecord) (first : ℕ) : Type 0 where
   pub before : List (ℕ × AttemptRecord)

@@ -67,7 +67,7 @@ staying-more : (f : Fate) (fs : List Fate) → staying (fs ++ f ∷ []) ≡ stay
 staying-more f [] = refl
 staying-more f (g ∷ fs) = staying-one f g (is_ended g) (staying (fs ++ f ∷ [])) (staying fs) (staying-more f fs)
 
--- a walk that visits: what lies behind it, and what the visits of what is left come to
+-- a walk that visits: what lies after it, and what the visits of what is left come to
 pub record Visiting (p : ProgramData) (atoms : List Bool) (now : ℕ) (pool : Pooled ObligationRecord) (at : Option ℕ)
     (left : ℕ) (fates : Fates) (old : Pooled ObligationRecord) (first : ℕ) : Type 0 where
   pub before : List (ℕ × ObligationRecord)

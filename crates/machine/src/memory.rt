@@ -19,10 +19,10 @@ use machine_memory::{Pool, Ring};
 use machine_visits::bases_of;
 use signals::Decided;
 use std::alloc::{AllocError, Global};
-use verifier_inference::Frame;
+use verifier::Frame;
 
-/// How many bytes at least stay unused behind what a clock writes, so that it shares no line of a
-/// cache with the block behind, which another thread may write.
+/// How many bytes at least stay unused after what a clock writes, so that it shares no line of a
+/// cache with the block after, which another thread may write.
 const SPARE: usize = 128;
 
 /// All that a machine needs besides its program; no clock takes more.
@@ -64,7 +64,7 @@ fn bases_in(alloc: Global, program: &Program) -> Result<Bases, AllocError>
     })
 }
 
-/// So many zeros, with room behind them.
+/// So many zeros, with room after them.
 pub(crate) fn zeros(alloc: Global, count: usize) -> Result<Vec<u128>, AllocError>
     ensures zeros { IfOk result (λ zeros. zeros.items ≡ replicate count 0) }
     ensures room { IfOk result (λ zeros. count + 8 ≤ vec_capacity zeros) }
@@ -74,7 +74,7 @@ pub(crate) fn zeros(alloc: Global, count: usize) -> Result<Vec<u128>, AllocError
     Ok(zeros)
 }
 
-/// So many atoms that don't hold, with room behind them.
+/// So many atoms that don't hold, with room after them.
 fn no_atoms(alloc: Global, count: usize) -> Result<Vec<bool>, AllocError>
     ensures atoms { IfOk result (λ atoms. atoms.items ≡ replicate count false) }
     ensures room { IfOk result (λ atoms. count + 128 ≤ vec_capacity atoms) }

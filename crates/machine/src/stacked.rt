@@ -9,9 +9,8 @@ ghost use Rattle.machine_samples.specs.Memory.{AreRows};
 ghost use Rattle.machine_samples.specs.Runs.{HasRun, longest_run};
 
 use bytecode::Program;
-use machine_decoded::fill_row;
 use machine_memory::Ring;
-use machine_samples::{Stack, run};
+use machine_samples::{Stack, fill_row, run};
 
 /// The stack, and where the row of a clock is made.
 #[derive(Drop)]

@@ -111,7 +111,7 @@ module _ {T : Type 0} where
         λ k lt le. absurd (omega arith);
   }
 
-  -- one more node, linked to the place behind it
+  -- one more node, linked to the place after it
   pub fresh_more : (cap : ℕ) (ns : List (Node T)) (n : Node T) → AreFresh cap ns → n.next ≡ cap + 2
       → AreFresh (cap + 1) (ns ++ n ∷ [])
   unfolding next_at prev_at

@@ -301,7 +301,7 @@ module _ {T : Type 0} where
                 ∙ ap (remove_entry (nat_eq s)) (sym live_seen)) long,
           )
 
-    -- the first free node and those behind it
+    -- the first free node and those after it
     record Next : Type 0 where
       pub rest : List ℕ
       pub is : h.spare ≡ free ∷ rest
@@ -340,7 +340,7 @@ module _ {T : Type 0} where
       pub length_room : length h.live + 1 < 1025
       length_room = let all = h.all in let small = h.small in omega (arith, some_spare)
 
-      -- a record comes in behind the others
+      -- a record comes in after the others
       abbrev pub opened_nodes : T → List (Node T)
       opened_nodes x = with_prev
           (with_next (with_next (with_prev (with_item ns free x) free (prev_at ns 0)) free 0)

@@ -28,7 +28,7 @@ take-rows_of (suc m) zero s xs le = absurd (omega arith)
 take-rows_of (suc m) (suc k) s xs le = ap (λ rs. take s xs ∷ rs) (take-rows_of m k s (drop s xs)
     (omega arith))
 
--- what stands behind the rows changes none
+-- what stands after the rows changes none
 rows_of-append : (k s : ℕ) (xs ys : List ℕ) → k * s ≤ length xs
     → cut_rows k s (xs ++ ys) ≡ cut_rows k s xs
 rows_of-append zero s xs ys le = refl
@@ -85,7 +85,7 @@ length-written place row xs le =
           (omega arith),
     ))
 
--- seen from there the row stands first, and the others behind it in order
+-- seen from there the row stands first, and the others after it in order
 turned-written : (place : ℕ) (row xs : List ℕ) → place + length row ≤ length xs
     → turned place (written place row xs) ≡ row ++ (drop (place + length row) xs ++ take place xs)
 turned-written place row xs le =
@@ -171,7 +171,7 @@ round depth slots newest row values e f le =
     ∙ sym (take-append-drop (row * slots) values)
     ∙ ap (λ xs. (xs ++ take (row * slots) values) ++ drop (row * slots) values) (sym none)
 
--- a push keeps the rows behind the new one
+-- a push keeps the rows after the new one
 turned-kept : (depth slots newest row : ℕ) (values : List ℕ)
     → IsTurned depth slots newest values → IsRowBefore depth newest row
     → take depth (cut_rows (suc depth) slots (turned

@@ -1,6 +1,6 @@
 -- The steps of a walk over the live records of a pool, for its callers.
 --     begins            at `first`
---     head              at a slot: its record, and what is left behind it
+--     head              at a slot: its record, and what is left after it
 --     found, got        what `get`, `set`, `retire` and `next` ask, and what `get` gives
 --     after             what `next` gives
 --     kept              the walk one slot on, where the record was left

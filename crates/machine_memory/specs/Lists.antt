@@ -16,12 +16,12 @@ unfoldable pub Apart : List ℕ → Type 0
 Apart [] = Unit {0}
 Apart (x ∷ xs) = (Has x xs → ⊥) × Apart xs
 
--- from a on, each is linked to the one behind it and back, and the last to z
+-- from a on, each is linked to the one after it and back, and the last to z
 unfoldable pub Linked : (ℕ → ℕ) → (ℕ → ℕ) → ℕ → List ℕ → ℕ → Type 0
 Linked next prev a [] z = (next a ≡ z) × (prev z ≡ a)
 Linked next prev a (x ∷ xs) z = (next a ≡ x) × (prev x ≡ a) × Linked next prev x xs z
 
--- a is the first, and each is linked to the one behind it
+-- a is the first, and each is linked to the one after it
 unfoldable pub Chained : (ℕ → ℕ) → ℕ → List ℕ → Type 0
 Chained next a [] = Unit {0}
 Chained next a (x ∷ xs) = (a ≡ x) × Chained next (next x) xs
@@ -47,7 +47,7 @@ module _ {T : Type 0} where
   pool_of nodes len =
       pooled (length nodes - 1) (records nodes (walked nodes len (next_at nodes 0)))
 
-  -- each of the list is a place behind node 0
+  -- each of the list is a place after node 0
   abbrev pub Inside : List (Node T) → List ℕ → Type 0
   Inside nodes places = (p : ℕ) → Has p places → (0 < p) × (p < length nodes)
 

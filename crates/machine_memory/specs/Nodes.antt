@@ -31,7 +31,7 @@ module _ {T : Type 0} where
   with_item nodes place x =
       slice_set nodes place (record (node_at nodes place) { item = Some x })
 
-  -- node 0 is linked to itself, and each of the others to the one behind it
+  -- node 0 is linked to itself, and each of the others to the one after it
   pub record AreFresh (cap : ℕ) (nodes : List (Node T)) : Type 0 where
     pub all : length nodes ≡ cap + 1
     pub first : (next_at nodes 0 ≡ 0) × (prev_at nodes 0 ≡ 0)

@@ -1,4 +1,4 @@
--- How the rows of a ring lie in its block: the newest at its place, each older one behind it, and
+-- How the rows of a ring lie in its block: the newest at its place, each older one after it, and
 -- round the end.
 use Rattle.std.specs.Prelude.{◌≡◌, ℕ, zero, suc, ◌+◌, ◌*◌, ◌≤◌, ◌⊎◌, List, [], ◌∷◌, ◌++◌, length}
 use Rattle.std.specs.Prelude.{take, drop}
@@ -32,7 +32,7 @@ pub record IsRowBefore (depth newest row : ℕ) : Type 0 where
   pub inside : row ≤ depth
   pub turns : (newest ≡ row + 1) ⊎ ((newest ≡ 0) × (row ≡ depth))
 
--- the row so many behind the newest, round the end
+-- the row so many after the newest, round the end
 pub record IsBehind (depth newest back row : ℕ) : Type 0 where
   pub inside : row ≤ depth
   pub turns : (newest + back ≡ row) ⊎ (newest + back ≡ row + (depth + 1))

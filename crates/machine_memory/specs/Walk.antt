@@ -5,7 +5,7 @@ use Rattle.std.specs.Map.{keys_of}
 use Rattle.machine_memory.specs.Pooled.{first_slot}
 
 module _ {T : Type 0} where
-  -- the walk stands at this slot, or at none once it is over: done lies behind it, and rest begins
+  -- the walk stands at this slot, or at none once it is over: done lies after it, and rest begins
   -- with it
   pub record WalkIsAt (live : List (ℕ × T)) (at : Option ℕ)
       (done rest : List (ℕ × T)) : Type 0 where

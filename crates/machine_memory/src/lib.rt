@@ -2,7 +2,7 @@
 //!
 //! A block has places for values of a `Copy` type, each empty or holding a value. Only here does
 //! svamon have raw pointers: in five functions, each a few lines. A ring keeps so many rows of
-//! values behind the newest, and is never empty: before the first push all its rows are zeros. A
+//! values after the newest, and is never empty: before the first push all its rows are zeros. A
 //! pool keeps records while they live, for a number of them that is known when it is made: each is
 //! put last, set, retired from any place, and walked to in the order of opening. No call searches.
 //!

@@ -49,7 +49,7 @@ impl<T: Copy> Nodes<T> {
     ghost use Rattle.machine_memory.specs.Nodes.{next_at, prev_at, item_at};
     ghost use Rattle.machine_memory.specs.Nodes.{with_next, with_prev, with_item, AreFresh};
 
-    /// Node 0, which is linked to itself, and `cap` others, each linked to the one behind it.
+    /// Node 0, which is linked to itself, and `cap` others, each linked to the one after it.
     pub(crate) fn new(alloc: Global, cap: usize) -> Result<Nodes<T>, AllocError>
         requires { cap ≤ 1024 }
         ensures { IfOk result (λ nodes. AreFresh cap nodes) }
@@ -88,7 +88,7 @@ impl<T: Copy> Nodes<T> {
         self.count - 1
     }
 
-    /// The place of the node behind that of `place`.
+    /// The place of the node after that of `place`.
     pub(crate) fn next(&self, place: usize) -> usize
         requires { place < length self.now }
         ensures { result ≡ next_at self.now place }
@@ -112,7 +112,7 @@ impl<T: Copy> Nodes<T> {
         self.places.get(place).item
     }
 
-    /// Links a node to the one behind it.
+    /// Links a node to the one after it.
     pub(crate) fn set_next(&mut self, place: usize, next: usize)
         requires { place < length self.old }
         ensures { self.new ≡ with_next self.old place next }

@@ -65,7 +65,7 @@ impl<T: Copy> Pool<T> {
         self.nodes.cap()
     }
 
-    /// Adds a record behind all that are live.
+    /// Adds a record after all that are live.
     pub fn open(&mut self, item: T) -> Slot
         requires { length self.old.live < self.old.cap }
         ensures pool { self.new ≡ pooled self.old.cap (self.old.live ++ (result, item) ∷ []) }

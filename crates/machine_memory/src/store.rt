@@ -9,7 +9,7 @@ use std::alloc::{AllocError, Global};
 use std::marker::Model;
 
 /// How many places at the end stay empty: 128 bytes, so that no value shares a line of a cache with
-/// the block behind, which another thread may write.
+/// the block after, which another thread may write.
 const SPARE: usize = 8;
 
 /// Places that all hold a value, but for the spare ones, with the right to give their block back.

@@ -1,4 +1,4 @@
--- Each attempt that is live or opens at a clock is decided there or live behind it.
+-- Each attempt that is live or opens at a clock is decided there or live after it.
 use Rattle.std.proofs.Common.{
   ◌≡◌,
   ℕ,

@@ -1,4 +1,4 @@
--- Runs between two clocks, one behind another.
+-- Runs between two clocks, one after another.
 use Rattle.std.proofs.Common.{
   ◌≡◌,
   ℕ,
@@ -51,7 +51,7 @@ drop-none : (n : ℕ) → drop n none ≡ []
 drop-none zero = refl
 drop-none (suc n) = refl
 
--- the rows up to a clock, and those behind it
+-- the rows up to a clock, and those after it
 pub split : (a d : ℕ) (rows : List (List ℕ))
     → take a rows ++ take d (drop a rows) ≡ take (a + d) rows
 split zero d rows = let e : d ≡ 0 + d = omega arith in ap (λ (n : ℕ). take n rows) e
@@ -116,7 +116,7 @@ ends-in p rows a b s xs h come =
     ∙ ends-as p c.first part
     ∙ ap (λ (r : Ran Outcome). and_then r (λ o left. done o.state left)) c.then
 
--- from the state behind the first rows
+-- from the state after the first rows
 pub come-on :
     (p : ProgramData) (rows : List (List ℕ)) (a b c : ℕ) (s t : State) (xs ys : List Decided) →
     a ≤ b → b ≤ c →

@@ -10,7 +10,7 @@ use Rattle.machine_definition.specs.Runs.{outcome_behind, run_from}
 abbrev pub rows_between : List (List ℕ) → ℕ → ℕ → List (List ℕ)
 rows_between rows a b = take (b - a) (drop a rows)
 
--- The clocks a up to b: from the state that the checked machine has behind the first a rows, over
+-- The clocks a up to b: from the state that the checked machine has after the first a rows, over
 -- the rows between.
 abbrev pub run_between : ProgramData → List (List ℕ) → ℕ → ℕ → Ran Outcome
 run_between p rows a b =
@@ -31,7 +31,7 @@ pub record HasCome (p : ProgramData) (rows : List (List ℕ)) (a b : ℕ) (decid
     (state : State) : Type 0 where
   pub ran : run_between p rows a b ≡ done (record { state = state; decided = decided }) 0
 
--- Behind a batch comes that of the clocks from its end on.
+-- After a batch comes that of the clocks from its end on.
 abbrev pub BatchesJoin : Type 0
 BatchesJoin =
     (p : ProgramData) (rows : List (List ℕ)) (a b c : ℕ) (s t : State) (xs ys : List Decided) →

@@ -5,7 +5,7 @@ use Rattle.machine_definition.specs.Outcomes.{done, and_then}
 use Rattle.machine_definition.specs.Machine.{State, clocks}
 use Rattle.machine_definition.specs.Runs.{outcome_behind, run_from}
 
--- Rows that are cut anywhere decide the same: what the first decide, and behind that what the rest
+-- Rows that are cut anywhere decide the same: what the first decide, and after that what the rest
 -- decide from the state that those leave. So the size of windows changes nothing.
 abbrev pub CutsAnywhere : Type 0
 CutsAnywhere =
@@ -15,7 +15,7 @@ CutsAnywhere =
     and_then (run_from p first.state ys)
     (λ rest left. done (outcome_behind first.decided rest) left))
 
--- The state behind the rows, and their traps, are those of the checked machine's clocks.
+-- The state after the rows, and their traps, are those of the checked machine's clocks.
 abbrev pub EndsAsClocks : Type 0
 EndsAsClocks =
     (p : ProgramData) (s : State) (rows : List (List ℕ)) →

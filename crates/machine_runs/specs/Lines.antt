@@ -32,7 +32,7 @@ line_over name attempts = record {
   fails = filter_map failure_of attempts;
 }
 
--- The line of a program over rows: what it decides there, by clock, then start, and behind that the
+-- The line of a program over rows: what it decides there, by clock, then start, and after that the
 -- attempts that are still live, as open.
 pub record IsLineOver (p : ProgramData) (rows : List (List ℕ)) (line : LineData) : Type 0 where
   pub decided : List Decided

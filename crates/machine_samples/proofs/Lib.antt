@@ -1,3 +1,15 @@
+pub mod PlaceLaws
+pub mod FillLaws
+pub mod DecodedStepLaws
+pub mod PlanLaws
+pub mod ResultLaws
+pub mod DecodedRunLaws
+pub mod DecodedReadyLaws
+pub mod SolveLaws
+pub mod VecLaws
+pub mod SetLaws
+pub mod DecodedRowLaws
+pub mod CopyLaws
 pub mod StepLaws
 pub mod FitLaws
 pub mod ReadyLaws

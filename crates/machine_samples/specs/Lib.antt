@@ -1,3 +1,7 @@
+pub mod Values
+pub mod Decoding
+pub mod Places
+pub mod Decoded
 pub mod Operands
 pub mod Steps
 pub mod Memory

@@ -205,7 +205,7 @@ fn jump_if_zero(stack: &mut Stack, next: &mut Option<usize>, target: u16)
     }
 }
 
-/// Obeys an instruction. `next` is the number of the one behind it, and becomes that of the one to
+/// Obeys an instruction. `next` is the number of the one after it, and becomes that of the one to
 /// which it leads, or none where the code ends.
 #[inline]
 pub(crate) fn obey(

@@ -2,7 +2,7 @@
 
 ghost use Rattle.std.specs.Prelude.{◌≤◌, IfOk};
 ghost use Rattle.bytecode.specs.Views.{section_data};
-ghost use Rattle.verifier_inference.specs.Sections.{instructions_in};
+ghost use Rattle.verifier.specs.Sections.{instructions_in};
 ghost use Rattle.machine_visits.specs.Bases.{AreBases};
 
 use bytecode::Section;

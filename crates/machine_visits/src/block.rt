@@ -2,7 +2,7 @@
 
 ghost use Rattle.std.specs.Prelude.{◌≡◌, ◌+◌, ◌<◌, ◌≤◌, length, get_or, []};
 ghost use Rattle.machine_definition.specs.Outcomes.{done};
-ghost use Rattle.verifier_inference.specs.Views.{blocks_of};
+ghost use Rattle.verifier.specs.Views.{blocks_of};
 ghost use Rattle.machine_visits.specs.Finishes.{Finishes};
 ghost use Rattle.machine_visits.specs.Records.{made_by};
 ghost use Rattle.machine_visits.specs.Steps.{NamesWhatIsThere, leads, makes, block_run};

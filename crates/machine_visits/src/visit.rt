@@ -2,7 +2,7 @@
 
 ghost use Rattle.std.specs.Prelude.{◌≡◌, ◌<◌, ◌≤◌, length};
 ghost use Rattle.bytecode.specs.Views.{section_data};
-ghost use Rattle.verifier_inference.specs.Sections.{instructions_in};
+ghost use Rattle.verifier.specs.Sections.{instructions_in};
 ghost use Rattle.machine_definition.specs.Outcomes.{done};
 ghost use Rattle.machine_definition.specs.Blocks.{ended, run_set, visit};
 ghost use Rattle.machine_definition.specs.Bounds.{EachIn};

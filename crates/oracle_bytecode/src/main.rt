@@ -1,7 +1,7 @@
 //! Tells which files are programs, and writes programs again, against answers from outside.
 //!
 //! The file `data/cases.txt` has files, one a line in hexadecimal digits. Of each it prints whether
-//! it is a program, or else the fault; of one behind the sign `=` also what the program holds. A
+//! it is a program, or else the fault; of one after the sign `=` also what the program holds. A
 //! program is written again, upgraded, by itself and by its copy; the bytes are to be the same each
 //! time, with the version made 2.
 //!

@@ -14,7 +14,7 @@
 //! ```
 //!
 //! Of each case it prints the replies, a letter for each step, and the board: its batches, or,
-//! behind a thousand steps and more, a sum of their lines. A step for which there was no memory is
+//! after a thousand steps and more, a sum of their lines. A step for which there was no memory is
 //! made once more, so `make allocations` can refuse each allocation in turn.
 //!
 //! The gate compares that with `stdout`; `scripts/models/core_cases.py` made the cases, with the

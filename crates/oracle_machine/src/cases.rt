@@ -20,7 +20,7 @@ fn digit(byte: u8) -> u8
     }
 }
 
-/// The bytes that hexadecimal digits spell, line behind line, each of an even number of digits.
+/// The bytes that hexadecimal digits spell, line after line, each of an even number of digits.
 pub fn bytes_of(alloc: Global, digits: &str) -> Result<Vec<u8>> {
     let mut bytes = Vec::new(alloc);
     for line in digits.lines() {
@@ -59,7 +59,7 @@ fn show_clock<R: Print + AllocGlobal>(rt: &R, run: &mut Run, line: &str) -> Resu
     let row = row_of(rt.alloc(), line)?;
     run.clock(row.as_slice())?;
     let spent = run.spent();
-    print!(rt; "ticks {spent}")?;
+    print!(rt; "cost {spent}")?;
     for decided in run.decisions() {
         show_decided(rt, decided)?;
     }

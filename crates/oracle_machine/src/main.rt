@@ -5,13 +5,13 @@
 //!
 //! ```text
 //! case two_positions
-//! ticks 10
-//! ticks 19 (0 Holds 1)
+//! cost 10
+//! cost 19 (0 Holds 1)
 //! ..
 //! ```
 //!
-//! Of each case it prints its line, for each clock a line `ticks T (START VERDICT CLOCK) ..`, and a
-//! line `open START ..` of the attempts that are live behind the last clock. The gate compares that
+//! Of each case it prints its line, for each clock a line `cost T (START VERDICT CLOCK) ..`, and a
+//! line `open START ..` of the attempts that are live after the last clock. The gate compares that
 //! with `stdout`; `scripts/models/machine_cases.py` made the cases, with the answers of a machine
 //! of its own (`scripts/models/machine_model.py`).
 //!

@@ -8,7 +8,7 @@ use std::alloc::Global;
 use std::io::Print;
 use std::time::Instant;
 
-/// The rows of the trace; it begins again behind the last one.
+/// The rows of the trace; it begins again after the last one.
 const ROWS: u64 = 65_536;
 
 /// The next number of the trace.
@@ -94,7 +94,7 @@ fn time_over(rt: &HostRuntime, run: &mut Run, trace: &[Vec<u128>], clocks: u64) 
     let sums = sums_of(run, trace, clocks)?;
     let took = start.elapsed(rt)?.as_micros();
     let (verdicts, cost) = (sums.verdicts, sums.cost);
-    println!(rt; "attempts {clocks} us {took} verdicts {verdicts} ticks {cost}")?;
+    println!(rt; "attempts {clocks} us {took} verdicts {verdicts} cost {cost}")?;
     Ok(())
 }
 

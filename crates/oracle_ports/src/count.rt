@@ -40,7 +40,7 @@ impl Count {
         }
     }
 
-    /// Takes a token, and a space behind it, into the sum.
+    /// Takes a token, and a space after it, into the sum.
     fn take_token(&mut self, token: &str) {
         for byte in token.as_bytes() {
             self.take_byte(*byte);

@@ -2,7 +2,7 @@
 //! with no fault, and both write the report of a judge who shares no text with svamon.
 //!
 //! The table has twenty cases, between which byte 1 stands: port files of twelve ports each, and
-//! behind byte 2 a dump with their signals at their widths. Together they have every width of data,
+//! after byte 2 a dump with their signals at their widths. Together they have every width of data,
 //! IDs of 1 and 16 bits, a wait of 0, 1 and 64 ticks, both modes, both cases, with and without
 //! watched IDs. Of each case a line is printed: how many bytes the report has, and their sum.
 //! `scripts/random/edge_ports.py --write` writes the cases, and what must be printed.

@@ -1,5 +1,5 @@
-//! Texts over dumps. The table has dumps, each behind a line that begins with `== dump`, and behind
-//! a dump texts, each behind a line `== ` with its title: they are run over that dump.
+//! Texts over dumps. The table has dumps, each after a line that begins with `== dump`, and after
+//! a dump texts, each after a line `== ` with its title: they are run over that dump.
 
 use crate::runs::{Answer, checked_answer, judged_answer};
 use anyhow::{Result, bail};
@@ -21,7 +21,7 @@ fn told(alloc: Global, dump: &str, text: &str) -> Result<Answer> {
     Ok(judge)
 }
 
-/// Prints, of a dump with the texts behind it, the title of each text and what is told of it.
+/// Prints, of a dump with the texts after it, the title of each text and what is told of it.
 fn show_texts<R: Print + AllocGlobal>(rt: &R, part: &str) -> Result<()> {
     let Some((head, texts)) = part.split_once("\n== ") else {
         return Ok(());

@@ -1,6 +1,6 @@
 //! Verdicts of `judge`, each with its clock, which were worked out by hand from the standard.
 //!
-//! A line has ticks, each as digits of the signals `a` to `f` at it, and behind `; ` what is
+//! A line has ticks, each as digits of the signals `a` to `f` at it, and after `; ` what is
 //! asserted.
 
 use anyhow::{Context, Result, bail};

@@ -1,6 +1,6 @@
 //! Prints the values of expressions and counters, against values from outside.
 //!
-//! The file `data/expressions.txt` has traces, each behind a line `trace`: lines `row` with the
+//! The file `data/expressions.txt` has traces, each after a line `trace`: lines `row` with the
 //! values of the signals at a tick, lines `counter` with the width and the clauses of a counter,
 //! and lines `value` with the context's width (0: the own one) and an expression, operands before
 //! their operator.

@@ -1,4 +1,4 @@
-//! Expressions whose operators stand behind their operands.
+//! Expressions whose operators stand after their operands.
 
 use anyhow::{Context, Result, bail};
 use expressions::{
@@ -219,7 +219,7 @@ fn name_of(origin: &str, place: &str, width: &str) -> Result<Name> {
     Name::new(origin, place, small(width)?).context("no such width")
 }
 
-/// `WIDTH'VALUE`, or `signal:PLACE:WIDTH` or `counter:PLACE:WIDTH`, and `:HIGH:LOW` behind these
+/// `WIDTH'VALUE`, or `signal:PLACE:WIDTH` or `counter:PLACE:WIDTH`, and `:HIGH:LOW` after these
 /// for some bits.
 fn leaf(word: &str) -> Result<Expr> {
     if let Some((width, value)) = word.split_once('\'') {

@@ -15,7 +15,7 @@
 //! file's name as its word it prints how long verifying that file took at best (`bench/verifier`).
 //!
 //! What is answered is said by the contracts of `verifier::verify` and `least_limits`; the
-//! definitions stand in `verifier/specs` and `verifier_inference/specs`.
+//! definitions stand in `verifier/specs` and `verifier/specs`.
 //!
 //! Not promised: what an accepted program is meant to check.
 #![tactic(auto)]

@@ -28,7 +28,7 @@ refuses (stops.Expected what at) fault o f n some = f
 refuses (stops.TooDeep at) fault o f n some = f
 refuses (stops.BadBound at) fault o f n some = f
 
--- the reader of the items at a token and those behind it
+-- the reader of the items at a token and those after it
 pub at-item-fails : (ts : List Token) (t : Token) (us : List Token) (x : Stop) → ts ≡ t ∷ us → Fails x (item ts)
     → Fails x (item (t ∷ us))
 at-item-fails ts t us x e f = subst (λ (vs : List Token). Fails x (item vs)) e f
@@ -54,7 +54,7 @@ asserts-push (counter c ∷ xs) x = asserts-push xs x
 asserts-push (declaration s ∷ xs) x = asserts-push xs x
 asserts-push (assertion a ∷ xs) x = refl
 
--- one more item behind those that were found
+-- one more item after those that were found
 pub asserts-more :
     (xs ys : List ItemTree) (x : ItemTree) (a b : Bool) →
     ys ≡ xs ++ x ∷ [] → a ≡ asserts (map item_of xs) → b ≡ asserts (item_of x ∷ []) →

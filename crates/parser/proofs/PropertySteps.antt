@@ -137,7 +137,7 @@ pub property-tail : (d : ℕ) (ts : List Token) (o : Token) (us : List Token) (k
 property-tail d ts o us k p vs c ws n h depth h2 h3 =
     opened d ts o us k n h depth ∙ behind-closed d (property k us) p vs c ws h2 h3
 
--- behind the word of a first match
+-- after the word of a first match
 pub property-led : (d : ℕ) (ts : List Token) (w : Token) (us : List Token) → lead is_first_match ts ≡ Some (w, us)
     → property d ts ≡ first_behind d w us
 unfolding property property_with

@@ -57,7 +57,7 @@ impl Before {
     }
 }
 
-/// Whether the profile leaves out what the token stands for behind those before it: `property`
+/// Whether the profile leaves out what the token stands for after those before it: `property`
 /// where an item begins, and a second implication, too.
 fn is_outside(token: Token, before: Before) -> bool {
     if implication_of(token).is_some() {

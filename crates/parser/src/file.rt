@@ -17,7 +17,7 @@ use parser_expressions::{byte_at, first, same};
 use parser_grammar::{File, ItemTree, Terminal, is};
 use std::alloc::Global;
 
-/// The items that stand first, whether one of them is an assertion, and the tokens behind them.
+/// The items that stand first, whether one of them is an assertion, and the tokens after them.
 type Items<'t, 'a> = Result<(Vec<ItemTree<'a>>, bool, &'t [Token<'a>]), ParseFault<'a>>;
 
 /// The first token, if it isn't that of the end.
@@ -81,7 +81,7 @@ fn read_items<'t, 'a>(alloc: Global, tokens: &'t [Token<'a>]) -> Items<'t, 'a>
     }
 }
 
-/// The fault where the tokens behind the items are not the end alone, or no item is an assertion.
+/// The fault where the tokens after the items are not the end alone, or no item is an assertion.
 fn end_fault<'a>(tokens: &[Token<'a>], rest: &[Token<'a>], asserted: bool) -> Option<ParseFault<'a>>
     ensures file { (xs : List ItemForm) → items tokens.now ≡ Some (xs, rest.now)
         → asserted ≡ asserts xs

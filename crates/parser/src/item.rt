@@ -37,13 +37,13 @@ use std::alloc::Global;
 /// How many brackets and unfinished operators may be open at once.
 const MOST_OPEN: usize = 64;
 
-/// How many more may open behind one bracket.
+/// How many more may open after one bracket.
 const IN_ONE: usize = 63;
 
-/// How many more may open behind two brackets.
+/// How many more may open after two brackets.
 const IN_TWO: usize = 62;
 
-/// `( operand )`, behind a word.
+/// `( operand )`, after a word.
 fn read_operand<'t, 'a>(
     alloc: Global,
     tokens: &'t [Token<'a>],
@@ -58,7 +58,7 @@ fn read_operand<'t, 'a>(
     Ok((operand, rest))
 }
 
-/// `( condition , value )`, behind a word.
+/// `( condition , value )`, after a word.
 fn read_operands<'t, 'a>(alloc: Global, tokens: &'t [Token<'a>]) -> Read<'t, 'a, Operands<'a>>
     ensures read { Gives (λ r. (pair_of r.0, r.1.now)) result (two_operands tokens.now) }
     ensures shorter { IfOk result (λ r. length r.1.now ≤ length tokens.now) }
@@ -118,7 +118,7 @@ fn read_counter_head<'t, 'a>(tokens: &'t [Token<'a>]) -> Read<'t, 'a, (Token<'a>
     Ok(((name, width), rest))
 }
 
-/// A counter, behind its word.
+/// A counter, after its word.
 fn read_counter<'t, 'a>(alloc: Global, tokens: &'t [Token<'a>]) -> Read<'t, 'a, ItemTree<'a>>
     ensures read { Gives (λ r. (item_of r.0, r.1.now)) result (counter_item tokens.now) }
     ensures shorter { IfOk result (λ r. length r.1.now ≤ length tokens.now) }
@@ -158,7 +158,7 @@ fn expect_again<'t, 'a>(tokens: &'t [Token<'a>], name: Token<'a>) -> Read<'t, 'a
     Err(Stop::Expected("the sequence's name", token.at))
 }
 
-/// The name behind a sequence's end, if it is there.
+/// The name after a sequence's end, if it is there.
 #[tactic(auto, using(crate::proofs::Steps::for_optional))]
 fn read_closing<'t, 'a>(tokens: &'t [Token<'a>], name: Token<'a>) -> Read<'t, 'a, Option<Token<'a>>>
     ensures read { Gives (λ r. (r.0, r.1.now)) result
@@ -172,7 +172,7 @@ fn read_closing<'t, 'a>(tokens: &'t [Token<'a>], name: Token<'a>) -> Read<'t, 'a
     Ok((Some(again), rest))
 }
 
-/// What stands behind the terminal, or from here on.
+/// What stands after the terminal, or from here on.
 #[tactic(auto, using(crate::proofs::ItemSteps::for_skip))]
 fn skip<'t, 'a>(tokens: &'t [Token<'a>], wanted: Terminal) -> &'t [Token<'a>]
     ensures rest { result.now ≡ skip wanted tokens.now }
@@ -196,7 +196,7 @@ fn read_ending<'t, 'a>(tokens: &'t [Token<'a>], name: Token<'a>) -> Result<&'t [
     Ok(rest)
 }
 
-/// A named sequence, behind its word.
+/// A named sequence, after its word.
 fn read_declaration<'t, 'a>(alloc: Global, tokens: &'t [Token<'a>]) -> Read<'t, 'a, ItemTree<'a>>
     ensures read { Gives (λ r. (item_of r.0, r.1.now)) result (declaration_item tokens.now) }
     ensures shorter { IfOk result (λ r. length r.1.now ≤ length tokens.now) }
@@ -231,7 +231,7 @@ fn read_clock<'t, 'a>(alloc: Global, tokens: &'t [Token<'a>]) -> Read<'t, 'a, Pa
     Ok((clock, rest))
 }
 
-/// `disable iff (operand)`, behind its first word.
+/// `disable iff (operand)`, after its first word.
 #[tactic(auto, using(crate::proofs::ItemSteps::for_disabling))]
 fn read_disabling<'t, 'a>(alloc: Global, tokens: &'t [Token<'a>]) -> Read<'t, 'a, Box<ExprTree<'a>>>
     ensures read { Gives (λ r. (boxed_of r.0, r.1.now)) result (disable_reader tokens.now) }

@@ -58,7 +58,7 @@ fn read_implication<'t, 'a>(
     ))
 }
 
-/// What goes on behind brackets.
+/// What goes on after brackets.
 #[tactic(auto, using(crate::proofs::PropertySteps::for_regroup))]
 fn regroup_property<'t, 'a>(
     alloc: Global,
@@ -110,7 +110,7 @@ fn expect_implication<'t, 'a>(tokens: &'t [Token<'a>]) -> Read<'t, 'a, Implicati
     }
 }
 
-/// The property behind the word `first_match`.
+/// The property after the word `first_match`.
 #[tactic(auto, using(crate::proofs::PropertySteps::for_first))]
 fn read_first_match<'t, 'a>(
     alloc: Global,

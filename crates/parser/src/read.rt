@@ -1,4 +1,4 @@
-//! How a reader goes on behind a step, as in `parser_expressions` and `parser_sequences`.
+//! How a reader goes on after a step, as in `parser_expressions` and `parser_sequences`.
 
 /// What a step reads. Where it stops, so does its caller.
 macro_rules! read {

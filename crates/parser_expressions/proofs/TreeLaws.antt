@@ -1,4 +1,4 @@
--- What a reader makes of a first operand and the operators behind it; and the rules of the trees of expressions.
+-- What a reader makes of a first operand and the operators after it; and the rules of the trees of expressions.
 use Rattle.std.proofs.Common.{◌≡◌, List, [], ◌∷◌, map, length, refl, arith}
 use Rattle.parser_grammar.specs.declared.operator.Infix.{Infix}
 use Rattle.parser_grammar.specs.Trees as trees

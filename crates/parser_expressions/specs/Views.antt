@@ -18,12 +18,12 @@ abbrev pub Gives : {X Y : Type 0} → (X → Y) → Result X Stop → Option Y �
 Gives view (Ok x) read = read ≡ Some (view x)
 Gives view (Err e) read = Fails e read
 
--- A left operator of the level leads the tokens, with the rest behind it.
+-- A left operator of the level leads the tokens, with the rest after it.
 pub record IsLed (level : ℕ) (tokens : List Token) (op : Infix) (rest : List Token) : Type 0 where
   pub token : Token
   pub led : lead (is_infix level) tokens ≡ Some (token, rest)
   pub operator : infix_of token ≡ Some op
 
--- what was read, with the tokens behind it
+-- what was read, with the tokens after it
 abbrev pub read_as : {A : Type 0} → A → Reader A
 read_as a ts = Some (a, ts)

@@ -33,7 +33,7 @@ use parser_grammar::{
 };
 use std::alloc::Global;
 
-/// The words of a path behind its first.
+/// The words of a path after its first.
 fn read_members<'t, 'a>(alloc: Global, tokens: &'t [Token<'a>]) -> Read<'t, 'a, Vec<Token<'a>>>
     ensures read { Gives (λ r. (r.0.items, r.1.now)) result (members tokens.now) }
     ensures shorter { IfOk result (λ r. length r.1.now ≤ length tokens.now) }
@@ -74,7 +74,7 @@ fn read_low<'t, 'a>(tokens: &'t [Token<'a>]) -> Read<'t, 'a, Option<Index>>
     Ok((Some(low), rest))
 }
 
-/// A select behind its bracket.
+/// A select after its bracket.
 fn read_select<'t, 'a>(tokens: &'t [Token<'a>]) -> Read<'t, 'a, Select>
     ensures read { Gives (λ r. (r.0, r.1.now)) result (select tokens.now) }
     ensures shorter { IfOk result (λ r. length r.1.now ≤ length tokens.now) }
@@ -102,7 +102,7 @@ fn read_selected<'t, 'a>(tokens: &'t [Token<'a>], depth: usize) -> Read<'t, 'a, 
     Ok((Some(select), rest))
 }
 
-/// A path behind its first word, and its select.
+/// A path after its first word, and its select.
 fn read_named<'t, 'a>(
     alloc: Global,
     first: Token<'a>,
@@ -118,7 +118,7 @@ fn read_named<'t, 'a>(
     path(alloc, first, more, select, rest)
 }
 
-/// What stands in brackets, behind the opening one.
+/// What stands in brackets, after the opening one.
 #[cycle(expressions)]
 fn read_bracketed<'t, 'a>(
     alloc: Global,
@@ -136,7 +136,7 @@ fn read_bracketed<'t, 'a>(
     Ok((expr, rest))
 }
 
-/// The parts of a concatenation behind the first.
+/// The parts of a concatenation after the first.
 #[cycle(expressions)]
 fn read_parts<'t, 'a>(
     alloc: Global,
@@ -159,7 +159,7 @@ fn read_parts<'t, 'a>(
     }
 }
 
-/// A concatenation behind its bracket.
+/// A concatenation after its bracket.
 #[cycle(expressions)]
 fn read_concatenation<'t, 'a>(
     alloc: Global,
@@ -192,7 +192,7 @@ fn read_ticks<'t, 'a>(tokens: &'t [Token<'a>]) -> Read<'t, 'a, Option<Bound>>
     Ok((Some(ticks), rest))
 }
 
-/// `$past` behind its name.
+/// `$past` after its name.
 #[cycle(expressions)]
 fn read_past<'t, 'a>(
     alloc: Global,
@@ -212,7 +212,7 @@ fn read_past<'t, 'a>(
     past(alloc, name, expr, ticks, rest)
 }
 
-/// A function of one operand behind its name.
+/// A function of one operand after its name.
 #[cycle(expressions)]
 fn read_call<'t, 'a>(
     alloc: Global,

@@ -1,6 +1,6 @@
 //! Reads the tokens of an expression as its tree, and the single tokens that all readers take.
 //!
-//! A reader takes the tokens that are left, and answers what it read with the tokens behind it, or
+//! A reader takes the tokens that are left, and answers what it read with the tokens after it, or
 //! where and why it stopped. It reads as far as the grammar lets it go on.
 //!
 //! ```text

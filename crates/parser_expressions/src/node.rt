@@ -1,4 +1,4 @@
-//! Expressions made of their parts, with the tokens behind them.
+//! Expressions made of their parts, with the tokens after them.
 
 ghost use Rattle.std.specs.Prelude.{◌≡◌, ◌≤◌, ◌++◌, [], ◌∷◌, length, map, IfOk, IfErr};
 ghost use Rattle.parser_expressions.specs.declared.stop.Stop.TheVariants.{Memory};
@@ -13,7 +13,7 @@ use lexer::{Number, Token};
 use parser_grammar::{Bound, ExprTree, Function, Infix, Path, Prefix, Select};
 use std::alloc::Global;
 
-/// A tree in memory, with the tokens behind it.
+/// A tree in memory, with the tokens after it.
 fn boxed<'t, 'a>(
     alloc: Global,
     tree: ExprTree<'a>,
@@ -157,7 +157,7 @@ pub(crate) fn with_links<'t, 'a>(
     boxed(alloc, ExprTree::Chain(left, more), rest)
 }
 
-/// Puts one more part behind those that were found.
+/// Puts one more part after those that were found.
 pub(crate) fn push_part<'a>(
     found: &mut Vec<ExprTree<'a>>,
     part: Box<ExprTree<'a>>,
@@ -169,7 +169,7 @@ pub(crate) fn push_part<'a>(
     Ok(())
 }
 
-/// Puts one more operator with its right operand behind those that were found.
+/// Puts one more operator with its right operand after those that were found.
 pub(crate) fn push_link<'a>(
     found: &mut Vec<(Infix, ExprTree<'a>)>,
     sign: Infix,

@@ -20,7 +20,7 @@ use parser_grammar::{
     precedence_of,
 };
 
-/// A part, and the tokens behind it.
+/// A part, and the tokens after it.
 pub type Read<'t, 'a, T> = Result<(T, &'t [Token<'a>]), Stop>;
 
 /// What a step reads. Where it stops, so does its caller.
@@ -134,7 +134,7 @@ pub(crate) fn left_operator<'t, 'a>(
     None
 }
 
-/// A word, as behind a dot.
+/// A word, as after a dot.
 #[tactic(auto, using(crate::proofs::Steps::for_word))]
 pub(crate) fn expect_word<'t, 'a>(tokens: &'t [Token<'a>]) -> Read<'t, 'a, Token<'a>>
     ensures token { Gives (λ r. (r.0, r.1.now)) result (pick word_of tokens.now) }

@@ -362,7 +362,7 @@ property_by-sound d inner ts p (Some q) l h =
     subst (λ (us : List Token). IsProperty d p.0 us p.1) (sym x.parts)
     (inner q.1 a.0 a.1 q.0 b.0.0 p b.0.1 x.marked k.marked k.parts b.2)
 
--- what stood behind the word, step by step
+-- what stood after the word, step by step
 first_at : (d : ℕ) (word left right t : Token) (i : Implication) (a c : SequenceForm) (ts rs vs us ws rest : List Token)
     → is_first_match word ≡ true → ts ≡ left ∷ rs → terminal left ≡ OpenRound
     → (sequences d).whole rs ≡ Some (a, vs) → vs ≡ right ∷ us → terminal right ≡ CloseRound → us ≡ t ∷ ws

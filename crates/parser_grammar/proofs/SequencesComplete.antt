@@ -133,7 +133,7 @@ pub sequence-none : (d : ℕ) (s : SequenceForm) (ts : List Token) → 16 < next
 unfolding sequence_behind
 sequence-none d s ts h = rw (during-none d (sequences d) s ts (omega arith)) (sides-none d (sequences d) s ts h)
 
--- nothing goes on behind an expression
+-- nothing goes on after an expression
 climb-none : (b : Reader Tree) (l : ℕ) (e : Tree) (ts : List Token) → l < next_precedence ts
     → climb b l e ts ≡ Some (e, ts)
 unfolding climb

@@ -86,7 +86,7 @@ pub expression-sound : (d : ℕ) (ts : List Token) (p : Tree × List Token) → 
 unfolding expression
 expression-sound d ts p h = spells-sound d (is_sound d) ts p h
 
--- an expression in brackets, and what goes on behind them
+-- an expression in brackets, and what goes on after them
 bracketed-boolean : (d : ℕ) (t c : Token) (e : Tree) (ts vs : List Token) → terminal t ≡ OpenRound
     → terminal c ≡ CloseRound → Spells d e ts (c ∷ vs) → expression (suc d) (t ∷ ts) ≡ finish (suc d) e vs
 unfolding readers expressions.bracket_reader

@@ -24,7 +24,7 @@ use Rattle.parser_grammar.specs.Trees.{Tree, number, path, concatenation, past, 
 use Rattle.parser_grammar.specs.Trees.{choice}
 use Rattle.parser_grammar.specs.Trees.{Links, end, link, Parts, no_part, part}
 
--- path = NAME ("." NAME)*, and behind a dot every word is a NAME
+-- path = NAME ("." NAME)*, and after a dot every word is a NAME
 pub data AreMembers : List Token → List Token → List Token → Type 0 where
   no_member : {ts : List Token} → AreMembers [] ts ts
   member : {dot t : Token} {more ts rest : List Token} → terminal dot ≡ Dot → is_word t ≡ true

@@ -55,34 +55,34 @@ abbrev pub parts_of : List Tree → Parts
 parts_of [] = no_part
 parts_of (x ∷ xs) = part x (parts_of xs)
 
--- behind a path's first word
+-- after a path's first word
 unfoldable pub name_reader : Inner → Token → Reader Tree
 name_reader inner t ts =
     members ts >>= λ p. optional OpenSquare inner.select p.1 >>= λ q. Some (path (t ∷ p.0) q.0, q.1)
 
--- behind "("
+-- after "("
 unfoldable pub bracket_reader : Inner → Reader Tree
 bracket_reader inner ts = inner.expr ts >>= λ p. expect CloseRound p.1 >>= λ r. Some (p.0, r.1)
 
--- behind "{"
+-- after "{"
 unfoldable pub concatenation_reader : Inner → Token → Reader Tree
 concatenation_reader inner t ts =
     inner.expr ts >>= λ p. each (is Comma) (λ comma. inner.expr) p.1
     >>= λ q. expect CloseBrace q.1 >>= λ r. Some (concatenation t p.0 (parts_of q.0), r.1)
 
--- behind "$past"
+-- after "$past"
 unfoldable pub past_reader : Inner → Token → Reader Tree
 past_reader inner t ts =
     expect OpenRound ts >>= λ o. inner.expr o.1
     >>= λ p. optional Comma (pick (bound_within 1 64)) p.1 >>= λ q. expect CloseRound q.1
     >>= λ r. Some (past t p.0 q.0, r.1)
 
--- behind a function's name
+-- after a function's name
 unfoldable pub call_reader : Inner → Function → Token → Reader Tree
 call_reader inner g t ts =
     expect OpenRound ts >>= λ o. bracket_reader inner o.1 >>= λ p. Some (call g t p.0, p.1)
 
--- behind a unary operator
+-- after a unary operator
 unfoldable pub prefix_reader : Inner → Prefix → Token → Reader Tree
 prefix_reader inner op t ts = inner.prefixed ts >>= λ p. Some (unary op t p.0, p.1)
 
@@ -101,7 +101,7 @@ unfoldable pub prefixed_with : Inner → Reader Tree
 prefixed_with inner [] = None
 prefixed_with inner (t ∷ ts) = prefixed_by inner (mark t) t ts
 
--- behind a left operator: it with its right operand
+-- after a left operator: it with its right operand
 unfoldable pub link_reader : Reader Tree → Token → Reader (Infix × Tree)
 link_reader operand t ts =
     infix_of t >>= λ op. operand ts >>= λ p. Some ((op, p.0), p.1)
@@ -114,11 +114,11 @@ abbrev pub chain_of : Tree → List (Infix × Tree) → Tree
 chain_of first [] = first
 chain_of first (x ∷ xs) = chain first (links_of (x ∷ xs))
 
--- what goes on behind what the reader reads
+-- what goes on after what the reader reads
 abbrev pub behind : Reader Tree → (Tree → Reader Tree) → Reader Tree
 behind reader go ts = reader ts >>= λ p. go p.0 p.1
 
--- the operators of the l tightest levels, behind a first operand
+-- the operators of the l tightest levels, after a first operand
 unfoldable pub climb : Reader Tree → ℕ → Tree → Reader Tree
 climb base zero first ts = Some (first, ts)
 climb base (suc l) first ts =
@@ -133,11 +133,11 @@ choice_by inner None c ts = Some (c, ts)
 choice_by inner (Some t) c ts =
     inner t.1 >>= λ a. expect Colon a.1 >>= λ r. inner r.1 >>= λ b. Some (choice c a.0 b.0, b.1)
 
--- behind a condition, if it is one
+-- after a condition, if it is one
 unfoldable pub choice_with : Reader Tree → Tree → Reader Tree
 choice_with inner c ts = choice_by inner (lead (has_precedence 10) ts) c ts
 
--- the rest of an expression behind its first operand
+-- the rest of an expression after its first operand
 abbrev pub finish_with : Inner → Reader Tree → Tree → Reader Tree
 finish_with inner base first ts = climb base 9 first ts >>= λ p. choice_with inner.expr p.0 p.1
 

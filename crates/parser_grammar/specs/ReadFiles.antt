@@ -22,13 +22,13 @@ use Rattle.parser_grammar.specs.ReadExpressions.{name_of, path_words, expression
 use Rattle.parser_grammar.specs.ReadSequences.{whole, property}
 use Rattle.parser_grammar.specs.Files.{most_open, in_one, in_two}
 
--- behind a word: "(" expr ")"
+-- after a word: "(" expr ")"
 unfoldable pub one_operand : ℕ → Reader Tree
 one_operand d ts =
     expect OpenRound ts >>= λ o. expression d o.1
     >>= λ p. expect CloseRound p.1 >>= λ r. Some (p.0, r.1)
 
--- behind a word: "(" expr "," expr ")"
+-- after a word: "(" expr "," expr ")"
 unfoldable pub two_operands : Reader (Tree × Tree)
 two_operands ts =
     expect OpenRound ts >>= λ o. expression in_one o.1 >>= λ p. expect Comma p.1
@@ -46,7 +46,7 @@ counter_form name width clear load add sub =
     counter
     (record { name = name; width = width; clear = clear; load = load; add = add; sub = sub })
 
--- behind "counter"
+-- after "counter"
 unfoldable pub counter_item : Reader ItemForm
 counter_item ts =
     counter_head ts >>= λ h. optional word.Clear (one_operand in_one) h.1
@@ -62,17 +62,17 @@ abbrev pub skip_by : Option (Token × List Token) → List Token → List Token
 skip_by None ts = ts
 skip_by (Some p) ts = p.1
 
--- the tokens behind the terminal, if it stands there
+-- the tokens after the terminal, if it stands there
 unfoldable pub skip : Terminal → List Token → List Token
 skip wanted ts = skip_by (expect wanted ts) ts
 
--- behind a declaration's seq
+-- after a declaration's seq
 unfoldable pub ending_of : Token → List Token → Option (List Token)
 ending_of name ts =
     expect EndSequence (skip Semicolon ts) >>= λ e. optional Colon (pick (again_of name)) e.1
     >>= λ q. Some q.1
 
--- behind "sequence"
+-- after "sequence"
 unfoldable pub declaration_item : Reader ItemForm
 declaration_item ts =
     pick name_of ts >>= λ n. expect Semicolon n.1
@@ -92,7 +92,7 @@ clock_words ts =
     expect AtSign ts >>= λ a. expect OpenRound a.1 >>= λ b. expect Posedge b.1
     >>= λ c. path_words c.1 >>= λ p. expect CloseRound p.1 >>= λ r. Some (p.0, r.1)
 
--- behind "disable"
+-- after "disable"
 unfoldable pub disable_reader : Reader Tree
 disable_reader ts = expect Iff ts >>= λ i. one_operand in_two i.1
 

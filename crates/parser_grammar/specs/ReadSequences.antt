@@ -23,13 +23,13 @@ use Rattle.parser_grammar.specs.Sequences.{bound}
 use Rattle.parser_grammar.specs.Readers.{◌>>=◌, Reader, refuse, lead, expect, pick, optional, each}
 use Rattle.parser_grammar.specs.ReadExpressions.{expression, finish}
 
--- behind "[*": NUM [":" NUM] "]"
+-- after "[*": NUM [":" NUM] "]"
 unfoldable pub times : Reader Range
 times ts =
     pick bound ts >>= λ p. optional Colon (pick (bound_within p.0.value 127)) p.1
     >>= λ q. expect CloseSquare q.1 >>= λ r. Some (record { low = p.0; high = q.0 }, r.1)
 
--- behind "##" "[": NUM ":" NUM "]"
+-- after "##" "[": NUM ":" NUM "]"
 unfoldable pub range_between : Reader Range
 range_between ts =
     pick bound ts >>= λ p. expect Colon p.1 >>= λ o. pick (bound_within p.0.value 127) o.1
@@ -46,11 +46,11 @@ abbrev pub delay_by : Inner → Option (Token × List Token) → Reader Range
 delay_by inner None ts = pick bound ts >>= λ p. Some (record { low = p.0; high = None }, p.1)
 delay_by inner (Some p) ts = inner.between p.1
 
--- behind "##"
+-- after "##"
 unfoldable pub delay : Inner → Reader Range
 delay inner ts = delay_by inner (expect OpenSquare ts) ts
 
--- What stood in brackets: an expression may go on behind them.
+-- What stood in brackets: an expression may go on after them.
 unfoldable pub regroup : ℕ → SequenceForm → Reader SequenceForm
 regroup d (boolean e) ts = finish d e ts >>= λ p. Some (boolean p.0, p.1)
 regroup d (repeated s n) ts = Some (repeated s n, ts)
@@ -72,14 +72,14 @@ abbrev pub with_times : SequenceForm → Option Range → SequenceForm
 with_times s None = s
 with_times s (Some n) = repeated s n
 
--- behind a body: ["[*" .. "]"]
+-- after a body: ["[*" .. "]"]
 unfoldable pub repeat_behind : Inner → SequenceForm → Reader SequenceForm
 repeat_behind inner s ts = optional OpenRepeat inner.times ts >>= λ q. Some (with_times s q.0, q.1)
 
 unfoldable pub repetition_with : ℕ → Inner → Reader SequenceForm
 repetition_with d inner ts = body_with d inner ts >>= λ p. repeat_behind inner p.0 p.1
 
--- behind "##": its count, and what it delays
+-- after "##": its count, and what it delays
 unfoldable pub late_part : ℕ → Inner → Reader (Range × SequenceForm)
 late_part d inner ts =
     delay inner ts >>= λ p. repetition_with d inner p.1 >>= λ q. Some ((p.0, q.0), q.1)
@@ -92,12 +92,12 @@ abbrev pub with_steps : SequenceForm → List (Range × SequenceForm) → Sequen
 with_steps s [] = s
 with_steps s (x ∷ xs) = delayed s (steps_of (x ∷ xs))
 
--- behind a head: (delay rep)*
+-- after a head: (delay rep)*
 unfoldable pub delayed_behind : ℕ → Inner → SequenceForm → Reader SequenceForm
 delayed_behind d inner s ts =
     each (is Delay) (λ t. late_part d inner) ts >>= λ q. Some (with_steps s q.0, q.1)
 
--- behind the body of a cat
+-- after the body of a cat
 unfoldable pub cat_behind : ℕ → Inner → SequenceForm → Reader SequenceForm
 cat_behind d inner s ts = repeat_behind inner s ts >>= λ p. delayed_behind d inner p.0 p.1
 
@@ -105,7 +105,7 @@ abbrev pub throughout_by : ℕ → Inner → Tree → Option (Token × List Toke
 throughout_by d inner e None ts = cat_behind d inner (boolean e) ts
 throughout_by d inner e (Some t) ts = inner.during t.1 >>= λ q. Some (throughout e q.0, q.1)
 
--- behind the first body of a thr
+-- after the first body of a thr
 unfoldable pub during_behind : ℕ → Inner → SequenceForm → Reader SequenceForm
 during_behind d inner (boolean e) ts = throughout_by d inner e (expect Throughout ts) ts
 during_behind d inner (repeated s n) ts = cat_behind d inner (repeated s n) ts
@@ -131,7 +131,7 @@ abbrev pub with_others : Junction → SequenceForm → List SequenceForm → Seq
 with_others j s [] = s
 with_others j s (x ∷ xs) = joined j s (others_of (x ∷ xs))
 
--- behind a thr: ("intersect" thr)*
+-- after a thr: ("intersect" thr)*
 unfoldable pub intersection_behind : ℕ → Inner → SequenceForm → Reader SequenceForm
 intersection_behind d inner s ts =
     each (is Intersect) (λ t. during_with d inner) ts
@@ -140,7 +140,7 @@ intersection_behind d inner s ts =
 unfoldable pub intersection_with : ℕ → Inner → Reader SequenceForm
 intersection_with d inner ts = during_with d inner ts >>= λ p. intersection_behind d inner p.0 p.1
 
--- behind an int: ("and" int)*
+-- after an int: ("and" int)*
 unfoldable pub conjunction_behind : ℕ → Inner → SequenceForm → Reader SequenceForm
 conjunction_behind d inner s ts =
     each (is And) (λ t. intersection_with d inner) ts
@@ -150,13 +150,13 @@ unfoldable pub conjunction_with : ℕ → Inner → Reader SequenceForm
 conjunction_with d inner ts =
     intersection_with d inner ts >>= λ p. conjunction_behind d inner p.0 p.1
 
--- behind an and_seq: ("or" and_seq)*
+-- after an and_seq: ("or" and_seq)*
 unfoldable pub alternatives_behind : ℕ → Inner → SequenceForm → Reader SequenceForm
 alternatives_behind d inner s ts =
     each (is Or) (λ t. conjunction_with d inner) ts
     >>= λ q. Some (with_others junctions.Or s q.0, q.1)
 
--- behind a thr: all that goes on with a seq
+-- after a thr: all that goes on with a seq
 unfoldable pub sides_behind : ℕ → Inner → SequenceForm → Reader SequenceForm
 sides_behind d inner s ts =
     intersection_behind d inner s ts
@@ -183,7 +183,7 @@ throughout_reader d ts = during_with d (sequences d) ts
 unfoldable pub whole : ℕ → Reader SequenceForm
 whole d ts = whole_with d (sequences d) ts
 
--- a seq behind its first body
+-- a seq after its first body
 unfoldable pub sequence_behind : ℕ → SequenceForm → Reader SequenceForm
 sequence_behind d s ts =
     during_behind d (sequences d) s ts >>= λ p. sides_behind d (sequences d) p.0 p.1
@@ -193,11 +193,11 @@ abbrev pub implication_from : ℕ → Option (Implication × List Token) → Seq
 implication_from d None s ts = Some (plain s, ts)
 implication_from d (Some i) s ts = whole d i.1 >>= λ p. Some (implication None s i.0 p.0, p.1)
 
--- behind a seq: an implication and its right side, if one stands there
+-- after a seq: an implication and its right side, if one stands there
 unfoldable pub implication_behind : ℕ → SequenceForm → Reader PropertyForm
 implication_behind d s ts = implication_from d (pick implication_of ts) s ts
 
--- What stood in brackets: a seq may go on behind them.
+-- What stood in brackets: a seq may go on after them.
 unfoldable pub regroup_property : ℕ → PropertyForm → Reader PropertyForm
 regroup_property d (plain s) ts =
     regroup d s ts >>= λ p. sequence_behind d p.0 p.1 >>= λ q. implication_behind d q.0 q.1
@@ -208,7 +208,7 @@ property_by d inner None ts = whole d ts >>= λ p. implication_behind d p.0 p.1
 property_by d inner (Some o) ts =
     inner o.1 >>= λ p. expect CloseRound p.1 >>= λ r. regroup_property d p.0 r.1
 
--- behind "first_match": "(" seq ")", an implication and its right side
+-- after "first_match": "(" seq ")", an implication and its right side
 unfoldable pub first_behind : ℕ → Token → Reader PropertyForm
 first_behind d word ts =
     expect OpenRound ts >>= λ o. (sequences d).whole o.1 >>= λ p. expect CloseRound p.1

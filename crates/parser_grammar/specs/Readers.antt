@@ -1,4 +1,4 @@
--- Reading from the left: a part of the tokens, and those behind it, or nothing.
+-- Reading from the left: a part of the tokens, and those after it, or nothing.
 use Rattle.std.specs.Prelude.{ℕ, zero, suc, List, [], ◌∷◌, Bool, length, Option, Some, None}
 use Rattle.std.specs.Prelude.{option_and_then, option_map, if◌then◌else◌}
 use Rattle.lexer.specs.declared.token.Token.{Token}
@@ -9,7 +9,7 @@ infixl 10 ◌>>=◌
 abbrev pub ◌>>=◌ : {A B : Type 0} → Option A → (A → Option B) → Option B
 o >>= f = option_and_then f o
 
--- a part, and the tokens behind it
+-- a part, and the tokens after it
 abbrev pub Reader : Type 0 → Type 0
 Reader A = List Token → Option (A × List Token)
 
@@ -30,7 +30,7 @@ unfoldable pub pick : {A : Type 0} → (Token → Option A) → Reader A
 pick f [] = None
 pick f (t ∷ ts) = option_map (λ a. (a, ts)) (f t)
 
--- a part that stands behind a terminal, if that is there
+-- a part that stands after a terminal, if that is there
 abbrev pub optional_by : {A : Type 0} → Reader A → Option (Token × List Token) → List Token
     → Option (Option A × List Token)
 optional_by r None ts = Some (None, ts)

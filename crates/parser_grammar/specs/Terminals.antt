@@ -35,7 +35,7 @@ use Rattle.parser_grammar.specs.declared.terminal.Terminal.TheVariants.{ForeignS
 use Rattle.parser_grammar.specs.declared.terminal.Terminal.TheVariants.{End}
 
 -- Words of constructs that the profile leaves out. (`first_match` is left out but round an
--- antecedent; `property` where an item begins, and `iff` other than behind `disable`, are left out
+-- antecedent; `property` where an item begins, and `iff` other than after `disable`, are left out
 -- too.)
 unfoldable pub foreign_words : List (List ℕ)
 foreign_words =
@@ -138,7 +138,7 @@ abbrev pub is_word_kind : Kind → Bool
 is_word_kind kinds.Word = true
 is_word_kind _ = false
 
--- any word: what may stand behind a dot
+-- any word: what may stand after a dot
 unfoldable pub is_word : Token → Bool
 is_word t = is_word_kind t.kind
 

@@ -4,7 +4,7 @@
 //!
 //! The grammar stands here twice: rule by rule, as relations between trees and the tokens that they
 //! spell, and as functions that read the tokens from the left. `grammar_law` says that the two
-//! agree for files, and for expressions, sequences and properties where no operator behind them
+//! agree for files, and for expressions, sequences and properties where no operator after them
 //! goes on; and that tokens spell at most one file. The readers themselves, with trees in memory,
 //! are `parser_expressions`, `parser_sequences` and `parser`, whose contracts go by these
 //! definitions. The trees in memory stand here too, below all that makes or reads them: `tree_of`,

@@ -60,7 +60,7 @@ pub enum Junction {
 pub enum Implication {
     /// `|->`: at the last tick of the antecedent.
     Overlapped,
-    /// `|=>`: at the tick behind it.
+    /// `|=>`: at the tick after it.
     NonOverlapped,
 }
 

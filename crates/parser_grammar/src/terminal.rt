@@ -262,7 +262,7 @@ pub fn is_name(token: Token) -> bool
     )
 }
 
-/// Whether the token is a word, as behind a dot.
+/// Whether the token is a word, as after a dot.
 #[tactic(auto, unfolding(crate::specs::Terminals::is_word))]
 pub fn is_word(token: Token) -> bool
     ensures { result ≡ is_word token.entry }

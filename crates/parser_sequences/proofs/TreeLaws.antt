@@ -1,4 +1,4 @@
--- What a reader makes of a first part and what goes on behind it; and the rules of the trees of sequences.
+-- What a reader makes of a first part and what goes on after it; and the rules of the trees of sequences.
 use Rattle.std.proofs.Common.{◌≡◌, List, [], ◌∷◌, map, length, refl, arith}
 use Rattle.parser_grammar.specs.Trees as trees
 use Rattle.parser_grammar.specs.declared.bound.Range.{Range}

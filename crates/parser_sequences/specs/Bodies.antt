@@ -1,4 +1,4 @@
--- What stands behind a body.
+-- What stands after a body.
 use Rattle.std.specs.Prelude.{◌≡◌, List, None}
 use Rattle.lexer.specs.declared.token.Token.{Token}
 use Rattle.parser_grammar.specs.declared.terminal.Terminal.TheVariants.{Throughout}

@@ -44,7 +44,7 @@ pub(crate) fn into_expression<'a>(
     }
 }
 
-/// A sequence in memory, with the tokens behind it.
+/// A sequence in memory, with the tokens after it.
 fn boxed<'t, 'a>(
     alloc: Global,
     sequence: SequenceTree<'a>,
@@ -160,7 +160,7 @@ pub(crate) fn throughout<'t, 'a>(
     boxed(alloc, SequenceTree::Throughout(expr, body), rest)
 }
 
-/// Puts one more sequence behind those that were found.
+/// Puts one more sequence after those that were found.
 pub(crate) fn push_sequence<'a>(
     found: &mut Vec<SequenceTree<'a>>,
     sequence: Box<SequenceTree<'a>>,
@@ -172,7 +172,7 @@ pub(crate) fn push_sequence<'a>(
     Ok(())
 }
 
-/// Puts one more delay with what it delays behind those that were found.
+/// Puts one more delay with what it delays after those that were found.
 pub(crate) fn push_step<'a>(
     found: &mut Vec<(Range, SequenceTree<'a>)>,
     range: Range,
@@ -186,7 +186,7 @@ pub(crate) fn push_step<'a>(
     Ok(())
 }
 
-/// The expression, the word and the tokens behind it, where a body goes on with `throughout`; else
+/// The expression, the word and the tokens after it, where a body goes on with `throughout`; else
 /// the body.
 #[tactic(auto, using(crate::proofs::BodyLaws::for_throughout))]
 pub(crate) fn throughout_side<'t, 'a>(

@@ -29,7 +29,7 @@ fn read_high<'t, 'a>(tokens: &'t [Token<'a>], low: Bound) -> Read<'t, 'a, Option
     Ok((Some(high), rest))
 }
 
-/// The counts of a repetition, behind `[*`.
+/// The counts of a repetition, after `[*`.
 fn read_times<'t, 'a>(tokens: &'t [Token<'a>]) -> Read<'t, 'a, Range>
     ensures read { Gives (λ r. (r.0, r.1.now)) result (times tokens.now) }
     ensures shorter { IfOk result (λ r. length r.1.now ≤ length tokens.now) }
@@ -40,7 +40,7 @@ fn read_times<'t, 'a>(tokens: &'t [Token<'a>]) -> Read<'t, 'a, Range>
     Ok((Range { low, high }, rest))
 }
 
-/// The counts of a delay, behind `##` and `[`.
+/// The counts of a delay, after `##` and `[`.
 fn read_between<'t, 'a>(tokens: &'t [Token<'a>]) -> Read<'t, 'a, Range>
     ensures read { Gives (λ r. (r.0, r.1.now)) result (range_between tokens.now) }
     ensures shorter { IfOk result (λ r. length r.1.now ≤ length tokens.now) }
@@ -53,7 +53,7 @@ fn read_between<'t, 'a>(tokens: &'t [Token<'a>]) -> Read<'t, 'a, Range>
     Ok((Range { low, high }, rest))
 }
 
-/// The counts of a delay, behind `##`.
+/// The counts of a delay, after `##`.
 #[tactic(auto, using(crate::proofs::Steps::for_delay))]
 pub(crate) fn read_delay<'t, 'a>(tokens: &'t [Token<'a>], depth: usize) -> Read<'t, 'a, Range>
     ensures read { Gives (λ r. (r.0, r.1.now)) result (delay (sequences depth) tokens.now) }

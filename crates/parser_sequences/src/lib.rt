@@ -1,6 +1,6 @@
 //! Reads the tokens of a sequence as its tree.
 //!
-//! A reader takes the tokens that are left, and answers what it read with the tokens behind it, or
+//! A reader takes the tokens that are left, and answers what it read with the tokens after it, or
 //! where and why it stopped (`parser_expressions::Read`). It reads as far as the grammar lets it
 //! go on.
 //!
@@ -8,7 +8,7 @@
 //! let (body, rest) = read!(read_sequence(alloc, tokens, 64));
 //! ```
 //!
-//! Brackets may hold a part of what goes on behind them: `regroup` and `finish_sequence` go on
+//! Brackets may hold a part of what goes on after them: `regroup` and `finish_sequence` go on
 //! from what stood in brackets, which a property, too, may begin with.
 //!
 //! The grammar stands in `parser_grammar/specs/Sequences.antt`, and the functions that read by it

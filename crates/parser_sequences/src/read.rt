@@ -1,4 +1,4 @@
-//! How a reader goes on behind a step, as in `parser_expressions`.
+//! How a reader goes on after a step, as in `parser_expressions`.
 
 /// What a step reads. Where it stops, so does its caller.
 macro_rules! read {

@@ -23,7 +23,7 @@ use parser_expressions::{
 use parser_grammar::{Junction, Range, SequenceTree, Terminal};
 use std::alloc::Global;
 
-/// What goes on behind brackets.
+/// What goes on after brackets.
 #[tactic(auto, using(crate::proofs::Steps::for_regroup))]
 pub fn regroup<'t, 'a>(
     alloc: Global,
@@ -80,7 +80,7 @@ fn read_repeat<'t, 'a>(
     with_times(alloc, body, counts, rest)
 }
 
-/// A delay behind its `##`, and what it delays.
+/// A delay after its `##`, and what it delays.
 #[cycle(sequences)]
 fn read_late<'t, 'a>(
     alloc: Global,
@@ -121,7 +121,7 @@ fn read_delayed<'t, 'a>(
     }
 }
 
-/// What follows a first body: behind an expression that is `throughout` and its right side, too.
+/// What follows a first body: after an expression that is `throughout` and its right side, too.
 #[cycle(sequences)]
 fn read_behind<'t, 'a>(
     alloc: Global,

@@ -68,7 +68,7 @@ abbrev pub say : ℕ → Option (List ℕ × List ℕ) → Option (List ℕ × L
 say c r = option_map (λ p. (c ∷ p.0, p.1)) r
 
 -- The value that a reader takes characters for, up to the closing quotation mark, and what is
--- behind that (AttValue, production 10; clause 3.3.3: white space that stands there by itself is
+-- after that (AttValue, production 10; clause 3.3.3: white space that stands there by itself is
 -- a space). None where that is no value.
 unfoldable pub unescaped : Within → List ℕ → Option (List ℕ × List ℕ)
 unescaped plain [] = None

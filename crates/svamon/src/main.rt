@@ -20,8 +20,8 @@
 //!
 //! It opens files (`cli_shell`) and hands over what is in them; what a command answers is said by
 //! the contracts of `cli` (`check_all`, `report_all`, `judge_one`, `build_one`), of `report_forms`
-//! (`junit_report`, `json_report`), of `cli_code` (`verify_code`, `run_code`, `upgrade_code`), of
-//! `cli_lint` (`lint_over`) and of `axi4_rules` (`port_rules`, `joined_text`), whose definitions
+//! (`junit_report`, `json_report`), of `cli_bytecode` (`verify_code`, `run_code`, `upgrade_code`),
+//! of `cli_lint` (`lint_over`) and of `axi4_rules` (`port_rules`, `joined_text`), whose definitions
 //! stand in their `specs/`.
 //!
 //! Not promised: what a file holds, that the line of a fault reaches anyone, and that the process

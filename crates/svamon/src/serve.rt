@@ -3,7 +3,7 @@
 use cli::{
     Fault, NoGate, Request, Wanted, build_one, check_all, explain_one, judge_one, report_all,
 };
-use cli_code::{run_code, upgrade_code, verify_code};
+use cli_bytecode::{run_code, upgrade_code, verify_code};
 use cli_lint::{LintFault, lint_one};
 use cli_shell::{
     FormFiles, Provenance, open, print_report, print_rules, read_assertions, read_bytes,

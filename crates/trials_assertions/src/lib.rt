@@ -17,7 +17,7 @@
 //!
 //! `rt test` in this crate proves the tests and runs them. The definitions that the contracts cite
 //! stand in the crates that are tested, each in its `specs/`. That every section follows its
-//! sequence is proved (`compiler_positions::section_law`).
+//! sequence is proved (`compiler_sequences::section_law`).
 //!
 //! Not promised: that each form and each fault occurs here; this crate has no public functions.
 #![tactic(auto)]

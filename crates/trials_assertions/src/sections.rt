@@ -7,7 +7,7 @@ ghost use Rattle.assertions.specs.Shapes.{written_form};
 
 use assertions::{Boolean, Sequence};
 use bytecode::{BlockInstr, Section};
-use compiler_positions::positions_of;
+use compiler_sequences::positions_of;
 use std::alloc::{AllocError, Global};
 use std::test::Fail;
 

@@ -2,13 +2,13 @@
 
 use bytecode_files::decode;
 use cli::{NoGate, build_one, check_all, check_one};
-use cli_code::run_code;
+use cli_bytecode::run_code;
 use signals::{Counted, CutWriter};
 use std::alloc::{AllocError, Global};
 use std::sync::Wait;
 use std::test::Fail;
 use std::thread::Threads;
-use trials_code::told;
+use trials_bytecode::told;
 
 /// A dump with one tick, at which x is 1 and y is 0, and v of 8 bits is 3.
 const DUMP: &str =

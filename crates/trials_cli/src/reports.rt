@@ -8,7 +8,7 @@ use parser::ParseFault;
 use signals::{Counted, CutReader, CutWriter, Sink, Source};
 use std::alloc::{AllocError, Global};
 use std::test::Fail;
-use trials_code::{Answer, has_line, told};
+use trials_bytecode::{Answer, has_line, told};
 use trials_dumps::SlowWriter;
 use types::TypeFault;
 use vcd_reader::VcdFault;

@@ -55,7 +55,7 @@ fn steps_of(alloc: Global, text: &str) -> Result<usize, Fail> {
     Ok(dump.steps().len())
 }
 
-/// The rows of signals at all ticks, one behind the other, by windows of a size.
+/// The rows of signals at all ticks, one after the other, by windows of a size.
 fn values_in(
     alloc: Global,
     dump: &Dump,

@@ -84,7 +84,7 @@ fn report_is_flushed(rt: HostRuntime) -> Result<(), Fail> {
     Ok(())
 }
 
-/// By clock, then start, also where a clock lies behind the verdicts.
+/// By clock, then start, also where a clock lies after the verdicts.
 #[test]
 fn failures_in_order(rt: HostRuntime) -> Result<(), Fail> {
     let verdicts = [Verdict::Fails(9), Verdict::Fails(1), Verdict::Fails(9)];

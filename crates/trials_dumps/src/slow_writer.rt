@@ -4,7 +4,7 @@ use std::alloc::Global;
 use std::io;
 use std::io::Write;
 
-/// Keeps bytes back until it is flushed, and hands on so many at most: a flush of more fails behind
+/// Keeps bytes back until it is flushed, and hands on so many at most: a flush of more fails after
 /// these.
 #[derive(Drop)]
 pub struct SlowWriter {

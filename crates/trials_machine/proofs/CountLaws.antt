@@ -1,4 +1,4 @@
--- A walk that counts down: what lies behind it, and what it will make of what is left, is what it
+-- A walk that counts down: what lies after it, and what it will make of what is left, is what it
 -- makes of the whole.
 use Rattle.std.proofs.Common.{◌≡◌, ◌≢◌, ℕ, ◌+◌, ◌-◌, ◌<◌, List, [], ◌∷◌, ◌++◌, length, Option, Some}
 use Rattle.std.proofs.Common.{None, refl, sym, ap, ◌∙◌, subst, arith, inl, inr, append_assoc}

@@ -6,18 +6,16 @@ ghost use Rattle.bytecode.specs.Instructions.{frame_of};
 ghost use Rattle.bytecode.specs.Programs.{data_of};
 ghost use Rattle.verifier.specs.Programs.{IsAccepted};
 ghost use Rattle.machine_samples.specs.Memory.{AreRows};
-ghost use Rattle.machine_decoded.specs.Decoded.{IsNewest};
+ghost use Rattle.machine_samples.specs.Decoded.{IsNewest};
 ghost use Rattle.machine_definition.specs.Values.{AreValues};
 
 use bytecode::Program;
 use bytecode_files::decode;
-use machine_decoded::Decoded;
 use machine_memory::Ring;
-use machine_samples::{Stack, run};
+use machine_samples::{Decoded, Stack, run};
 use signals::Bits;
 use std::alloc::{AllocError, Global};
-use verifier::verify;
-use verifier_inference::Frame;
+use verifier::{Frame, verify};
 
 /// The magic number and the version; history 2, stack 4, attempts 1, obligations 1, budget 100; no
 /// atom disables, one atom, `r`, `top.clk`, the signals and the counter.

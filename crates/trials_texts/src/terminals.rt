@@ -222,7 +222,7 @@ fn has_words(alloc: Global, text: &str, names: bool, count: usize) -> Result<boo
     Ok(tokens.len() == count && are_words(&tokens, names))
 }
 
-/// The words of a counter are names, so that `counter` before `:` may be a label. Behind a dot each
+/// The words of a counter are names, so that `counter` before `:` may be a label. After a dot each
 /// word is one.
 #[test]
 fn words(rt: HostRuntime) -> Result<(), Fail> {

@@ -141,7 +141,7 @@ fn symbol(number: u8) -> Option<(&'static str, Symbol)> {
     }
 }
 
-/// The longest symbol with which the text begins, and what stands behind it.
+/// The longest symbol with which the text begins, and what stands after it.
 fn first_symbol<'a>(text: &'a str) -> Option<(Symbol, &'a str)> {
     for number in 0..SYMBOLS {
         let (symbol, kind) = symbol(number)?;
@@ -152,7 +152,7 @@ fn first_symbol<'a>(text: &'a str) -> Option<(Symbol, &'a str)> {
     None
 }
 
-/// Whether the tokens, but for the end, are the longest symbols of the text, one behind the other.
+/// Whether the tokens, but for the end, are the longest symbols of the text, one after the other.
 fn are_longest_symbols(text: &str, tokens: &[Token]) -> bool {
     let mut rest = text;
     for token in tokens {
@@ -170,7 +170,7 @@ fn are_longest_symbols(text: &str, tokens: &[Token]) -> bool {
     false
 }
 
-/// Whether the left symbol and each other one behind it are cut into the longest symbols. Where the
+/// Whether the left symbol and each other one after it are cut into the longest symbols. Where the
 /// two begin a comment, they are no symbols.
 fn is_cut_beside_each(alloc: Global, left: &str) -> Result<bool, LexFault> {
     for number in 0..SYMBOLS {

@@ -60,7 +60,7 @@ fn holds_at_its_tick(rt: HostRuntime) -> Result<(), Fail> {
 }
 
 /// The attempt at tick 0 holds at tick 1, which is of another window where windows are of one
-/// clock, and that at tick 2 is open behind the last.
+/// clock, and that at tick 2 is open after the last.
 #[test]
 fn any_team_and_window(rt: HostRuntime) -> Result<(), Fail> {
     for (workers, size) in [(1, 1), (2, 2), (64, 1000)] {

@@ -201,7 +201,7 @@ first_5 s items at =
 pub ruleset for_stages =
     (clear_start, clear_1, clear_2, clear_3, clear_4, clear_5, first_1, first_2, first_3, first_4, first_5)
 
--- Behind the first five kinds, the expressions of a text have no fault.
+-- After the first five kinds, the expressions of a text have no fault.
 nothing_in : (xs : List ℕ) → ((at : ℕ) → IsNumberIn at xs → ⊥) → xs ≡ []
 nothing_in [] none = refl
 nothing_in (x ∷ xs) none = absurd (none x (inl refl))

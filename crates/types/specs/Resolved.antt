@@ -1,4 +1,4 @@
--- What the code keeps of a text's assertions behind the faults of their sides.
+-- What the code keeps of a text's assertions after the faults of their sides.
 use Rattle.std.specs.Prelude.{ℕ, List, map}
 use Rattle.parser_grammar.specs.Trees as trees
 use Rattle.expressions.specs.declared.expr.Expr.{Expr}

@@ -20,7 +20,7 @@
 //!
 //! The definitions: which faults stand in a text, which is the first, and the suite that a text
 //! says are those of `types_suites`, in its `specs/Faults.antt` (`IsFaultless`, `IsTypeFault`) and
-//! `specs/Suites.antt` (`IsSuite`); behind them are `specs/Cycles.antt`, of sequences that reach
+//! `specs/Suites.antt` (`IsSuite`); after them are `specs/Cycles.antt`, of sequences that reach
 //! themselves, and `specs/Sides.antt`, of what is known of antecedents and consequents. Scopes and
 //! the faults of expressions are those of `types_names`, and named sequences those of
 //! `types_sequences`. `laws_reports` has the law that suites of one text mean the same.

@@ -248,7 +248,7 @@ pub fn typed_expression(
     }
 }
 
-/// Operators with their operands, from the left, behind a first one.
+/// Operators with their operands, from the left, after a first one.
 #[cycle(expressions)]
 fn chain(
     alloc: Global,

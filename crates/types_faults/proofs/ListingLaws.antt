@@ -13,7 +13,7 @@ use Rattle.types_names.specs.Columns.{other_signals, with_paths}
 use Rattle.types_names.proofs.ColumnLaws.{with_paths-append}
 use Rattle.types_names.proofs.Lists.{Joins}
 
--- paths of one list and of another behind it
+-- paths of one list and of another after it
 pub listed-joined : (ps qs total : List (List ℕ)) (before between after : List (List ℕ)) → Joins total ps qs
     → between ≡ with_paths before ps → after ≡ with_paths between qs → after ≡ with_paths before total
 listed-joined ps qs total before between after is one two =

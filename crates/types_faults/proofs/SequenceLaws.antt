@@ -10,7 +10,7 @@ use Rattle.types_names.specs.Faults.{faults, sequence_faults, step_faults, other
 use Rattle.types_names.proofs.FaultLaws.{earlier-assoc, least-append}
 use Rattle.types_names.proofs.Lists.{Joins}
 
--- the least of one list and of another behind it
+-- the least of one list and of another after it
 pub least-joined : (xs ys total : List ℕ) (first last : Option ℕ) → Joins total xs ys → first ≡ least xs
     → last ≡ earlier first (least ys) → last ≡ least total
 least-joined xs ys total first last is one two =

@@ -180,7 +180,7 @@ pub(crate) fn see(
     }
 }
 
-/// What is seen of operators with their operands behind a first one.
+/// What is seen of operators with their operands after a first one.
 #[tactic(auto, unfolding(types_names::specs::Width::own_width, types_names::specs::Faults::faults))]
 #[cycle(expressions)]
 fn see_links(

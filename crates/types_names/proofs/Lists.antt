@@ -13,12 +13,12 @@ use Rattle.parser_grammar.specs.declared.expression.ExprTree.{ExprTree}
 use Rattle.parser_grammar.specs.declared.sequence.SequenceTree.{SequenceTree}
 use Rattle.parser_grammar.specs.Views.{tree_of, link_of, sequence_of, delay_step_of}
 
--- the element at a place, and those behind it
+-- the element at a place, and those after it
 pub at : {A : Type 0} (B : Type 0) (f : A → B) (xs : List A) (i : ℕ) (x : A) → i < length xs → x ≡ get_or xs i x
     → map f (drop i xs) ≡ f x ∷ map f (drop (i + 1) xs)
 at B f xs i x lt is = rw (drop-cons xs i x lt, add-one, ← is) refl
 
--- nothing behind the last
+-- nothing after the last
 pub past_end : {A : Type 0} (B : Type 0) (f : A → B) (xs : List A) (i : ℕ) → length xs ≤ i → map f (drop i xs) ≡ []
 past_end B f xs i le = ap (map f) (drop_all i xs le)
 
@@ -58,6 +58,6 @@ pub when_ok : {X E : Type 0} {P Q : X → Type 0} (r : Result X E) → ((x : X) 
 when_ok (Ok x) f h = f x h
 when_ok (Err e) f h = h
 
--- a list is one and another behind it
+-- a list is one and another after it
 pub record Joins {A : Type 0} (total front rest : List A) : Type 0 where
   pub is : total ≡ front ++ rest

@@ -90,11 +90,11 @@ file_signals s items = flat_map (item_signals s) items
 abbrev pub is_listed : List (List ℕ) → List ℕ → Bool
 is_listed known p = list_any (bytes_eq p) known
 
--- a path behind those that are listed already, unless it is
+-- a path after those that are listed already, unless it is
 abbrev pub with_path : List (List ℕ) → List ℕ → List (List ℕ)
 with_path known p = if is_listed known p then known else known ++ p ∷ []
 
--- paths behind those that are listed already, each once
+-- paths after those that are listed already, each once
 abbrev pub with_paths : List (List ℕ) → List (List ℕ) → List (List ℕ)
 with_paths known [] = known
 with_paths known (p ∷ ps) = with_paths (with_path known p) ps

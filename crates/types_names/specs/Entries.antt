@@ -2,7 +2,7 @@
 use Rattle.std.specs.Prelude.{ℕ, ◌≤◌, List, [], ◌∷◌, ◌++◌, is_some, if◌then◌else◌}
 use Rattle.types_names.specs.Scopes.{look_up}
 
--- a name behind the others, unless it is there
+-- a name after the others, unless it is there
 abbrev pub with_entry : {V : Type 0} → List (List ℕ × V) → List ℕ → V → List (List ℕ × V)
 with_entry entries name v =
     if is_some (look_up entries name) then entries else entries ++ (name, v) ∷ []

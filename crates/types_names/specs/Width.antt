@@ -127,13 +127,13 @@ unfoldable mutual
   own_width s (chain e links) = chain_width s (own_width s e) links
   own_width s (choice c a b) = max (own_width s a) (own_width s b)
 
-  -- of operators from the left, behind an operand of so many bits
+  -- of operators from the left, after an operand of so many bits
   pub chain_width : Scope → ℕ → Links → ℕ
   chain_width s w end = w
   chain_width s w (link op e links) =
       chain_width s (binary_width (binary_of op) w (own_width s e)) links
 
-  -- of parts behind so many bits
+  -- of parts after so many bits
   pub parts_width : Scope → ℕ → Parts → ℕ
   parts_width s w no_part = w
   parts_width s w (part e parts) = parts_width s (w + own_width s e) parts

@@ -116,7 +116,7 @@ of_two before between after v w f g p h =
       | inr u ↦ inr (inr u)
     ]
 
--- the list behind a boolean, and behind two parts
+-- the list after a boolean, and after two parts
 pub list_pushed : (before after : List ℕ) (place : ℕ) (b : Boolean) → b ≡ Listed place →
     after ≡ before ++ place ∷ [] → after ≡ before ++ sequence_places (boolean b)
 list_pushed before after place b is pushed = pushed

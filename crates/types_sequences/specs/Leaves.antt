@@ -7,7 +7,7 @@ use Rattle.assertions.specs.Written.{Written, boolean, delay, lead, repeat, or, 
 use Rattle.assertions.specs.Written.{throughout}
 use Rattle.types_sequences.specs.Outlines.{map_written}
 
--- its booleans, one behind the other, in the order in which they are written
+-- its booleans, one after the other, in the order in which they are written
 abbrev pub leaves : {B : Type 0} → Written B → List B
 leaves (boolean b) = b ∷ []
 leaves (delay r least most s) = leaves r ++ leaves s

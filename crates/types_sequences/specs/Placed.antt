@@ -29,7 +29,7 @@ abbrev pub IsPlacedBoolean : List Expr → List ℕ → Boolean → Boolean → 
 IsPlacedBoolean booleans places a b =
     (t : Samples) (k : ℕ) → atom_true booleans t a k ≡ value_in booleans places t b k
 
--- more behind what was there
+-- more after what was there
 pub record ExtendsPlaces {A : Type 0} (before after : List A) : Type 0 where
   pub added : List A
   pub is : after ≡ before ++ added
@@ -38,11 +38,11 @@ pub record ExtendsPlaces {A : Type 0} (before after : List A) : Type 0 where
 abbrev pub AllListed : List ℕ → Written Boolean → Type 0
 AllListed places w = EachBoolean (IsListed (length places)) w
 
--- Each place behind was there before, or one of the sequence's booleans stands at it.
+-- Each place after was there before, or one of the sequence's booleans stands at it.
 abbrev pub AddsPlaces : Written Boolean → List ℕ → List ℕ → Type 0
 AddsPlaces w before after = (p : ℕ) → IsNumberIn p after → IsNumberIn p before ⊎ IsUsed (Listed p) w
 
--- Behind the places that there were, each boolean of the first sequence has one of its own, by
+-- After the places that there were, each boolean of the first sequence has one of its own, by
 -- which the second says the same, in the same form, and weighs as much.
 pub record ArePlaced (before after : List ℕ) (w u : Written Boolean) : Type 0 where
   pub grows : ExtendsPlaces before after

@@ -13,7 +13,7 @@
 //! and, where the weight is at most 127, a sequence that matches the same segments, weighs no more,
 //! and has no booleans but those and the constant 1. `place_sequence` gives a sequence that matches
 //! by an assertion's list of places what this one matches by its own, and puts the places of its
-//! booleans behind those of the list. `rewrite_antecedent` makes the antecedent of `|=>` one of
+//! booleans after those of the list. `rewrite_antecedent` makes the antecedent of `|=>` one of
 //! `|->`.
 //!
 //! ```text
@@ -28,7 +28,7 @@
 //! `specs/Cycles.antt` (which reach one that does), `specs/Entries.antt` (what an entry says),
 //! `specs/Placed.antt` (booleans by an assertion's list), `specs/Implications.antt`,
 //! `specs/Outlines.antt` (other booleans in the same places), `specs/Views.antt` (what a `Draft`
-//! stands for). Behind them: `specs/Marks.antt`, `specs/Sweeps.antt`. Weights and matches are those
+//! stands for). Below them: `specs/Marks.antt`, `specs/Sweeps.antt`. Weights and matches are those
 //! of `assertions`, in its `specs/Written.antt`, `specs/Emptiness.antt` and `specs/Segments.antt`.
 //!
 //! Not promised: that memory suffices, or that an entry over 127 has a sequence, or has none.

@@ -28,7 +28,7 @@ module _ (s : Scope) (cs : List (List ℕ)) (now next : List Expr) (more : Exten
   read_more (y ∷ ds) [] x d h one = elim h [ ]
   read_more (y ∷ ds) (m ∷ ms) x d h one = (reads_grows s cs now next more y.body m h.0, read_more ds ms x d h.1 one)
 
-  -- one more, behind those that were made
+  -- one more, after those that were made
   pub body_more : (ds : List DeclarationForm) (made after : List Tree) (x : DeclarationForm) (d : Tree)
       → after ≡ made ++ d ∷ [] → Reads s cs next x.body (draft_of d)
       → AllRead s cs now (bodies_in ds) (map draft_of made) →

@@ -80,7 +80,7 @@ side_of booleans places more e x w made low is h p listed form =
       form = form ∙ ap form_of (sym kept);
     }
 
--- and the list behind it
+-- and the list after it
 pub list_by : (before after : List ℕ) (e : Entry) (x : Box Sequence Global) → e.sequence ≡ Some x →
     after ≡ before ++ sequence_places (written_form x.value) → after ≡ before ++ sequence_places (kept_of e)
 list_by before after e x is h =
@@ -101,7 +101,7 @@ used_by before after e x w low is h f p i =
       | inr u ↦ inr (meant_too w p (each_used (IsUsedOrOne w) (Listed p) (written_form x.value) says.known u))
     ]
 
--- It stays so behind more places.
+-- It stays so after more places.
 pub side_here : (e : List Expr) (w kept made : Written Boolean) (first second : List ℕ) →
     ExtendsPlaces first second → ((more : List ℕ) → IsSide e (first ++ more) w kept made) →
     IsSide e second w kept made
@@ -147,7 +147,7 @@ places_used start first second third v w o none f g h p i =
       ]
     ]
 
--- the list behind both sides and the disabling place, where none was there at first
+-- the list after both sides and the disabling place, where none was there at first
 pub list_whole : (start first second third : List ℕ) (v w : Written Boolean) (o : Option ℕ) →
     start ≡ [] → first ≡ start ++ sequence_places v → second ≡ first ++ sequence_places w →
     third ≡ second ++ off_places o → third ≡ sequence_places v ++ (sequence_places w ++ off_places o)
@@ -316,7 +316,7 @@ module _ (s : Scope) (cs : List (List ℕ)) (e : List Expr) where
         done_all all h.seen h.rest (length made) made h.both
         (subst (λ (ms : List Resolved). AreResolved s cs e bodies (length made) h.rest ms) none h.ready) h.done
 
--- what stands at a place, and what is behind it
+-- what stands at a place, and what is after it
 pub resolved_at : (xs : List Resolved) (i : ℕ) (x : Resolved) → i < length xs → x ≡ get_or xs i x
     → drop i xs ≡ x ∷ drop (i + 1) xs
 resolved_at xs i x lt is = rw (drop-cons xs i x lt, add-one, ← is) refl

@@ -217,7 +217,7 @@ module _ (s : Scope) (cs : List (List ℕ)) where
     reads-throughout x t q b a d is i m made =
         subst (λ (y : SequenceForm). Reads s cs e y d) (sym is) (b, a, i, m, made)
 
-  -- behind a first one that was read before
+  -- after a first one that was read before
   module _ (now next : List Expr) (more : ExtendsPlaces now next) where
     pub reads-delayed : (x q : SequenceForm) (steps : Steps) (a d : Draft Boolean) → x ≡ delayed q steps
         → Reads s cs now q a → ReadsSteps s cs next a steps d → Reads s cs next x d

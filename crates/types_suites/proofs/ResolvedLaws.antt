@@ -78,7 +78,7 @@ module _ (s : Scope) (cs : List (List ℕ)) (bodies : List (Draft Boolean)) (now
         (subst (λ (b : ℕ). IsResolved s cs next bodies b a m) (omega arith) one),
   )
 
-  -- one more, behind those that were made
+  -- one more, after those that were made
   pub resolved_more : (us : List trees.AssertionForm) (ms after : List Resolved) (place : ℕ) (a : trees.AssertionForm)
       (m : Resolved) → place ≡ length ms → after ≡ ms ++ m ∷ [] → IsResolved s cs next bodies place a m →
       AreResolved s cs now bodies 0 us ms → AreResolved s cs next bodies 0 (us ++ a ∷ []) after

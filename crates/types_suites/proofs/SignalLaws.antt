@@ -121,7 +121,7 @@ module _ (s : Scope) where
   pub columns_known : (items : List ItemForm) → DumpHasPaths s (columns_of s items)
   columns_known items = paths_kept (file_signals s items) [] tt (file_known items)
 
-  -- one more signal, behind those that were made
+  -- one more signal, after those that were made
   pub signal_more : (ps : List (List ℕ)) (made : List Signal) (p : List ℕ) (x : Signal) → AreSignals s ps made
       → string_bytes x.path ≡ p → s.dump p ≡ Some x.width → AreSignals s (ps ++ p ∷ []) (made ++ x ∷ [])
   signal_more [] [] p x h text width = ((text, width), tt)
@@ -129,7 +129,7 @@ module _ (s : Scope) where
   signal_more (q ∷ ps) [] p x h text width = elim h [ ]
   signal_more (q ∷ ps) (m ∷ made) p x h text width = (h.0, signal_more ps made p x h.1 text width)
 
--- what stands at a place of a list, between what is before it and what is behind
+-- what stands at a place of a list, between what is before it and what is after
 pub take_next : {A : Type 0} (xs : List A) (i : ℕ) (x : A) → slice_get xs i ≡ Some x
     → take (suc i) xs ≡ take i xs ++ x ∷ []
 take_next [] i x h = absurd cc

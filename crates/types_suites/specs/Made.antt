@@ -66,7 +66,7 @@ pub record IsSide (booleans : List Expr) (places : List ℕ) (meant kept made : 
   pub trimmed : IsTrimmed One meant kept
   pub form : form_of made ≡ form_of kept
 
--- Each place behind was there before, or it is that of the disabling expression.
+-- Each place after was there before, or it is that of the disabling expression.
 abbrev pub AreAt : Option ℕ → List ℕ → List ℕ → Type 0
 AreAt place before after = (p : ℕ) → IsNumberIn p after → IsNumberIn p before ⊎ (place ≡ Some p)
 

@@ -17,7 +17,7 @@ use std::alloc::{AllocError, Global};
 use types_names::{Scope, SignalPaths};
 use types_sequences::Draft;
 
-/// What the named sequences say, in the order of the text, their expressions typed and put behind
+/// What the named sequences say, in the order of the text, their expressions typed and put after
 /// the others.
 pub fn bodies_of(
     alloc: Global,

@@ -92,7 +92,7 @@ fn joined_draft(
     }
 }
 
-/// The expression, typed and put behind the others: its place.
+/// The expression, typed and put after the others: its place.
 pub(crate) fn atom(
     alloc: Global,
     scope: &Scope,
@@ -136,7 +136,7 @@ fn boolean(
     }
 }
 
-/// What a sequence of the text says, its expressions typed and put behind the others.
+/// What a sequence of the text says, its expressions typed and put after the others.
 #[cycle(drafts)]
 pub(crate) fn draft_of(
     alloc: Global,
@@ -179,7 +179,7 @@ pub(crate) fn draft_of(
     }
 }
 
-/// What is delayed, behind a first sequence.
+/// What is delayed, after a first sequence.
 #[cycle(drafts)]
 fn with_steps(
     alloc: Global,
@@ -206,7 +206,7 @@ fn with_steps(
     Ok(whole)
 }
 
-/// More sides, behind a first one.
+/// More sides, after a first one.
 #[cycle(drafts)]
 fn with_others(
     alloc: Global,

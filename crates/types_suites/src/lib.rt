@@ -1,7 +1,7 @@
 //! The parts of the suite that a text says, for a text in which no fault of types stands.
 //!
 //! Each function here asks, as a `requires`, that its part of the text has no fault, and answers
-//! what the text says there; `types` looks for the faults, and calls these behind them.
+//! what the text says there; `types` looks for the faults, and calls these after them.
 //!
 //! ```text
 //! let bodies = bodies_of(alloc, scope, &columns, items, &mut expressions)?;

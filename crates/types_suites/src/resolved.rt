@@ -86,7 +86,7 @@ fn resolved_of(
 }
 
 /// The assertions of the items with the entries of their sides, their expressions typed and put
-/// behind the others.
+/// after the others.
 pub fn all_resolved(
     alloc: Global,
     scope: &Scope,

@@ -17,7 +17,7 @@ use assertions::{Assertion, Boolean, Sequence};
 use std::alloc::{AllocError, Global};
 use types_sequences::{Entry, place_boolean, place_sequence};
 
-/// A side of an assertion from its entry, each boolean with a place of its own behind those in use.
+/// A side of an assertion from its entry, each boolean with a place of its own after those in use.
 fn side_of(
     alloc: Global,
     entry: &Entry,

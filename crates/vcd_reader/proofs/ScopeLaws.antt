@@ -336,7 +336,7 @@ opened-pushed ss new s last name is long same =
     ap (λ (xs : List Scope). open_scopes xs (last + 1)) is ∙ ap (open_scopes (ss ++ s ∷ [])) at ∙ opened-new ss s
     ∙ ap (λ (xs : List ℕ). open_scopes ss s.parent ++ xs ∷ []) same
 
--- one more byte of a text behind a path, from the text's end
+-- one more byte of a text after a path, from the text's end
 pub reversed-more : (start path new text : List ℕ) (i : ℕ) → i < length text → path ≡ start ++ take i (reverse text)
     → new ≡ path ++ get_or text (length text - 1 - i) 0 ∷ [] → new ≡ start ++ take (i + 1) (reverse text)
 reversed-more start path new text i below before is =

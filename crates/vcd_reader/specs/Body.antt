@@ -1,4 +1,4 @@
--- The part of a dump behind $enddefinitions: times and changes (IEEE 1364-2005, clause 18.2.1).
+-- The part of a dump after $enddefinitions: times and changes (IEEE 1364-2005, clause 18.2.1).
 use Rattle.std.specs.Prelude.{ℕ, suc, ◌^◌, List, [], ◌∷◌, Bool, ◌||◌, ◌==◌, nat_lt, Option, Some}
 use Rattle.std.specs.Prelude.{None, Result, Ok, Err, if◌then◌else◌, codes}
 use Rattle.std.specs.List.{list_all}
@@ -48,7 +48,7 @@ kind_of (b ∷ bs) =
 abbrev pub most_changes : ℕ
 most_changes = 4294967295
 
--- the further changes of the step that is open, and the steps behind it
+-- the further changes of the step that is open, and the steps after it
 abbrev pub Rest : Type 0
 Rest = List ValueChange × List Moment
 
@@ -84,7 +84,7 @@ change_by_code (Some n) code digits at count now rest =
 abbrev pub codeless_fault : ℕ → ℕ → Fault
 codeless_fault at len = if suc at == len then Truncated else BadToken at
 
--- a scalar with this text behind its digit
+-- a scalar with this text after its digit
 abbrev pub scalar : List (List ℕ) → ℕ → ℕ → List ℕ → ℕ → ℕ → ℕ → Next → Result Rest Fault
 scalar declared len digit [] at count now rest = Err (codeless_fault at len)
 scalar declared len digit (c ∷ code) at count now rest =
@@ -94,7 +94,7 @@ abbrev pub behind_first : List ℕ → List ℕ
 behind_first [] = []
 behind_first (b ∷ bs) = bs
 
--- What a token of that kind leads to, where behind it stand further items, the code of a vector, a
+-- What a token of that kind leads to, where after it stand further items, the code of a vector, a
 -- text's second token, or the rest of a section.
 abbrev pub by_kind : Kind → List (List ℕ) → ℕ → DumpToken → ℕ → ℕ → Next
     → (List ℕ → Result Rest Fault) → Result Rest Fault → Result Rest Fault → Result Rest Fault
@@ -109,8 +109,8 @@ by_kind Section declared len t count now items code second words = words
 by_kind Bad declared len t count now items code second words = Err (BadToken t.at)
 
 -- The tokens of the body, with the header's codes, the length of the input, how many changes stood
--- before, and the time of the open step: those behind an item, behind the word of a section, behind
--- the digits of a vector, and behind a text.
+-- before, and the time of the open step: those after an item, after the word of a section, after
+-- the digits of a vector, and after a text.
 unfoldable mutual
   pub body : List (List ℕ) → ℕ → ℕ → ℕ → List DumpToken → Result Rest Fault
   body declared len count now [] = Ok ([], [])

@@ -72,7 +72,7 @@ pub data Entry : Type 0 where
   Bit : DumpToken → ValueChange → Entry
   -- digits, then the code
   Digits : DumpToken → DumpToken → ValueChange → Entry
-  -- a real or a string, and the token behind
+  -- a real or a string, and the token after
   Ignored : DumpToken → DumpToken → Entry
   -- $dumpvars and its kin, and $end
   Alone : DumpToken → Entry

@@ -46,7 +46,7 @@ word_of (b ∷ bs) =
     else (if (b == 36) && not (is_end (b ∷ bs)) then Other
     else NoWord))))
 
--- the scopes that are open behind $upscope, which does nothing at the top
+-- the scopes that are open after $upscope, which does nothing at the top
 abbrev pub outer_scopes : List (List ℕ) → List (List ℕ)
 outer_scopes scopes = take (length scopes - 1) scopes
 
@@ -162,7 +162,7 @@ unfoldable mutual
   var_reference scopes vars word h (t ∷ ts) =
       if is_end t.text then Err (BadToken t.at) else var_more scopes vars word h t.text ts
 
-  -- further tokens of the reference, behind this text of those before
+  -- further tokens of the reference, after this text of those before
   pub var_more : List (List ℕ) → List Declared → DumpToken → Head → List ℕ → List DumpToken
       → Result Header Fault
   var_more scopes vars word h reference [] = Err (UnclosedSection word.at)

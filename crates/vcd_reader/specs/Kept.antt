@@ -64,12 +64,12 @@ abbrev pub code_item : Option ℕ → List ℕ → ℕ → ℕ → Result Item F
 code_item None text value at = Err (missing_fault text at)
 code_item (Some n) text value at = Ok (Changed n value)
 
--- what a scalar says with this text behind its digit
+-- what a scalar says with this text after its digit
 abbrev pub scalar_item : List (List ℕ) → ℕ → List ℕ → ℕ → ℕ → Result Item Fault
 scalar_item declared len [] value at = Err (codeless_fault at len)
 scalar_item declared len (c ∷ text) value at =
     code_item (place_of declared (c ∷ text)) (c ∷ text) value at
 
--- the list is the other one with more behind it
+-- the list is the other one with more after it
 abbrev pub Extends : List ℕ → List ℕ → Type 0
 Extends old new = (added : List ℕ) × (new ≡ old ++ added)

@@ -1,7 +1,7 @@
 -- Keys of texts.
 use Rattle.std.specs.Prelude.{ℕ, ◌+◌, ◌*◌, ◌%◌, ◌^◌, List, [], ◌∷◌}
 
--- a key of a text, which several texts may share, behind a text with the key n
+-- a key of a text, which several texts may share, after a text with the key n
 unfoldable pub key_from : ℕ → List ℕ → ℕ
 key_from n [] = n
 key_from n (b ∷ bs) = key_from ((n * 1099511628211 % 2 ^ 64 + b) % 2 ^ 64) bs

@@ -21,7 +21,7 @@ tokens_at bytes at = tokens at (drop at bytes)
 abbrev pub head_at : List ℕ → VarHead → Head
 head_at bytes h = record { type = text_at bytes h.kind; size = h.size; code = text_at bytes h.code }
 
--- what stands behind a section that was read
+-- what stands after a section that was read
 abbrev pub stated_header : Section → List (List ℕ) → List variables.Declared → List ℕ
     → Result Header Fault
 stated_header (Ended end) scopes vars bytes = Ok (vars, tokens_at bytes end)

@@ -5,7 +5,7 @@ ghost use Rattle.vcd_reader.specs.Keys.{key_from};
 
 const FACTOR: u64 = 1099511628211;
 
-/// A key of a text, behind a text that has a key.
+/// A key of a text, after a text that has a key.
 pub(crate) fn key_behind(front: u64, text: &[u8]) -> u64
     ensures { result ≡ key_from front text.now }
 {

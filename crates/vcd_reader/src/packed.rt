@@ -45,7 +45,7 @@ fn page_place(packed: u32) -> usize {
     ((packed >> 16) & 127) as usize + ((packed >> 24) & 127) as usize * 128
 }
 
-/// The place of a packed code in the table, which may be behind its end.
+/// The place of a packed code in the table, which may be after its end.
 fn entry_place(pages: &[u32], packed: u32) -> usize {
     let low = (packed & 127) as usize + ((packed >> 8) & 127) as usize * 128;
     match pages.get(page_place(packed)) {

@@ -143,7 +143,7 @@ fn with_dot(alloc: Global, name: &[u8]) -> Result<Vec<u8>, AllocError>
     Ok(front)
 }
 
-/// A place whose front is this one behind that of the parent, where the hint for the key is in one;
+/// A place whose front is this one after that of the parent, where the hint for the key is in one;
 /// else the place.
 fn first_place(
     scopes: &[Scope],
@@ -208,7 +208,7 @@ pub(crate) fn open_scope(
     Ok(place)
 }
 
-/// Puts a text behind a path, the last byte first.
+/// Puts a text after a path, the last byte first.
 fn push_reversed(path: &mut Vec<u8>, text: &[u8]) -> Result<(), AllocError>
     ensures { IfOk result (λ _. path.new.items ≡ path.old.items ++ reverse text.now) }
 {

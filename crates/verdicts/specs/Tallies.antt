@@ -74,7 +74,7 @@ unfoldable pub failing_in : ℕ → ℕ → List Verdict → List Failure
 failing_in first zero vs = []
 failing_in first (suc count) vs = failing_at first 0 vs ++ failing_in (suc first) count vs
 
--- the clock behind a failure's; 0 behind another verdict's
+-- the clock after a failure's; 0 after another verdict's
 abbrev pub clock_behind : Verdict → ℕ
 clock_behind (Holds t) = 0
 clock_behind (Vacuous t) = 0
@@ -82,7 +82,7 @@ clock_behind (Fails t) = suc t
 clock_behind (Disabled t) = 0
 clock_behind Open = 0
 
--- the first clock that is behind all failures
+-- the first clock that is after all failures
 unfoldable pub end_of : List Verdict → ℕ
 end_of [] = 0
 end_of (v ∷ vs) = max (clock_behind v) (end_of vs)

@@ -23,7 +23,7 @@
 //! ```
 //!
 //! The text is made before the first byte of it is written, so where memory is refused nothing was
-//! written. Where the device fails (G1), it holds a beginning of the text behind what it held.
+//! written. Where the device fails (G1), it holds a beginning of the text after what it held.
 //!
 //! The definitions: what verdicts come to in `specs/Tallies.antt`; what lines and a report say in
 //! `specs/Lines.antt`, their sums in `specs/Totals.antt`, and what those in memory say in

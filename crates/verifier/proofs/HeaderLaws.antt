@@ -4,20 +4,20 @@ use Rattle.std.proofs.Common.{List, [], ◌∷◌, ◌++◌, length, map, Option
 use Rattle.std.proofs.Common.{◌∙◌, subst, arith}
 use Rattle.std.specs.Prelude.{nat_lt}
 use Rattle.std.proofs.lemmas.Bool.{ltb-false, le-ltb, cases_eq, cases_Bool}
-use Rattle.verifier_inference.specs.declared.field.Field.{Field}
-use Rattle.verifier_inference.specs.declared.field.Field.TheVariants as fields
-use Rattle.verifier_inference.specs.declared.refusal.Refusal.{Refusal}
-use Rattle.verifier_inference.specs.declared.pool.Pool.TheVariants as pools
-use Rattle.verifier_inference.specs.declared.refusal.Refusal.TheVariants.{SlotRange, PoolTooSmall}
-use Rattle.verifier_inference.specs.declared.refusal.Refusal.TheVariants.{LimitTooLarge}
-use Rattle.verifier_inference.specs.Inference.{Found, found}
-use Rattle.verifier_inference.specs.Order.{number_of, fault_part, field_place, IsUpTo, found_place, IsIn, IsFirstFound}
-use Rattle.verifier_inference.specs.Scans.{IsHeadRefusal}
-use Rattle.verifier_inference.specs.Sections.{instructions_in}
+use Rattle.verifier.specs.declared.field.Field.{Field}
+use Rattle.verifier.specs.declared.field.Field.TheVariants as fields
+use Rattle.verifier.specs.declared.refusal.Refusal.{Refusal}
+use Rattle.verifier.specs.declared.pool.Pool.TheVariants as pools
+use Rattle.verifier.specs.declared.refusal.Refusal.TheVariants.{SlotRange, PoolTooSmall}
+use Rattle.verifier.specs.declared.refusal.Refusal.TheVariants.{LimitTooLarge}
+use Rattle.verifier.specs.Inference.{Found, found}
+use Rattle.verifier.specs.Order.{number_of, fault_part, field_place, IsUpTo, found_place, IsIn, IsFirstFound}
+use Rattle.verifier.specs.Scans.{IsHeadRefusal}
+use Rattle.verifier.specs.Sections.{instructions_in}
 use Rattle.bytecode.specs.Instructions.{frame_of}
 use Rattle.bytecode.specs.Values.{ProgramData}
 use Rattle.verifier.specs.Programs.{HasRoom, disable_faults, over, header_refusals}
-use Rattle.verifier_inference.proofs.TypingLaws.{nil_parts}
+use Rattle.verifier.proofs.TypingLaws.{nil_parts}
 
 -- fronts of the header's faults
 abbrev pub front_0 : ProgramData → List Refusal

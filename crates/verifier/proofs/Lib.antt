@@ -1,3 +1,12 @@
+pub mod ArrivalLaws
+pub mod OrderLaws
+pub mod ScanLaws
+pub mod SampleLaws
+pub mod TypingLaws
+pub mod MarkLaws
+pub mod BlockLaws
+pub mod SectionLaws
+pub mod CodeLaws
 pub mod HeaderLaws
 pub mod ProgramLaws
 pub mod VerifyLaws

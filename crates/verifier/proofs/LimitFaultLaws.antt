@@ -2,12 +2,12 @@
 use Rattle.std.proofs.Common.{◌≡◌, ◌⊎◌, inl, inr, ℕ, ◌≤◌, true, false, cond, List, [], ◌∷◌, ◌++◌}
 use Rattle.std.proofs.Common.{map, Option, Some, None, refl, sym, ap, ◌∙◌, subst, arith}
 use Rattle.std.specs.Prelude.{nat_lt}
-use Rattle.verifier_inference.specs.declared.refusal.Refusal.{Refusal}
-use Rattle.verifier_inference.specs.declared.pool.Pool.TheVariants as pools
-use Rattle.verifier_inference.specs.declared.refusal.Refusal.TheVariants.{HistoryTooShort, StackTooShort}
-use Rattle.verifier_inference.specs.declared.refusal.Refusal.TheVariants.{PoolTooSmall, BudgetTooSmall}
-use Rattle.verifier_inference.specs.Inference.{Found, found}
-use Rattle.verifier_inference.specs.Order.{IsFirstRefusal, first_refusal}
+use Rattle.verifier.specs.declared.refusal.Refusal.{Refusal}
+use Rattle.verifier.specs.declared.pool.Pool.TheVariants as pools
+use Rattle.verifier.specs.declared.refusal.Refusal.TheVariants.{HistoryTooShort, StackTooShort}
+use Rattle.verifier.specs.declared.refusal.Refusal.TheVariants.{PoolTooSmall, BudgetTooSmall}
+use Rattle.verifier.specs.Inference.{Found, found}
+use Rattle.verifier.specs.Order.{IsFirstRefusal, first_refusal}
 use Rattle.verifier.specs.Limits.{farthest}
 use Rattle.bytecode.specs.Values.{ProgramData}
 use Rattle.bytecode.specs.declared.limits.Limits.{Limits}
@@ -15,9 +15,9 @@ use Rattle.verifier.specs.declared.least.LeastLimits.{LeastLimits}
 use Rattle.verifier.specs.Programs.{below, least_stack, least_attempts, least_obligations}
 use Rattle.verifier.specs.Programs.{least_budget, limit_refusals, least_limits, part_faults}
 use Rattle.verifier.specs.Programs.{all_faults, IsWithinLimits, IsAcceptable}
-use Rattle.verifier_inference.proofs.ScanLaws.{head_of}
-use Rattle.verifier_inference.proofs.BlockLaws.{none_first}
-use Rattle.verifier_inference.proofs.TypingLaws.{nil_parts, nil_map}
+use Rattle.verifier.proofs.ScanLaws.{head_of}
+use Rattle.verifier.proofs.BlockLaws.{none_first}
+use Rattle.verifier.proofs.TypingLaws.{nil_parts, nil_map}
 use Rattle.verifier.proofs.ProgramLaws.{formed, faultless}
 use Rattle.std.proofs.lemmas.Bool.{cases_Bool, ltb-false, le-ltb}
 use Rattle.verifier.proofs.HeaderLaws.{Climbs, climbs_join, climbs_if, head_first, part_small}

@@ -3,18 +3,18 @@ use Rattle.std.proofs.Common.{◌≡◌, ◌⊎◌, inl, inr, ℕ, ◌+◌, ◌<
 use Rattle.std.proofs.Common.{◌++◌, length, map, Option, Some, None, refl, sym, ap, ◌∙◌, arith}
 use Rattle.std.specs.Prelude.{nat_lt}
 use Rattle.std.proofs.lemmas.Bool.{lt-ltb, ltb-true, cases_Bool}
-use Rattle.verifier_inference.specs.declared.refusal.Refusal.TheVariants.{SlotRange}
-use Rattle.verifier_inference.specs.Rules.{sample_rules}
-use Rattle.verifier_inference.specs.Inference.{Found, found, code_faults, entry}
-use Rattle.verifier_inference.specs.Typing.{IsCodeTyped, AreShort, longest_list}
-use Rattle.verifier_inference.specs.Sections.{section_faults}
+use Rattle.verifier.specs.declared.refusal.Refusal.TheVariants.{SlotRange}
+use Rattle.verifier.specs.Rules.{sample_rules}
+use Rattle.verifier.specs.Inference.{Found, found, code_faults, entry}
+use Rattle.verifier.specs.Typing.{IsCodeTyped, AreShort, longest_list}
+use Rattle.verifier.specs.Sections.{section_faults}
 use Rattle.bytecode.specs.Instructions.{frame_of}
-use Rattle.verifier_inference.proofs.CodeLaws.{typed_code, faultless_code, typed_section, faultless_section}
+use Rattle.verifier.proofs.CodeLaws.{typed_code, faultless_code, typed_section, faultless_section}
 use Rattle.bytecode.specs.Values.{ProgramData}
 use Rattle.verifier.specs.Programs.{disable_faults, header_refusals, part_faults, least_stack}
 use Rattle.verifier.specs.Programs.{HasRoom, IsAtom, IsWellFormed}
-use Rattle.verifier_inference.proofs.TypingLaws.{nil_parts, nil_map, longest_typed}
-use Rattle.verifier_inference.specs.Scans.{longest_agreed}
+use Rattle.verifier.proofs.TypingLaws.{nil_parts, nil_map, longest_typed}
+use Rattle.verifier.specs.Scans.{longest_agreed}
 use Rattle.verifier.proofs.HeaderLaws.{header_clear, header_none}
 
 atom_there : (disable : Option ℕ) (atoms : ℕ) → disable_faults disable atoms ≡ [] → IsAtom disable atoms

@@ -14,15 +14,15 @@ use Rattle.bytecode.specs.declared.sample_instr.SampleInstr.TheVariants.{JumpIfZ
 use Rattle.bytecode.specs.declared.sample_instr.SampleInstr.TheVariants.{Halt}
 use Rattle.bytecode.specs.Instructions.{leaves}
 use Rattle.bytecode.specs.Instructions.{FrameData, sample_flow, sample_effect}
-use Rattle.verifier_inference.specs.Rules.{sample_rules}
+use Rattle.verifier.specs.Rules.{sample_rules}
 use Rattle.bytecode.specs.Instructions.{LeadsTo}
-use Rattle.verifier_inference.specs.Typing.{IsFine, IsCodeTyped, AreShort, longest_list}
+use Rattle.verifier.specs.Typing.{IsFine, IsCodeTyped, AreShort, longest_list}
 use Rattle.bytecode.specs.Instructions.{frame_of}
 use Rattle.bytecode.specs.Values.{ProgramData}
 use Rattle.verifier.specs.Programs.{all_faults, IsAcceptable, IsAccepted}
-use Rattle.verifier_inference.specs.declared.refusal.Refusal.{Refusal}
-use Rattle.verifier_inference.specs.declared.refusal.Refusal.TheVariants.{Memory}
-use Rattle.verifier_inference.specs.Order.{IsIn, IsFirstRefusal}
+use Rattle.verifier.specs.declared.refusal.Refusal.{Refusal}
+use Rattle.verifier.specs.declared.refusal.Refusal.TheVariants.{Memory}
+use Rattle.verifier.specs.Order.{IsIn, IsFirstRefusal}
 use Rattle.verifier.proofs.ProgramLaws.{longest_is_least}
 use Rattle.verifier.proofs.LimitFaultLaws.{acceptable_faultless}
 

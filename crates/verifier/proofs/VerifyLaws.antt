@@ -1,23 +1,23 @@
 -- The exits of the verifier.
 use Rattle.std.proofs.Common.{◌≡◌, ◌⊎◌, inl, inr, ℕ, ◌+◌, ◌≤◌, List, [], ◌++◌, map, Some, None}
 use Rattle.std.proofs.Common.{refl, sym, ap, ◌∙◌, subst, arith}
-use Rattle.verifier_inference.specs.declared.refusal.Refusal.{Refusal}
-use Rattle.verifier_inference.specs.declared.refusal.Refusal.TheVariants.{Memory}
-use Rattle.verifier_inference.specs.Rules.{sample_rules}
-use Rattle.verifier_inference.specs.Inference.{Found, found, code_faults}
-use Rattle.verifier_inference.specs.Order.{IsIn, IsFirstFound, IsFirstRefusal, first_refusal}
-use Rattle.verifier_inference.specs.Scans.{IsFirstOf}
-use Rattle.verifier_inference.specs.Sections.{section_faults}
+use Rattle.verifier.specs.declared.refusal.Refusal.{Refusal}
+use Rattle.verifier.specs.declared.refusal.Refusal.TheVariants.{Memory}
+use Rattle.verifier.specs.Rules.{sample_rules}
+use Rattle.verifier.specs.Inference.{Found, found, code_faults}
+use Rattle.verifier.specs.Order.{IsIn, IsFirstFound, IsFirstRefusal, first_refusal}
+use Rattle.verifier.specs.Scans.{IsFirstOf}
+use Rattle.verifier.specs.Sections.{section_faults}
 use Rattle.bytecode.specs.Instructions.{frame_of}
 use Rattle.bytecode.specs.Values.{ProgramData}
 use Rattle.verifier.specs.Programs.{header_refusals, limit_refusals, least_limits, part_faults}
 use Rattle.verifier.specs.Programs.{all_faults, HasRoom}
-use Rattle.verifier_inference.proofs.OrderLaws.{in_append, in_left}
-use Rattle.verifier_inference.proofs.ScanLaws.{head_of}
-use Rattle.verifier_inference.proofs.BlockLaws.{none_first}
+use Rattle.verifier.proofs.OrderLaws.{in_append, in_left}
+use Rattle.verifier.proofs.ScanLaws.{head_of}
+use Rattle.verifier.proofs.BlockLaws.{none_first}
 use Rattle.verifier.proofs.HeaderLaws.{header_climbs, header_clear, head_first, part_small}
-use Rattle.verifier_inference.proofs.CodeLaws.{AllIn, AllFrom, all_found, all_code, all_section, from_in}
-use Rattle.verifier_inference.proofs.CodeLaws.{from_weaker}
+use Rattle.verifier.proofs.CodeLaws.{AllIn, AllFrom, all_found, all_code, all_section, from_in}
+use Rattle.verifier.proofs.CodeLaws.{from_weaker}
 
 first_below : (x : Found) (xs ys : List Found) → AllFrom (x.section + 1) ys → IsFirstFound x xs
     → IsFirstFound x (xs ++ ys)

@@ -1,11 +1,26 @@
--- Laws of acceptance.
+-- Laws of typing and of acceptance.
 use Rattle.std.specs.Prelude.{◌≡◌, ◌↔◌, ℕ, List, []}
-use Rattle.bytecode.specs.Values.{ProgramData}
-use Rattle.bytecode.specs.Instructions.{frame_of}
-use Rattle.verifier_inference.specs.Rules.{sample_rules}
-use Rattle.verifier_inference.specs.Typing.{IsCodeTyped, AreShort, longest_list}
+use Rattle.bytecode.specs.declared.sample_instr.SampleInstr.{SampleInstr}
+use Rattle.bytecode.specs.Values.{SectionData, ProgramData}
+use Rattle.bytecode.specs.Instructions.{FrameData, frame_of}
+use Rattle.verifier.specs.Rules.{sample_rules}
+use Rattle.verifier.specs.Inference.{code_faults}
+use Rattle.verifier.specs.Typing.{IsTypable, IsCodeTyped, AreShort, longest_list}
+use Rattle.verifier.specs.Sections.{section_faults, IsSection}
 use Rattle.verifier.specs.Programs.{part_faults, all_faults, least_stack, IsWellFormed, HasRoom}
 use Rattle.verifier.specs.Programs.{IsAccepted}
+
+-- No fault stands in sample code exactly where some table types it.
+abbrev pub SampleIsTypableWhereFaultless : Type 0
+SampleIsTypableWhereFaultless =
+    (f : FrameData) (code : List SampleInstr) →
+    (code_faults (sample_rules f) 0 code ≡ []) ↔ IsTypable f code
+
+-- No fault stands in a section exactly where it is well formed.
+abbrev pub SectionIsWellFormedWhereFaultless : Type 0
+SectionIsWellFormedWhereFaultless =
+    (section atoms : ℕ) (s : SectionData) →
+    (section_faults section atoms s ≡ []) ↔ IsSection section atoms s
 
 -- No fault stands exactly where a program is accepted.
 abbrev pub IsAcceptedWhereFaultless : Type 0

@@ -1,3 +1,12 @@
+pub mod Rules
+pub mod Inference
+pub mod Order
+pub mod Typing
+pub mod Arrivals
+pub mod Views
+pub mod Scans
+pub mod Sections
+pub mod Marks
 pub mod Limits
 pub mod Programs
 pub mod Laws

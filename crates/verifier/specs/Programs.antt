@@ -3,23 +3,23 @@ use Rattle.std.specs.Prelude.{◌≡◌, ℕ, ◌+◌, ◌-◌, ◌*◌, ◌<◌
 use Rattle.std.specs.Prelude.{◌++◌, length, map, Option, Some, None}
 use Rattle.bytecode.specs.declared.limits.Limits.{Limits}
 use Rattle.verifier.specs.declared.least.LeastLimits.{LeastLimits}
-use Rattle.verifier_inference.specs.declared.pool.Pool.TheVariants as pools
-use Rattle.verifier_inference.specs.declared.field.Field.{Field}
-use Rattle.verifier_inference.specs.declared.field.Field.TheVariants as fields
-use Rattle.verifier_inference.specs.declared.refusal.Refusal.{Refusal}
-use Rattle.verifier_inference.specs.declared.refusal.Refusal.TheVariants.{SlotRange}
-use Rattle.verifier_inference.specs.declared.refusal.Refusal.TheVariants.{HistoryTooShort}
-use Rattle.verifier_inference.specs.declared.refusal.Refusal.TheVariants.{StackTooShort}
-use Rattle.verifier_inference.specs.declared.refusal.Refusal.TheVariants.{PoolTooSmall}
-use Rattle.verifier_inference.specs.declared.refusal.Refusal.TheVariants.{BudgetTooSmall}
-use Rattle.verifier_inference.specs.declared.refusal.Refusal.TheVariants.{LimitTooLarge}
+use Rattle.verifier.specs.declared.pool.Pool.TheVariants as pools
+use Rattle.verifier.specs.declared.field.Field.{Field}
+use Rattle.verifier.specs.declared.field.Field.TheVariants as fields
+use Rattle.verifier.specs.declared.refusal.Refusal.{Refusal}
+use Rattle.verifier.specs.declared.refusal.Refusal.TheVariants.{SlotRange}
+use Rattle.verifier.specs.declared.refusal.Refusal.TheVariants.{HistoryTooShort}
+use Rattle.verifier.specs.declared.refusal.Refusal.TheVariants.{StackTooShort}
+use Rattle.verifier.specs.declared.refusal.Refusal.TheVariants.{PoolTooSmall}
+use Rattle.verifier.specs.declared.refusal.Refusal.TheVariants.{BudgetTooSmall}
+use Rattle.verifier.specs.declared.refusal.Refusal.TheVariants.{LimitTooLarge}
 use Rattle.bytecode.specs.Instructions.{frame_of, sample_flow}
-use Rattle.verifier_inference.specs.Rules.{sample_rules}
-use Rattle.verifier_inference.specs.Inference.{Found, found, code_faults}
+use Rattle.verifier.specs.Rules.{sample_rules}
+use Rattle.verifier.specs.Inference.{Found, found, code_faults}
 use Rattle.bytecode.specs.Values.{ProgramData}
-use Rattle.verifier_inference.specs.Sections.{section_faults, IsSection, instructions_in}
-use Rattle.verifier_inference.specs.Scans.{entry_longest}
-use Rattle.verifier_inference.specs.Typing.{IsCodeTyped, AreShort, longest_list}
+use Rattle.verifier.specs.Sections.{section_faults, IsSection, instructions_in}
+use Rattle.verifier.specs.Scans.{entry_longest}
+use Rattle.verifier.specs.Typing.{IsCodeTyped, AreShort, longest_list}
 use Rattle.verifier.specs.Limits.{farthest, longest_path, path_sum, start_life}
 
 abbrev pub disable_faults : Option ℕ → ℕ → List Refusal

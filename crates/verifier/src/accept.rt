@@ -1,20 +1,25 @@
 //! Which programs are accepted.
 
 ghost use Rattle.std.specs.Prelude.{◌≡◌, ◌⊎◌, ◌++◌, List, [], IfOk, OnOk, IfErr};
-ghost use Rattle.verifier_inference.specs.declared.refusal.Refusal.{Refusal};
-ghost use Rattle.verifier_inference.specs.Order.{first_refusal, IsFirstRefusal};
+ghost use Rattle.verifier.specs.declared.refusal.Refusal.{Refusal};
+ghost use Rattle.verifier.specs.Order.{first_refusal, IsFirstRefusal};
 ghost use Rattle.bytecode.specs.Programs.{data_of};
 ghost use Rattle.verifier.specs.Programs.{sample_faults, part_faults, all_faults, least_stack};
 ghost use Rattle.verifier.specs.Programs.{least_limits};
 ghost use Rattle.verifier.specs.Programs.{below, limit_refusals, HasRoom, IsAccepted};
 
+use crate::frame::Frame;
 use crate::header::header_fault;
 use crate::least::LeastLimits;
 use crate::limits::limits_of;
+use crate::pool::Pool;
+use crate::refusal::Refusal;
+use crate::sample_scan::infer;
+use crate::section_scan::section_fault;
+use crate::side::Side;
 use crate::verified::Verified;
 use bytecode::{Limits, Program};
 use std::alloc::Global;
-use verifier_inference::{Frame, Pool, Refusal, Side, infer, section_fault};
 
 /// The longest list of the sample code, or its first fault.
 fn sample_stack(alloc: Global, program: &Program) -> Result<usize, Refusal>

@@ -1,16 +1,18 @@
 //! The header's faults.
 
 ghost use Rattle.std.specs.Prelude.{◌≡◌, ◌++◌, List, length};
-ghost use Rattle.verifier_inference.specs.declared.refusal.Refusal.{Refusal};
-ghost use Rattle.verifier_inference.specs.Order.{first_refusal};
-ghost use Rattle.verifier_inference.specs.Sections.{instructions_in};
+ghost use Rattle.verifier.specs.declared.refusal.Refusal.{Refusal};
+ghost use Rattle.verifier.specs.Order.{first_refusal};
+ghost use Rattle.verifier.specs.Sections.{instructions_in};
 ghost use Rattle.bytecode.specs.Instructions.{frame_of};
 ghost use Rattle.bytecode.specs.Programs.{data_of};
 ghost use Rattle.bytecode.specs.Views.{section_data};
 ghost use Rattle.verifier.specs.Programs.{disable_faults, over, header_refusals};
 
+use crate::field::Field;
+use crate::refusal::Refusal;
+use crate::section_scan::capped_size;
 use bytecode::{Program, Section};
-use verifier_inference::{Field, Refusal, capped_size};
 
 /// The fault of a disabling atom that isn't there.
 fn disable_fault(disable: Option<u8>, atoms: u8) -> Option<Refusal>

@@ -3,7 +3,7 @@
 ghost use Rattle.std.specs.Prelude.{◌≡◌, ◌≤◌, ◌+◌, ℕ, length, drop, slice_index, IfOk};
 ghost use Rattle.verifier.specs.Limits.{entered_life, longest_entered, lives_from, life_in};
 ghost use Rattle.verifier.specs.Limits.{most_in, start_life};
-ghost use Rattle.verifier_inference.specs.Views.{blocks_of};
+ghost use Rattle.verifier.specs.Views.{blocks_of};
 ghost use Rattle.bytecode.specs.Views.{section_data};
 
 use crate::paths::path_from;

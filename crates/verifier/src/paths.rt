@@ -4,8 +4,8 @@ ghost use Rattle.std.specs.Prelude.{◌≡◌, ◌<◌, ◌≤◌, ◌+◌, ◌-
 ghost use Rattle.std.specs.Prelude.{slice_index, IfOk};
 ghost use Rattle.bytecode.specs.Instructions.{sample_flow, block_flow};
 ghost use Rattle.verifier.specs.Limits.{path_of, paths_from, longest_path, path_sum};
-ghost use Rattle.verifier_inference.specs.Sections.{instructions_in};
-ghost use Rattle.verifier_inference.specs.Views.{blocks_of};
+ghost use Rattle.verifier.specs.Sections.{instructions_in};
+ghost use Rattle.verifier.specs.Views.{blocks_of};
 
 use bytecode::{BlockInstr, Flow, SampleInstr};
 use std::alloc::{AllocError, Global};

@@ -21,10 +21,10 @@ use Rattle.verdicts.specs.Lines.{LineData, ReportData, line}
 use Rattle.verdicts.specs.declared.line.Counts.{Counts}
 use Rattle.workers_core.specs.declared.job.Job.{Job}
 use Rattle.workers_core.specs.Values.{job_value, rows_over}
-use Rattle.workers_lines.specs.declared.growing_line.GrowingLine.{GrowingLine}
-use Rattle.workers_lines.specs.Taken.{TookIn}
-use Rattle.workers_lines.proofs.CoreLaws.{same-traced}
-use Rattle.workers_lines.proofs.LineLaws.{job-traced}
+use Rattle.workers_single.specs.declared.growing_line.GrowingLine.{GrowingLine}
+use Rattle.workers_single.specs.Taken.{TookIn}
+use Rattle.workers_single.proofs.CoreLaws.{same-traced}
+use Rattle.workers_single.proofs.LineLaws.{job-traced}
 use Rattle.workers_shared.specs.declared.board.Board.{Board}
 use Rattle.workers_shared.specs.Receipts.{shown_by}
 use Rattle.machine_runs.specs.Lines.{attempts_of}
@@ -37,7 +37,7 @@ use Rattle.workers.specs.Between.{IsTold}
 use Rattle.workers.specs.Taking.{Takes}
 use Rattle.workers.specs.Tallied.{count_in, told_by, lines_said}
 use Rattle.workers_core.proofs.CorePartLaws.{get-some, get-mapped}
-use Rattle.workers_lines.proofs.TakenLaws.{some-at}
+use Rattle.workers_single.proofs.TakenLaws.{some-at}
 use Rattle.workers.proofs.Telling.{program-of, some-is, all-at, all-each}
 
 -- a tally, kind by kind

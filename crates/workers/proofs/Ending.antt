@@ -1,4 +1,4 @@
--- The lines behind the last clock.
+-- The lines after the last clock.
 use Rattle.std.proofs.Common.{◌≡◌, ◌+◌, List, ◌++◌, length, Some, refl, sym}
 use Rattle.std.proofs.Common.{subst, arith, length-append}
 use Rattle.std.specs.Prelude.{slice_get}
@@ -12,12 +12,12 @@ use Rattle.machine_runs.specs.Lines.{attempts_of}
 use Rattle.workers_core.specs.declared.job.Job.{Job}
 use Rattle.workers_core.specs.Opening.{monitor_part}
 use Rattle.workers_core.specs.Values.{Says, job_value, rows_over}
-use Rattle.workers_lines.specs.declared.growing_line.GrowingLine.{GrowingLine}
-use Rattle.workers_lines.specs.Taken.{TookIn}
-use Rattle.workers_lines.proofs.RunLaws.{ComesTo, comes-to}
-use Rattle.workers_lines.proofs.RoundLaws.{many-rows}
-use Rattle.workers_lines.proofs.CoreLaws.{same-traced}
-use Rattle.workers_lines.proofs.LineLaws.{job-traced}
+use Rattle.workers_single.specs.declared.growing_line.GrowingLine.{GrowingLine}
+use Rattle.workers_single.specs.Taken.{TookIn}
+use Rattle.workers_single.proofs.RunLaws.{ComesTo, comes-to}
+use Rattle.workers_single.proofs.RoundLaws.{many-rows}
+use Rattle.workers_single.proofs.CoreLaws.{same-traced}
+use Rattle.workers_single.proofs.LineLaws.{job-traced}
 use Rattle.workers_shared.specs.declared.numbered.Numbered.{Numbered}
 use Rattle.workers_shared.specs.Monitors.{IsMonitorAt}
 use Rattle.workers.specs.Between.{clocks_of, IsTold}

@@ -52,10 +52,10 @@ use Rattle.machine_runs.proofs.BoundLaws.{bound}
 use Rattle.workers_core.specs.declared.job.Job.{Job}
 use Rattle.workers_core.specs.Jobs.{sampled}
 use Rattle.workers_core.specs.Values.{JobValue, Says, job_value, rows_over}
-use Rattle.workers_lines.specs.Lines.{AreLinesOf}
+use Rattle.workers_single.specs.Lines.{AreLinesOf}
 use Rattle.workers.specs.Reports.{IsJobReport}
-use Rattle.workers_lines.proofs.CoreLaws.{ForContents, same-traced}
-use Rattle.workers_lines.proofs.LineLaws.{job-traced}
+use Rattle.workers_single.proofs.CoreLaws.{ForContents, same-traced}
+use Rattle.workers_single.proofs.LineLaws.{job-traced}
 
 record Named (o : Option ℕ) (rest : Option Refused) : Type 0 where
   variable : ℕ

@@ -8,8 +8,8 @@ use Rattle.cycle_window.specs.declared.columns.Columns.{Columns}
 use Rattle.cycle_window.specs.declared.window.Window.{Window}
 use Rattle.cycle_window.specs.Held.{columns_in, places_in, size_in, first_in, end_in, IsWindowOf}
 use Rattle.workers_core.specs.declared.job.Job.{Job}
-use Rattle.workers_lines.specs.declared.growing_line.GrowingLine.{GrowingLine}
-use Rattle.workers_lines.proofs.TakenLaws.{some-at}
+use Rattle.workers_single.specs.declared.growing_line.GrowingLine.{GrowingLine}
+use Rattle.workers_single.proofs.TakenLaws.{some-at}
 use Rattle.workers_shared.specs.declared.board.Board.{Board}
 use Rattle.workers_shared.specs.Receipts.{IsReceiptOf, shown_by}
 use Rattle.workers_shared.specs.declared.numbered.Numbered.{Numbered}

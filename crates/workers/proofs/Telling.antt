@@ -22,12 +22,12 @@ use Rattle.workers_core.specs.Opening.{MonitorPart, part_at, monitor_part, parts
 use Rattle.workers_core.specs.Values.{Says, job_value, rows_over}
 use Rattle.workers_core.proofs.RunLaws.{all-up-to}
 use Rattle.workers_core.proofs.CorePartLaws.{get-some, get-mapped}
-use Rattle.workers_lines.specs.declared.growing_line.GrowingLine.{GrowingLine}
-use Rattle.workers_lines.specs.Taken.{TookIn}
-use Rattle.workers_lines.proofs.RunLaws.{runs, accepted-on, accepted-clocks}
-use Rattle.workers_lines.proofs.CoreLaws.{less-traced}
-use Rattle.workers_lines.proofs.LineLaws.{job-traced}
-use Rattle.workers_lines.proofs.TakenLaws.{some-at}
+use Rattle.workers_single.specs.declared.growing_line.GrowingLine.{GrowingLine}
+use Rattle.workers_single.specs.Taken.{TookIn}
+use Rattle.workers_single.proofs.RunLaws.{runs, accepted-on, accepted-clocks}
+use Rattle.workers_single.proofs.CoreLaws.{less-traced}
+use Rattle.workers_single.proofs.LineLaws.{job-traced}
+use Rattle.workers_single.proofs.TakenLaws.{some-at}
 use Rattle.workers_shared.specs.declared.board.Board.{Board}
 use Rattle.workers_shared.specs.Receipts.{shown_by}
 use Rattle.workers_shared.specs.declared.numbered.Numbered.{Numbered}

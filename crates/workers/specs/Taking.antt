@@ -2,12 +2,12 @@
 use Rattle.std.specs.Prelude.{List, ◌++◌}
 use Rattle.signals.specs.declared.verdict.Decided.{Decided}
 use Rattle.workers_core.specs.declared.monitor.Monitor.{Monitor}
-use Rattle.workers_lines.specs.declared.growing_line.GrowingLine.{GrowingLine}
-use Rattle.workers_lines.specs.Taken.{TookIn}
+use Rattle.workers_single.specs.declared.growing_line.GrowingLine.{GrowingLine}
+use Rattle.workers_single.specs.Taken.{TookIn}
 use Rattle.workers_shared.specs.declared.numbered.Numbered.{Numbered}
 use Rattle.workers_rounds.specs.declared.work.Published.{Published}
 
--- the line took in these behind what it had
+-- the line took in these after what it had
 abbrev pub Takes : GrowingLine → List Decided → GrowingLine → Type 0
 Takes old ds new = (before : List Decided) → TookIn old before → TookIn new (before ++ ds)
 

@@ -4,7 +4,7 @@ use Rattle.std.specs.Prelude.{◌≡◌, ℕ, zero, suc, List, [], ◌∷◌}
 use Rattle.std.specs.List.{sum_by}
 use Rattle.verdicts.specs.declared.line.Counts.{Counts}
 use Rattle.verdicts.specs.declared.line.Line.{Line}
-use Rattle.workers_lines.specs.declared.growing_line.GrowingLine.{GrowingLine}
+use Rattle.workers_single.specs.declared.growing_line.GrowingLine.{GrowingLine}
 use Rattle.workers_shared.specs.declared.tally.Share.{Share}
 use Rattle.workers_shared.specs.Shares.{each_capped}
 use Rattle.workers_rounds.specs.declared.round.Member.{Member}

@@ -5,8 +5,8 @@ ghost use Rattle.vcd_reader.specs.Dump.{Contents};
 ghost use Rattle.verdicts.specs.Lines.{line};
 ghost use Rattle.machine_runs.specs.Lines.{IsLineOver, attempts_of};
 ghost use Rattle.workers_core.specs.Values.{Says, job_value, rows_over};
-ghost use Rattle.workers_lines.specs.declared.growing_line.GrowingLine.{GrowingLine};
-ghost use Rattle.workers_lines.specs.Lines.{AreLinesOf};
+ghost use Rattle.workers_single.specs.declared.growing_line.GrowingLine.{GrowingLine};
+ghost use Rattle.workers_single.specs.Lines.{AreLinesOf};
 ghost use Rattle.workers_shared.specs.declared.numbered.Numbered.{Numbered};
 ghost use Rattle.workers_shared.specs.Monitors.{IsMonitorAt};
 ghost use Rattle.workers.specs.Between.{IsTold, clocks_of};
@@ -17,8 +17,8 @@ use std::mem;
 use verdicts::Line;
 use verifier::Verified;
 use workers_core::Job;
-use workers_lines::GrowingLine;
 use workers_shared::Numbered;
+use workers_single::GrowingLine;
 
 /// The line of the program of a number, of what its monitor published and of the attempts that are
 /// still live, as open.

@@ -8,14 +8,14 @@ ghost use Rattle.workers_shared.specs.Hands.{numbers};
 ghost use Rattle.workers.specs.Taking.{monitor_of};
 ghost use Rattle.workers_rounds.specs.Runs.{upto, IsMember};
 ghost use Rattle.workers_rounds.specs.Adding.{added_by};
-ghost use Rattle.workers_lines.specs.declared.growing_line.GrowingLine.{GrowingLine};
-ghost use Rattle.workers_lines.specs.Taken.{TookIn};
+ghost use Rattle.workers_single.specs.declared.growing_line.GrowingLine.{GrowingLine};
+ghost use Rattle.workers_single.specs.Taken.{TookIn};
 
 use std::alloc::{AllocError, Global};
 use workers_core::{Job, Monitor, monitors_of};
-use workers_lines::GrowingLine;
 use workers_rounds::round::Member;
 use workers_shared::{Numbered, Share, Tallying};
+use workers_single::GrowingLine;
 
 /// Monitors with their numbers.
 fn numbered(alloc: Global, monitors: Vec<Monitor>) -> Result<Vec<Numbered>, AllocError>

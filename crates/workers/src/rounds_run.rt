@@ -12,10 +12,10 @@ use std::alloc::{AllocError, Global};
 use std::sync::Wait;
 use std::thread::Threads;
 use workers_core::Job;
-use workers_lines::GrowingLine;
 use workers_rounds::round::{Member, round};
 use workers_rounds::work::Gate;
 use workers_shared::{Board, Numbered, Tally, Tallying};
+use workers_single::GrowingLine;
 
 /// A round: all monitors through the next window. Its batches are gone after it.
 fn run_round<'j, L: Tallying + Send + Sync, G: Gate + Sync, R: Threads + Wait + Sync>(

@@ -4,16 +4,16 @@ ghost use Rattle.std.specs.Prelude.{◌≡◌, ◌+◌, ◌^◌, ◌<◌, ℕ, S
 ghost use Rattle.std.specs.Prelude.{slice_get};
 ghost use Rattle.machine_runs.specs.Lines.{attempts_of};
 ghost use Rattle.workers_shared.specs.Receipts.{IsReceiptOf, shown_by};
-ghost use Rattle.workers_lines.specs.declared.growing_line.GrowingLine.{GrowingLine};
-ghost use Rattle.workers_lines.specs.Taken.{TookIn};
+ghost use Rattle.workers_single.specs.declared.growing_line.GrowingLine.{GrowingLine};
+ghost use Rattle.workers_single.specs.Taken.{TookIn};
 ghost use Rattle.workers_shared.specs.declared.numbered.Numbered.{Numbered};
 ghost use Rattle.workers_rounds.specs.declared.work.Published.{Published};
 ghost use Rattle.workers.specs.Taking.{Takes, numbered_of};
 
 use std::alloc::{AllocError, Global};
-use workers_lines::GrowingLine;
 use workers_rounds::work::Published;
 use workers_shared::{Board, Numbered};
+use workers_single::GrowingLine;
 
 /// Takes the batch of each monitor into the line of its number.
 pub(crate) fn take_round(

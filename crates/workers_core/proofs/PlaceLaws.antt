@@ -1,4 +1,4 @@
--- A monitor's clocks, one behind another.
+-- A monitor's clocks, one after another.
 use Rattle.std.proofs.Common.{
   ◌≡◌,
   ℕ,

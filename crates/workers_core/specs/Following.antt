@@ -25,7 +25,7 @@ pub record IsBatchOf (j : JobValue) (c : Contents) (p : ProgramData) (b : BatchS
   pub within : b.end ≤ length (ticks_of c j.code)
   pub decided : b.decided ≡ batch_of p (rows_over j c p) b.first b.end
 
--- What the monitor of a number has published, and behind it what it has not yet, is all that its
+-- What the monitor of a number has published, and after it what it has not yet, is all that its
 -- program decides at the clocks up to its place. So nothing is lost, or told twice.
 abbrev pub PublishesAll : CoreValue → Contents → ℕ → MonitorState → Type 0
 PublishesAll v c number m =

@@ -19,7 +19,7 @@ monitor_part m = record { program = m.machine.program; from = m.from; to = m.to 
 abbrev pub part_at : ℕ → ProgramData → MonitorPart
 part_at from p = record { program = p; from = from; to = from + length p.signals }
 
--- those of programs, whose signals lie one behind the other in a row
+-- those of programs, whose signals lie one after the other in a row
 abbrev pub parts_from : ℕ → List ProgramData → List MonitorPart
 parts_from from [] = []
 parts_from from (p ∷ ps) = part_at from p ∷ parts_from (from + length p.signals) ps

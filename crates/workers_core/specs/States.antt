@@ -26,7 +26,7 @@ pub record MonitorState : Type 0 where
 abbrev pub place : MonitorState → ℕ
 place m = m.state.standing.now
 
--- the monitor behind further clocks; a trap, which an accepted program never meets, moves nothing
+-- the monitor after further clocks; a trap, which an accepted program never meets, moves nothing
 abbrev pub monitor_moved : MonitorState → Ran Outcome → MonitorState
 monitor_moved m (done o left) = record {
   program = m.program;
@@ -251,7 +251,7 @@ next_gather s = if is_none s.waiting && list_all is_free s.workers then Some (re
   board = s.board;
 }) else None
 
--- the state behind a step, where the step is allowed
+-- the state after a step, where the step is allowed
 abbrev pub next : Setting → CoreState → Step → Option CoreState
 next g s steps.Slide = next_slide g s
 next g s (steps.Claim w) = next_claim s w

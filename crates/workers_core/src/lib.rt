@@ -22,7 +22,7 @@
 //! none), `specs/States.antt` (states, and the next one of each step), `specs/Values.antt` (a core
 //! to its users, and why there is none), `specs/Cores.antt` (how it begins), and
 //! `specs/Following.antt` (what every core has: each monitor in the checked machine's state over
-//! the trace's first rows, and each batch that of its monitor for its clocks). Behind them are
+//! the trace's first rows, and each batch that of its monitor for its clocks). Below them are
 //! `specs/Standing.antt` and `specs/Parts.antt`. Batches are those of `machine_runs`, the checked
 //! machine that of `machine_definition`.
 //!

@@ -18,7 +18,7 @@ use std::mem;
 use verifier::Verified;
 
 /// How many places of a row stay unused at its end: 128 bytes, so that it shares no line of a cache
-/// with the block behind, which another thread may write.
+/// with the block after, which another thread may write.
 const SPARE: usize = 8;
 
 /// A program of a job at work.

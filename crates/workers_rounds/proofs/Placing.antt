@@ -38,9 +38,9 @@ use Rattle.workers_core.specs.Values.{Says, job_value, rows_over}
 use Rattle.workers_core.proofs.CoreLaws.{holds, says-something}
 use Rattle.workers_core.proofs.PartLaws.{IsPlaced, each-placed, each-accepted}
 use Rattle.workers_core.proofs.PlaceLaws.{few-live}
-use Rattle.workers_lines.proofs.RunLaws.{Runs, runs, accepted-on, accepted-clocks}
-use Rattle.workers_lines.proofs.CoreLaws.{less-traced}
-use Rattle.workers_lines.proofs.LineLaws.{job-traced}
+use Rattle.workers_single.proofs.RunLaws.{Runs, runs, accepted-on, accepted-clocks}
+use Rattle.workers_single.proofs.CoreLaws.{less-traced}
+use Rattle.workers_single.proofs.LineLaws.{job-traced}
 use Rattle.workers_shared.specs.declared.numbered.Numbered.{Numbered}
 use Rattle.workers_shared.specs.Monitors.{IsMonitorAt}
 use Rattle.workers_shared.specs.Windows.{IsWindowFor}

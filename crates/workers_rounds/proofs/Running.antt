@@ -118,7 +118,7 @@ module _ {L : Type 0} (bench : Bench) (board : Board) (window : Window) (from : 
       counts : (kind : Verdict → Bool) → published_count kind ps ≡ 0
       counts kind = ap (published_count kind) none
 
-  -- the pass took one more, whose number stands behind the others
+  -- the pass took one more, whose number stands after the others
   took : (pass pass' : Pass Numbered Hand) (x : Numbered) (before after : List ℕ)
       → TakesOne (view pass) x (view pass') → x.number < length bench.job.now.programs.items → from.puts ≡ false
       → view pass ≡ hand from.parts from.puts from.round from.put (from.taken ++ before)

@@ -1,5 +1,5 @@
 use Rattle.std.proofs.Common.{◌-◌, refl}
-use Rattle.verifier_inference.specs.Views.{blocks_of}
+use Rattle.verifier.specs.Views.{blocks_of}
 use Rattle.machine_visits.specs.Records.{made_by}
 use Rattle.machine_visits.proofs.RunLaws.{block-is, block-next, block-end, some_left}
 use Rattle.machine_visits.proofs.block.run_block.Goals as goal

@@ -2,7 +2,7 @@ use Rattle.std.proofs.Common.{◌≡◌, ℕ, ◌+◌, ◌<◌, ◌≤◌, List,
 use Rattle.std.proofs.Math.ListN.{length-map}
 use Rattle.bytecode.specs.declared.block_instr.BlockInstr.{BlockInstr}
 use Rattle.bytecode.specs.Views.{section_data}
-use Rattle.verifier_inference.specs.Views.{blocks_of}
+use Rattle.verifier.specs.Views.{blocks_of}
 use Rattle.machine_definition.specs.Bounds.{EachIn}
 use Rattle.machine_visits.specs.Bases.{base_at}
 use Rattle.machine_visits.specs.Finishes.{Finishes}

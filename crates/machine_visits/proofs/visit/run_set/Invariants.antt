@@ -3,7 +3,7 @@ use Rattle.machine_visits.specs.Records.{made_by}
 use Rattle.machine_visits.proofs.SetLaws.{Goes}
 use Rattle.machine_visits.proofs.visit.run_set.Given as goal
 
--- the run goes on from the position behind those that were visited
+-- the run goes on from the position after those that were visited
 abbrev pub invariant-loop-rest : goal.invariant-loop-rest
 invariant-loop-rest l =
     Goes (section_data l.section) l.atoms l.set l.fn.left l.rest (made_by l.visit) l.left

@@ -6,10 +6,10 @@ use Rattle.bytecode.specs.Programs.{data_of}
 use Rattle.bytecode.specs.Instructions.{frame_of}
 use Rattle.machine_definition.specs.Values.{AreValues}
 use Rattle.machine_samples.specs.Memory.{AreRows}
-use Rattle.machine_decoded.proofs.RowLaws.{read-rows, read-newest}
+use Rattle.machine_samples.proofs.DecodedRowLaws.{read-rows, read-newest}
 use Rattle.trials_machine.proofs.outcome.left_by_steps.Goals as goal
 
--- what is behind the constant
+-- what is after the constant
 whole : (row : List ℕ) → row ≡ 1 ∷ drop 1 row → 1 ∷ (take (length row - 1) (drop 1 row) ++ []) ≡ row
 whole row one =
     ap (λ (l : List ℕ). 1 ∷ l)

@@ -1,10 +1,10 @@
 use Rattle.std.proofs.Common.{inr, Option, sym, ◌∙◌, subst, arith}
 use Rattle.std.proofs.lemmas.List.{length-map}
 use Rattle.std.proofs.lemmas.Result.{err_from_is_err_and}
-use Rattle.verifier_inference.specs.declared.fault.Fault.{Fault}
-use Rattle.verifier_inference.specs.Sections.{section_faults}
-use Rattle.verifier_inference.specs.Scans.{IsFirstOf}
-use Rattle.verifier_inference.specs.Marks.{found_in}
+use Rattle.verifier.specs.declared.fault.Fault.{Fault}
+use Rattle.verifier.specs.Sections.{section_faults}
+use Rattle.verifier.specs.Scans.{IsFirstOf}
+use Rattle.verifier.specs.Marks.{found_in}
 use Rattle.bytecode.specs.Programs.{data_of}
 use Rattle.verifier.proofs.VerifyLaws.{refused_header, room, refused_sample, refused_antecedent}
 use Rattle.verifier.proofs.VerifyLaws.{refused_consequent, no_part}

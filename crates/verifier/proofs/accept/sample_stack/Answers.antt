@@ -2,12 +2,12 @@ use Rattle.std.proofs.Common.{◌≡◌, ◌⊎◌, List, [], IfOk, OnOk, IfErr,
 use Rattle.bytecode.specs.declared.sample_instr.SampleInstr.{SampleInstr}
 use Rattle.bytecode.specs.Instructions.{FrameData}
 use Rattle.bytecode.specs.Programs.{data_of}
-use Rattle.verifier_inference.specs.declared.refusal.Refusal.TheVariants.{Memory}
-use Rattle.verifier_inference.specs.Rules.{sample_rules}
-use Rattle.verifier_inference.specs.Inference.{code_faults}
-use Rattle.verifier_inference.specs.Order.{IsFirstRefusal}
-use Rattle.verifier_inference.specs.Scans.{entry_longest}
-use Rattle.verifier_inference.specs.Views.{frame_data}
+use Rattle.verifier.specs.declared.refusal.Refusal.TheVariants.{Memory}
+use Rattle.verifier.specs.Rules.{sample_rules}
+use Rattle.verifier.specs.Inference.{code_faults}
+use Rattle.verifier.specs.Order.{IsFirstRefusal}
+use Rattle.verifier.specs.Scans.{entry_longest}
+use Rattle.verifier.specs.Views.{frame_data}
 use Rattle.verifier.proofs.accept.sample_stack.Goals as goal
 
 pub returns-clause-ok : goal.returns-clause-ok

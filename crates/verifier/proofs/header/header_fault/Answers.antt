@@ -1,7 +1,7 @@
 use Rattle.std.proofs.Common.{◌≡◌, ℕ, subst, arith, length, ◌++◌}
 use Rattle.std.proofs.lemmas.List.{length-map}
-use Rattle.verifier_inference.specs.declared.field.Field.TheVariants as fields
-use Rattle.verifier_inference.specs.Order.{first_refusal}
+use Rattle.verifier.specs.declared.field.Field.TheVariants as fields
+use Rattle.verifier.specs.Order.{first_refusal}
 use Rattle.verifier.specs.Programs.{over}
 use Rattle.bytecode.specs.Programs.{data_of}
 use Rattle.verifier.proofs.HeaderLaws.{front_0, front_1, front_2, front_3, front_4, front_5}

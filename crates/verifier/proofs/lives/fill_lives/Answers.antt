@@ -2,8 +2,8 @@ use Rattle.std.proofs.Common.{◌≡◌, ◌+◌, ◌-◌, ◌<◌, ◌≤◌, �
 use Rattle.std.proofs.Common.{arith}
 use Rattle.std.proofs.lemmas.List.{length-set}
 use Rattle.bytecode.specs.declared.block_instr.BlockInstr.{BlockInstr}
-use Rattle.verifier_inference.specs.Views.{blocks_of}
-use Rattle.verifier_inference.proofs.SectionLaws.{blocks_at}
+use Rattle.verifier.specs.Views.{blocks_of}
+use Rattle.verifier.proofs.SectionLaws.{blocks_at}
 use Rattle.verifier.proofs.LimitLaws.{lives_step, few_step}
 use Rattle.verifier.proofs.lives.fill_lives.Goals as goal
 

@@ -1,6 +1,6 @@
 use Rattle.std.proofs.Common.{◌≡◌, ◌-◌, ◌≤◌, ℕ, length, drop, slice_index}
 use Rattle.verifier.specs.Limits.{lives_from}
-use Rattle.verifier_inference.specs.Views.{blocks_of}
+use Rattle.verifier.specs.Views.{blocks_of}
 use Rattle.verifier.proofs.lives.fill_lives.Given as goal
 
 abbrev pub invariant-blocks_left : goal.invariant-blocks_left

@@ -1,9 +1,9 @@
 use Rattle.std.proofs.Common.{◌≡◌, ◌+◌, List, ◌∷◌, drop, ap, sym, ◌∙◌, arith}
 use Rattle.bytecode.specs.declared.block_instr.BlockInstr.{BlockInstr}
-use Rattle.verifier_inference.specs.Sections.{instructions_in}
+use Rattle.verifier.specs.Sections.{instructions_in}
 use Rattle.verifier.specs.Limits.{path_sum}
-use Rattle.verifier_inference.specs.Views.{blocks_of}
-use Rattle.verifier_inference.proofs.SectionLaws.{blocks_at}
+use Rattle.verifier.specs.Views.{blocks_of}
+use Rattle.verifier.proofs.SectionLaws.{blocks_at}
 use Rattle.verifier.proofs.paths.path_sum.Goals as goal
 
 pub block_path-requires : goal.block_path-requires

@@ -1,7 +1,7 @@
 use Rattle.std.proofs.Common.{◌≡◌, ◌+◌, ◌≤◌, drop}
-use Rattle.verifier_inference.specs.Sections.{instructions_in}
+use Rattle.verifier.specs.Sections.{instructions_in}
 use Rattle.verifier.specs.Limits.{path_sum}
-use Rattle.verifier_inference.specs.Views.{blocks_of}
+use Rattle.verifier.specs.Views.{blocks_of}
 use Rattle.verifier.proofs.paths.path_sum.Given as goal
 
 abbrev pub invariant-each : goal.invariant-each

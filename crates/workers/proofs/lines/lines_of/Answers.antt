@@ -9,9 +9,9 @@ use Rattle.verdicts.specs.Lines.{LineData, line}
 use Rattle.machine_runs.specs.Lines.{IsLineOver, attempts_of}
 use Rattle.workers_core.specs.Values.{job_value, rows_over}
 use Rattle.workers_core.proofs.CorePartLaws.{get-some}
-use Rattle.workers_lines.specs.declared.growing_line.GrowingLine.{GrowingLine}
-use Rattle.workers_lines.proofs.LineLaws.{line-more}
-use Rattle.workers_lines.proofs.TakenLaws.{each-but}
+use Rattle.workers_single.specs.declared.growing_line.GrowingLine.{GrowingLine}
+use Rattle.workers_single.proofs.LineLaws.{line-more}
+use Rattle.workers_single.proofs.TakenLaws.{each-but}
 use Rattle.workers_shared.specs.declared.numbered.Numbered.{Numbered}
 use Rattle.workers_shared.specs.Monitors.{IsMonitorAt}
 use Rattle.workers.specs.Between.{IsTold, clocks_of}

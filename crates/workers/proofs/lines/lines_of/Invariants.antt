@@ -7,7 +7,7 @@ use Rattle.verdicts.specs.declared.line.Line.{Line}
 use Rattle.verdicts.specs.Lines.{LineData, line}
 use Rattle.machine_runs.specs.Lines.{IsLineOver, attempts_of}
 use Rattle.workers_core.specs.Values.{Says, job_value, rows_over}
-use Rattle.workers_lines.specs.declared.growing_line.GrowingLine.{GrowingLine}
+use Rattle.workers_single.specs.declared.growing_line.GrowingLine.{GrowingLine}
 use Rattle.workers.specs.Between.{IsTold, clocks_of}
 use Rattle.workers.specs.Tallied.{told_by, lines_said}
 use Rattle.workers.proofs.lines.lines_of.Given as goal

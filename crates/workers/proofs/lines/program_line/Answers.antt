@@ -7,7 +7,7 @@ use Rattle.cycle_window.specs.Held.{ticks_in}
 use Rattle.machine_runs.specs.Batches.{batch_of}
 use Rattle.machine_runs.specs.Lines.{line_over, attempts_of}
 use Rattle.workers_core.specs.Values.{job_value, rows_over}
-use Rattle.workers_lines.specs.Taken.{TookIn}
+use Rattle.workers_single.specs.Taken.{TookIn}
 use Rattle.workers_core.specs.declared.monitor.Monitor.{Monitor}
 use Rattle.workers.specs.Between.{clocks_of}
 use Rattle.workers.specs.Tallied.{count_in}

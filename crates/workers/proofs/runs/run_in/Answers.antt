@@ -11,7 +11,7 @@ use Rattle.cycle_window.specs.Held.{ticks_in}
 use Rattle.verdicts.specs.Lines.{LineData, ReportData, report_of}
 use Rattle.verdicts.specs.Shown.{data_of}
 use Rattle.workers_core.specs.Values.{job_value}
-use Rattle.workers_lines.specs.Lines.{AreLinesOf}
+use Rattle.workers_single.specs.Lines.{AreLinesOf}
 use Rattle.workers.specs.Tallied.{shared_by, lines_said}
 use Rattle.workers.proofs.runs.run_in.Goals as goal
 

@@ -7,9 +7,9 @@ use Rattle.signals.specs.declared.verdict.Decided.{Decided}
 use Rattle.machine_runs.specs.declared.batch.Batch.{Batch}
 use Rattle.workers_core.proofs.CorePartLaws.{get-some}
 use Rattle.workers_shared.specs.Receipts.{shown_by}
-use Rattle.workers_lines.specs.declared.growing_line.GrowingLine.{GrowingLine}
-use Rattle.workers_lines.specs.Taken.{TookIn}
-use Rattle.workers_lines.proofs.TakenLaws.{each-but}
+use Rattle.workers_single.specs.declared.growing_line.GrowingLine.{GrowingLine}
+use Rattle.workers_single.specs.Taken.{TookIn}
+use Rattle.workers_single.proofs.TakenLaws.{each-but}
 use Rattle.workers_rounds.specs.declared.work.Published.{Published}
 use Rattle.workers.specs.Taking.{Takes}
 use Rattle.workers.proofs.Telling.{get-other, some-is}

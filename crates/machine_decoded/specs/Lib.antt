@@ -1,4 +1,0 @@
-pub mod Values
-pub mod Decoding
-pub mod Places
-pub mod Decoded

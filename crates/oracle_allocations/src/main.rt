@@ -1,0 +1,63 @@
+//! Makes each call that takes memory twice, and prints what it answers, so that each request for
+//! memory can be refused in turn.
+//!
+//! The gate compares what is printed with `stdout`, which was worked out by hand; then it refuses
+//! each allocation in turn (`scripts/tools/fail_alloc -1`): the line of the call at which it was
+//! refused is `out of memory`, or the right one, and all other lines are the right ones, that of
+//! the same call again among them. A step of a core for which there was no memory is made once more
+//! at once, and is then to succeed.
+//!
+//! ```text
+//! read_dump: 6 steps
+//! read_dump: 6 steps
+//! check_one: svamon 1; clocks 3; monitor r holds 0 vacuous 1 ..
+//! ..
+//! ```
+//!
+//! The calls are `read_dump`, `check_one`, `judge_one`, `build_one`, `run_code`, the steps of a
+//! core, and `run` with two workers. What they answer is said by their contracts, which stand with
+//! their definitions in `vcd_reader`, `cli`, `cli_bytecode`, `workers_core` and `workers`.
+//!
+//! Not promised: that these are all requests that these calls can make.
+#![tactic(auto)]
+
+mod calls;
+mod steps;
+
+use std::alloc::AllocError;
+use std::io;
+use std::io::Print;
+
+/// Prints the line of a call's answer.
+fn show<R: Print>(rt: &R, name: &str, answer: Result<String, AllocError>) -> io::Result<()> {
+    match answer {
+        Ok(line) => println!(rt; "{name}: {line}"),
+        Err(_) => println!(rt; "out of memory"),
+    }
+}
+
+fn main(rt: HostRuntime) -> io::Result<()> {
+    let alloc = rt.alloc();
+    for _ in 0..2 {
+        show(&rt, "read_dump", calls::read(alloc))?;
+    }
+    for _ in 0..2 {
+        show(&rt, "check_one", calls::check(alloc))?;
+    }
+    for _ in 0..2 {
+        show(&rt, "judge_one", calls::judge(alloc))?;
+    }
+    for _ in 0..2 {
+        show(&rt, "build_one", calls::build(&rt))?;
+    }
+    for _ in 0..2 {
+        show(&rt, "run_code", calls::run_program(&rt))?;
+    }
+    for _ in 0..2 {
+        show(&rt, "steps of a core", calls::step(alloc))?;
+    }
+    for _ in 0..2 {
+        show(&rt, "run", calls::run_job(&rt))?;
+    }
+    Ok(())
+}

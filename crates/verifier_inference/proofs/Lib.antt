@@ -1,9 +1,0 @@
-pub mod ArrivalLaws
-pub mod OrderLaws
-pub mod ScanLaws
-pub mod SampleLaws
-pub mod TypingLaws
-pub mod MarkLaws
-pub mod BlockLaws
-pub mod SectionLaws
-pub mod CodeLaws
