@@ -11,8 +11,8 @@ ghost use Rattle.types_suites.specs.Texts.{assertions_of, suite_clock};
 ghost use Rattle.cli_lint.specs.Dumps.{width_named};
 ghost use Rattle.cli_lint.specs.Refused.{IsAccepted, IsRefused, Spells, scope_over, is_one_bit};
 
+use crate::dump_paths::told_path;
 use crate::dump_widths::{DumpWidths, width_in_dump};
-use crate::known::told_path;
 use crate::messages::{lex_refusal, parse_refusal, type_refusal};
 use lexer::{Token, lex};
 use linting::{FrontEnd, Refusal};

@@ -18,10 +18,10 @@
 //! and that a text is compiled: faults of programs (K) aren't told.
 #![tactic(auto)]
 
+mod dump_paths;
 mod dump_widths;
 mod fault;
 mod front;
-mod known;
 mod lint;
 mod messages;
 #[cfg(test)]

@@ -5,9 +5,9 @@ ghost use Rattle.linting.specs.Linted.{IsTold};
 ghost use Rattle.vcd_reader.specs.Held.{variables_of};
 ghost use Rattle.cli_lint.specs.Refused.{IsAccepted, IsRefused};
 
+use crate::dump_paths::names_of;
 use crate::fault::LintFault;
 use crate::front::DumpFront;
-use crate::known::names_of;
 use linting::{Linted, item_ends, lint, push_refusal, push_total};
 use signals::{Sink, Source, write_all};
 use std::alloc::{AllocError, Global};

@@ -3,7 +3,7 @@
 ghost use Rattle.std.specs.Prelude.{◌≡◌, IfOk, Some};
 ghost use Rattle.cli_lint.specs.Refused.{byte_of_lex, byte_of_parse, byte_of_type};
 
-use crate::known::{path_at, told_path};
+use crate::dump_paths::{path_at, told_path};
 use lexer::LexFault;
 use linting::{CODES, MARKS, Refusal, SIGNS, WORDS, hint_at, hint_beside};
 use parser::ParseFault;

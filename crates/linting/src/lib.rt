@@ -33,11 +33,11 @@ mod lint_all;
 mod marks;
 mod names;
 mod place;
+mod refusal_text;
 mod span;
 mod stray;
 #[cfg(test)]
 mod tests;
-mod told;
 
 pub use blank::blanked;
 pub use front::{FrontEnd, Refusal};
@@ -47,5 +47,5 @@ pub use lint_all::{Linted, lint};
 pub use marks::{MARKS, Mark, hint_at};
 pub use names::nearest;
 pub use place::{Place, place_of};
+pub use refusal_text::{push_refusal, push_total};
 pub use span::{Span, span_at};
-pub use told::{push_refusal, push_total};

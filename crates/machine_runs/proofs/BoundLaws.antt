@@ -19,9 +19,8 @@ use Rattle.std.proofs.Common.{
   ap,
   ◌∙◌,
 }
-use Rattle.std.proofs.lemmas.Bool.{eq-eqb}
 use Rattle.std.proofs.lemmas.Bool.Decides.{eqb_tells}
-use Rattle.bytecode.specs.Values.{SlotData, ProgramData}
+use Rattle.bytecode.specs.Values.{SlotData}
 use Rattle.vcd_reader.specs.Variables.{Declared, variable_named, size_of}
 use Rattle.cycle_window.specs.Bound.{
   Wanted,
@@ -31,8 +30,6 @@ use Rattle.cycle_window.specs.Bound.{
   or_refused,
   first_refused,
   places_of,
-  IsClock,
-  HasClock,
 }
 use Rattle.machine_runs.specs.Reported.{AreBound, wanted_slot}
 
@@ -93,10 +90,3 @@ bound vs ss asked ps is are none =
       named = sym (named-places vs ss) ∙ sym places;
       wide = wide vs ss ps places (sym (ap (first_refused vs) is) ∙ none);
     }
-
--- a clock of one bit is there
-pub has-clock : (vs : List Declared) (p : ProgramData) (code : ℕ) → IsClock vs p.header.clock code
-    → HasClock vs p.header.clock
-has-clock vs p code (v, named, bit, is) =
-    ap (λ (o : Option ℕ). misfit vs o 1) named
-    ∙ ap (λ (b : Bool). cond b None (Some OtherWidth)) (eq-eqb (size_of vs v) 1 bit)

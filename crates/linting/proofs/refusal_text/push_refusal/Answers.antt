@@ -2,7 +2,7 @@ use Rattle.std.proofs.Common.{◌∙◌, ℕ, List, ap}
 use Rattle.std.specs.List.{flat_map}
 use Rattle.linting.specs.Told.{below, line_text, refusal_text}
 use Rattle.linting.proofs.Pieces.{and_then, told_as}
-use Rattle.linting.proofs.told.push_refusal.Goals as goal
+use Rattle.linting.proofs.refusal_text.push_refusal.Goals as goal
 
 pub returns : goal.returns
 unfolding refusal_text

@@ -1,7 +1,7 @@
 use Rattle.std.proofs.Common.{string_bytes, take}
 use Rattle.std.specs.List.{flat_map}
 use Rattle.linting.specs.Told.{Grows, below}
-use Rattle.linting.proofs.told.push_below.Given as goal
+use Rattle.linting.proofs.refusal_text.push_below.Given as goal
 
 -- the bytes so far
 abbrev pub invariant-loop-byte : goal.invariant-loop-byte

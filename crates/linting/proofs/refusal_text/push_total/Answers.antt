@@ -1,5 +1,5 @@
 use Rattle.linting.proofs.Pieces.{and_then}
-use Rattle.linting.proofs.told.push_total.Goals as goal
+use Rattle.linting.proofs.refusal_text.push_total.Goals as goal
 
 pub returns : goal.returns
 returns c =

@@ -5,7 +5,7 @@ use Rattle.std.proofs.lemmas.Iterator.Consumers.{nth_from_yields_List}
 use Rattle.std.proofs.lemmas.Iterator.Splits.{YieldsList-from_lines}
 use denote.Bor.{Bor}
 use Rattle.linting.proofs.Pieces.{now-unwrap_or}
-use Rattle.linting.proofs.told.line_of.Goals as goal
+use Rattle.linting.proofs.refusal_text.line_of.Goals as goal
 
 pub returns : goal.returns
 returns c =
