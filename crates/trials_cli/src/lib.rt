@@ -1,9 +1,9 @@
 //! Tests of `cli`: devices that fail, words, and the lines of faults that no small text or dump
 //! brings. What reports say of dumps and texts is a table, that of `oracle_reports`; files of
-//! bytecode are tried in `trials_bytecode`. And tests of compiled assertions: refusals at their borders
-//! (128 booleans, 4,096 instructions, 256 slots, names of 65,535 bytes, 4,096 programs of a job),
-//! programs that are built and run over the same dump, which tell what `check` tells, and monitors
-//! through windows of all sizes.
+//! bytecode are tried in `trials_bytecode`. And tests of compiled assertions: refusals at their
+//! borders (128 booleans, 4,096 instructions, 256 slots, names of 65,535 bytes, 4,096 programs of a
+//! job), programs that are built and run over the same dump, which tell what `check` tells, and
+//! monitors through windows of all sizes.
 //!
 //! They stand above `cli`, so that the gate proves that crate once, and not once more beside its
 //! tests. A test is proved, too, and one that holds a value of many variants over a `?` is dear: it
