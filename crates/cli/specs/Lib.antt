@@ -3,5 +3,6 @@ pub mod Named
 pub mod Programs
 pub mod Reported
 pub mod Timed
+pub mod Explained
 pub mod Outcomes
 pub mod Builds

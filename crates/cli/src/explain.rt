@@ -1,26 +1,56 @@
 //! The call of the command `explain`.
 
-use crate::explained::{Explained, Trace, trace_of};
+ghost use Rattle.std.specs.Prelude.{◌≡◌, ℕ, List, IfOk};
+ghost use Rattle.std.specs.List.{AllZip};
+ghost use Rattle.vcd_reader.specs.Dump.{Contents};
+ghost use Rattle.verdicts.specs.Shown.{data_of};
+ghost use Rattle.cli.specs.Explained.{IsExplanation, choices_from, HasExplained};
+
+use crate::choices::choices_of;
+use crate::explain_text::text_of;
+use crate::explanation::{Explanation, explanations_of};
+use crate::trace::{Trace, trace_of};
 use crate::wanted::Wanted;
 use cli_faults::Fault;
 use signals::{Sink, Source, write_all};
-use std::alloc::Global;
+use std::alloc::{AllocError, Global};
 use vcd_reader::read_dump;
 use verdicts::ReportFault;
 
-/// The explanations of a trace, or N1 where the one assertion that is wanted isn't there.
-fn wanted_of(
+/// N1 where the one assertion that is wanted isn't there.
+fn find_wanted(
     alloc: Global,
     trace: &Trace<'_>,
-    path: &str,
     wanted: &Wanted<'_>,
-) -> Result<Explained, Fault<'static>> {
+) -> Result<(), Fault<'static>> {
     if let Some(only) = wanted.only {
         if !trace.has_assertion(only) {
             return Err(Fault::NoAssertion(String::from_str(alloc, only)?));
         }
     }
-    Ok(trace.explained(alloc, path, wanted)?)
+    Ok(())
+}
+
+/// The explanations of the failed attempts that are wanted.
+pub(crate) fn wanted_of(
+    alloc: Global,
+    trace: &Trace<'_>,
+    wanted: &Wanted<'_>,
+) -> Result<Vec<Explanation>, AllocError>
+    ensures { IfOk result (λ explanations. AllZip
+        (IsExplanation trace.now.suite trace.now.rows)
+        (choices_from wanted.now 0 (data_of trace.now.report).lines) explanations.items) }
+{
+    let choices = choices_of(alloc, wanted, trace.report.lines.as_slice())?;
+    explanations_of(alloc, trace, choices.as_slice())
+}
+
+/// Writes a text, and hands it on.
+fn write_text<W: Sink>(out: &mut W, text: &str) -> Result<(), Fault<'static>> {
+    if write_all(out, text.as_bytes()).is_err() || out.flush().is_err() {
+        return Err(Fault::Report(ReportFault::Write));
+    }
+    Ok(())
 }
 
 /// Explains failed attempts of a text's assertions over the dump that a source gives: why each
@@ -40,12 +70,15 @@ pub fn explain_one<'a, S: Source, W: Sink>(
     path: &str,
     wanted: &Wanted<'_>,
     out: &mut W,
-) -> Result<u64, Fault<'a>> {
+) -> Result<u64, Fault<'a>>
+    ensures explained { IfOk result (HasExplained text.entry.now
+        (S.state source.old) (S.state source.new) wanted.now) }
+{
     let dump = read_dump(alloc, source)?;
     let trace = trace_of(alloc, dump, text)?;
-    let explained = wanted_of(alloc, &trace, path, wanted)?;
-    if write_all(out, explained.text.as_bytes()).is_err() || out.flush().is_err() {
-        return Err(Fault::Report(ReportFault::Write));
-    }
-    Ok(explained.count)
+    find_wanted(alloc, &trace, wanted)?;
+    let explanations = wanted_of(alloc, &trace, wanted)?;
+    let told = text_of(alloc, &trace, path, explanations.as_slice())?;
+    write_text(out, told.as_str())?;
+    Ok(explanations.len() as u64)
 }

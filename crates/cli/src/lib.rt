@@ -7,6 +7,7 @@
 //! let totals = judge_one(alloc, &mut dump, text, &mut out)?;        // the same, by the slow judge
 //! let bytes = build_one(alloc, &mut dump, text, "grant")?;          // an assertion's program
 //! let count = explain_one(alloc, &mut dump, text, "rules.sva", &wanted, &mut out)?;  // failures
+//! let bytes = page_one(alloc, &mut dump, text, paths, 3)?;          // the report as HTML
 //! ```
 //!
 //! Each call answers with the first fault of the first layer that has one, as one `Fault`. A call
@@ -15,7 +16,8 @@
 //!
 //! The definitions: what a report on bytes and a text is in `specs/Reported.antt`, what a run comes
 //! to in `specs/Outcomes.antt`, the times of clocks in `specs/Timed.antt`, what a build comes to
-//! in `specs/Builds.antt`; the report on a suite in `judging_reports`; faults, their lines and
+//! in `specs/Builds.antt`, what is explained in `specs/Explained.antt`; the report on a suite in
+//! `judging_reports`, a page in `report_page`; faults, their lines and
 //! statuses in `cli_faults`.
 //!
 //! Not promised: that memory suffices; of `check_all`, that it returns, and that two workers were
@@ -25,15 +27,19 @@
 mod build;
 mod check;
 mod checked;
+mod choices;
 mod dump_widths;
 mod explain;
-mod explained;
+mod explain_text;
+mod explanation;
 mod heads;
 mod judged;
+mod page;
 mod programs;
 mod text;
 mod timed;
 mod times;
+mod trace;
 mod wanted;
 
 pub use build::build_one;
@@ -42,5 +48,6 @@ pub use cli_faults::{Fault, fault_line, status};
 pub use cli_suites::{Gate, NoGate};
 pub use cli_words::{Request, WordsFault, read_words};
 pub use explain::explain_one;
+pub use page::{Paths, page_one};
 pub use timed::{TimedReport, report_all};
 pub use wanted::Wanted;

@@ -1,7 +1,5 @@
 //! Which failed attempts are explained.
 
-use verdicts::Failure;
-
 /// Which failed attempts are explained: those of one assertion or of all, the one that began at a
 /// clock or all, and of each assertion at most so many.
 #[derive(Clone, Copy)]
@@ -14,22 +12,16 @@ pub struct Wanted<'w> {
 }
 
 impl Wanted<'_> {
+    ghost use Rattle.std.specs.Prelude.{◌≡◌};
+    ghost use Rattle.cli.specs.Explained.{is_wanted};
+
     /// Whether an assertion's failed attempts are explained.
-    pub(crate) fn has_assertion(&self, name: &str) -> bool {
+    pub(crate) fn has_assertion(&self, name: &str) -> bool
+        ensures { result ≡ is_wanted self.now name.now }
+    {
         match self.only {
             None => true,
             Some(only) => only == name,
-        }
-    }
-
-    /// Whether a failed attempt is explained, where so many of its assertion were before.
-    pub(crate) fn has_attempt(&self, failure: &Failure, explained: u64) -> bool {
-        if explained >= self.most {
-            return false;
-        }
-        match self.start {
-            None => true,
-            Some(start) => failure.start == start,
         }
     }
 }

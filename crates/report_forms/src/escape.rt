@@ -49,7 +49,7 @@ fn push_char(text: &mut String, character: char) -> Result<(), AllocError>
 }
 
 /// Adds what stands for a text in the value of an attribute.
-pub(crate) fn push_escaped(text: &mut String, value: &str) -> Result<(), AllocError>
+pub fn push_escaped(text: &mut String, value: &str) -> Result<(), AllocError>
     ensures { OnOk result
         (Grows (string_bytes text.old) (string_bytes text.new) (escaped value.now)) }
 {

@@ -27,7 +27,7 @@ mod junit_form;
 mod pieces;
 mod provenance;
 
-pub use escape::attribute_law;
+pub use escape::{attribute_law, push_escaped};
 pub use json_form::json_report;
 pub use junit_form::junit_report;
 pub use provenance::Provenance;

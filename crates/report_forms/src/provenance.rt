@@ -16,7 +16,7 @@ impl Provenance<'_> {
     ghost use Rattle.report_forms.specs.Provenances.{provenance_of, time_at};
 
     /// The time of a clock, 0 where none is given.
-    pub(crate) fn time(&self, clock: u64) -> u64
+    pub fn time(&self, clock: u64) -> u64
         ensures { result ≡ time_at (provenance_of self.now) clock }
     {
         self.times.get(clock as usize).copied().unwrap_or(0)

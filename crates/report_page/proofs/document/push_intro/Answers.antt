@@ -1,0 +1,12 @@
+use Rattle.report_page.specs.PageForm.{intro_text}
+use Rattle.report_forms.proofs.PieceLaws.{and_then}
+use Rattle.report_page.proofs.document.push_intro.Goals as goal
+
+pub returns : goal.returns
+unfolding intro_text
+returns c =
+    and_then (and_then (and_then (and_then (and_then (and_then (and_then (and_then (and_then (and_then
+    c.in_ok-push_text.ensures c.in_ok-push_escaped.ensures) c.in_ok-push_text-2.ensures)
+    c.in_ok-push_escaped-2.ensures) c.in_ok-push_number.ensures) c.in_ok-push_number-2.ensures)
+    c.in_ok-push_number-3.ensures) c.in_ok-push_number-4.ensures) c.in_ok-push_number-5.ensures)
+    c.in_ok-push_number-6.ensures) c.in_ok-push_text-3.ensures
