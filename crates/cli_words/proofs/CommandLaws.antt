@@ -1,11 +1,16 @@
 -- The subcommand that words name.
 use Rattle.std.proofs.Common.{◌≡◌, ◌∙◌, refl, sym, ap, ap₂, Bool, true, false, not, List, Option, Some, None}
-use Rattle.std.proofs.Common.{option_map}
+use Rattle.std.proofs.Common.{option_map, [], ◌∷◌, ◌++◌, ◌&&◌, arith, length, inl, inr}
+use Rattle.std.proofs.lemmas.Bool.Decides.{eqb_tells}
+use Rattle.std.proofs.lemmas.List.{length_push}
 use Rattle.std.specs.Prelude.{unwrap_or}
+use Rattle.std.specs.Borrow.{Bor}
 use Rattle.std.proofs.lemmas.Option.{none-some}
 use Rattle.clap.proofs.WalkLemmas.{both}
-use Rattle.clap.specs.Words.{AddsArg, AddsSubcommand, App, HasMatchesOf, Row, Rule, Text, app_of, is_simple, rule_of}
+use Rattle.clap.specs.Words.{AddsArg, AddsRequiredUnless, AddsSubcommand, App, HasMatchesOf, Row, Rule, Text}
+use Rattle.clap.specs.Words.{app_of, is_simple, rule_of}
 use Rattle.clap.specs.Words.{subcommand_of, subcommand_name_of, subcommand_rows_of, with_rule, with_subcommand}
+use Rattle.clap.specs.Walk.{is_empty, is_free_arg}
 use Rattle.clap.specs.declared.builder.arg.Arg.{Arg}
 use Rattle.clap.specs.declared.builder.command.Command.{Command}
 use Rattle.clap.specs.declared.parser.matches.ArgMatches.{ArgMatches}
@@ -27,6 +32,40 @@ one_more old sub new a s adds before is plain =
 pub one_option : (old new : Command) (o : Arg) (a : App) (r : Rule) → AddsArg old o new → app_of old ≡ a → rule_of o ≡ r
     → o.global ≡ false → app_of new ≡ with_rule a r
 one_option old new o a r adds before is local = adds.shape local ∙ ap₂ with_rule before is
+
+-- a list with one more is not empty
+one_is_there : (xs : List (Bor Text)) (x : Bor Text) → is_empty (xs ++ x ∷ []) ≡ false
+one_is_there xs x =
+    elim (eqb_tells (length (xs ++ x ∷ [])) 0) [
+      | inl p ↦ absurd (omega (arith, p.1, length_push xs x))
+      | inr q ↦ q.0
+    ]
+
+never : (b x : Bool) → x ≡ false → (b && x) ≡ false
+never true x e = e
+never false x e = refl
+
+-- an option that is required unless another is there
+pub unless_one : (old new : Arg) (other : Bor Text) (r : Rule) → AddsRequiredUnless old new (other ∷ [])
+    → rule_of old ≡ r → rule_of new ≡ record r { is_free = false }
+unless_one old new other r adds before =
+    let some : is_empty new.r_unless.items ≡ false =
+    ap (λ (xs : List (Bor Text)). is_empty xs) adds.1 ∙ one_is_there old.r_unless.items other in
+    let bound : is_free_arg (record old { r_unless = new.r_unless }) ≡ false =
+    never (not old.exclusive) _
+    (never (is_empty old.conflicts.items) _
+    (never (is_empty old.needs.items) _
+    (never (is_empty old.r_ifs.items) _
+    (never (is_empty old.r_ifs_all.items) _
+    (ap (λ (b : Bool). b && is_empty old.r_unless_all.items) some))))) in
+    ap (λ (a : Arg). rule_of a) adds.0
+    ∙ ap (λ (b : Bool). record (rule_of old) { is_free = b }) bound
+    ∙ ap (λ (x : Rule). record x { is_free = false }) before
+
+-- it stays an option of its own command
+pub unless_local : (old new : Arg) (other : Bor Text) → AddsRequiredUnless old new (other ∷ [])
+    → old.global ≡ false → new.global ≡ false
+unless_local old new other adds before = ap (λ (a : Arg). a.global) adds.0 ∙ before
 
 map_map : {A B C : Type 0} (f : A → B) (g : B → C) (o : Option A) → option_map g (option_map f o)
     ≡ option_map (λ a. g (f a)) o

@@ -2,22 +2,35 @@
 -- (options) and subcommands; `subcommand_of` says which subcommand words name, and with which
 -- rows (an option's id, and the values after it or else its defaults).
 use Rattle.std.specs.Prelude.{◌≡◌, ℕ, ◌≤◌, List, [], ◌∷◌, Option, Some, None, Ok, true, codes}
-use Rattle.std.specs.Prelude.{String, string_bytes, Bool, false, ◌||◌, bytes_eq}
+use Rattle.std.specs.Prelude.{String, string_bytes, Bool, false, ◌||◌, bytes_eq, map, unwrap_or}
 use Rattle.std.specs.Global.{Global}
-use Rattle.std.specs.Option.{option_map}
+use Rattle.std.specs.Option.{option_map, option_map_or}
 use Rattle.std.specs.Str.Parse.{ParsesUnsigned}
-use Rattle.clap.specs.Words.{App, Row, Rule, Text, first_of, new_app, new_rule, one_of}
+use Rattle.clap.specs.Words.{App, Row, Rule, Text, all_of, first_of, new_app, new_rule, one_of}
 use Rattle.clap.specs.Words.{subcommand_of, subcommand_rows_of, with_rule, with_subcommand}
 use Rattle.clap.specs.declared.parser.matches.ArgMatches.{ArgMatches}
+use Rattle.clap.specs.declared.builder.action.ArgAction.TheVariants.{Append, SetTrue}
 use Rattle.clap.specs.declared.builder.value_parser.ValueParser.TheVariants.{Unsigned}
 use Rattle.cli_words.specs.declared.request.Request.{Request}
 use Rattle.cli_words.specs.declared.request.Request.TheVariants.{Check, Build, Verify}
 use Rattle.cli_words.specs.declared.request.Request.TheVariants.{Run, Judge, Rules, Upgrade}
-use Rattle.cli_words.specs.declared.request.Request.TheVariants.{Explain, Lint}
+use Rattle.cli_words.specs.declared.request.Request.TheVariants.{Explain, Lint, Names}
 
 -- an option `--name`, of one value
 abbrev pub option_rule : Text → Rule
 option_rule name = record (new_rule name) { long = Some name; value_names = 1 }
+
+-- an option `--name`, without a value
+abbrev pub flag_rule : Text → Rule
+flag_rule name = record (new_rule name) { long = Some name; action = Some SetTrue }
+
+-- an option `--name`, of one value, which may be given again and again
+abbrev pub many_rule : Text → Rule
+many_rule name = record (option_rule name) { action = Some Append }
+
+-- a file of a text, which may be given again and again; whether it has to be hangs on `--axi`
+abbrev pub sva_rule : Rule
+sva_rule = record (many_rule (codes "sva")) { is_free = false }
 
 -- a file, which has to be given
 abbrev pub file_rule : Text → Rule
@@ -60,19 +73,24 @@ start_rule = record (option_rule (codes "start")) {
 abbrev pub most_rule : Rule
 most_rule = number_rule (codes "most") (codes "1") 65536
 
--- a command with an option for the dump, and one for another file
-abbrev pub dump_app : Text → Text → App
-dump_app name other =
-    with_rule (with_rule (new_app name) (file_rule (codes "vcd"))) (file_rule other)
+-- a command with an option for the dump, and another one
+abbrev pub dump_app : Text → Rule → App
+dump_app name other = with_rule (with_rule (new_app name) (file_rule (codes "vcd"))) other
 
--- a command that reads a dump, a text and ports
+-- a command that reads a dump, texts and ports
 abbrev pub text_app : Text → App
-text_app name = with_rule (dump_app name (codes "sva")) axi_rule
+text_app name = with_rule (dump_app name sva_rule) axi_rule
+
+-- with options for the assertions that are judged
+abbrev pub chosen_app : App
+chosen_app =
+    with_rule (with_rule (text_app (codes "check")) (many_rule (codes "only")))
+    (flag_rule (codes "keep-going"))
 
 -- with options for files into which other forms of the report are written
 abbrev pub check_app : App
 check_app =
-    let team = with_rule (with_rule (text_app (codes "check")) workers_rule) window_rule in
+    let team = with_rule (with_rule chosen_app workers_rule) window_rule in
     with_rule (with_rule team (option_rule (codes "junit"))) (option_rule (codes "json"))
 
 abbrev pub build_app : App
@@ -85,7 +103,8 @@ verify_app = with_rule (new_app (codes "verify")) (word_rule (codes "code"))
 
 abbrev pub run_app : App
 run_app =
-    with_rule (with_rule (dump_app (codes "run") (codes "code")) workers_rule) window_rule
+    with_rule (with_rule (dump_app (codes "run") (file_rule (codes "code"))) workers_rule)
+    window_rule
 
 abbrev pub judge_app : App
 judge_app = text_app (codes "judge")
@@ -96,6 +115,11 @@ explain_app =
 
 abbrev pub lint_app : App
 lint_app = text_app (codes "lint")
+
+abbrev pub names_app : App
+names_app =
+    with_rule (with_rule (with_rule (new_app (codes "names")) (file_rule (codes "vcd")))
+    (option_rule (codes "match"))) (option_rule (codes "scope"))
 
 abbrev pub rules_app : App
 rules_app = with_rule (new_app (codes "rules")) (file_rule (codes "axi"))
@@ -124,11 +148,20 @@ svamon_app =
     let first_six = with_subcommand (with_subcommand first_four judge_app.top) rules_app.top in
     let first_eight =
     with_subcommand (with_subcommand first_six upgrade_app.top) explain_app.top in
-    with_subcommand first_eight lint_app.top
+    with_subcommand (with_subcommand first_eight lint_app.top) names_app.top
 
 -- what the rows give for an option, which is there or not
 abbrev pub Gives : Text → List Row → Option (String Global) → Type 0
 Gives name rows given = first_of name rows ≡ option_map string_bytes given
+
+-- the texts that the rows give for an option, which may be none
+abbrev pub GivesAll : Text → List Row → List (String Global) → Type 0
+GivesAll name rows given = map string_bytes given ≡ unwrap_or (all_of name rows) []
+
+-- whether the rows give an option without a value
+abbrev pub GivesFlag : Text → List Row → Bool → Type 0
+GivesFlag name rows given =
+    given ≡ option_map_or (λ t. bytes_eq t (codes "true")) (first_of name rows) false
 
 -- the number from 1 to a limit that the rows give for an option, in decimal digits
 pub record IsNumber (name : Text) (limit : ℕ) (rows : List Row) (number : ℕ) : Type 0 where
@@ -150,11 +183,17 @@ abbrev pub HasTeam : List Row → ℕ → ℕ → Type 0
 HasTeam rows workers window =
     IsNumber (codes "workers") 64 rows workers × IsNumber (codes "window") 65536 rows window
 
--- a dump, a text, and ports if there are any
-abbrev pub HasText : List Row → String Global → String Global → Option (String Global) → Type 0
+-- a dump, texts, and ports if there are any
+abbrev pub HasText : List Row → String Global → List (String Global) → Option (String Global)
+    → Type 0
 HasText rows vcd sva axi =
-    Gives (codes "vcd") rows (Some vcd) × Gives (codes "sva") rows (Some sva)
+    Gives (codes "vcd") rows (Some vcd) × GivesAll (codes "sva") rows sva
     × Gives (codes "axi") rows axi
+
+-- which assertions are judged: those of some names alone, and whether without what is refused
+abbrev pub HasChoice : List Row → List (String Global) → Bool → Type 0
+HasChoice rows only keep_going =
+    GivesAll (codes "only") rows only × GivesFlag (codes "keep-going") rows keep_going
 
 -- an assertion's name, and the file to write
 abbrev pub HasOutput : List Row → String Global → String Global → Type 0
@@ -167,6 +206,13 @@ HasWanted rows only start most =
     Gives (codes "only") rows only × GivesNumber (codes "start") rows start
     × IsNumber (codes "most") 65536 rows most
 
+-- a dump, and which of its names are told: those with a text in them, and in a scope, if any
+abbrev pub HasNames : List Row → String Global → Option (String Global) → Option (String Global)
+    → Type 0
+HasNames rows vcd matching scope =
+    Gives (codes "vcd") rows (Some vcd) × Gives (codes "match") rows matching
+    × Gives (codes "scope") rows scope
+
 -- the files into which other forms of the report are written, if there are any
 abbrev pub HasForms : List Row → Option (String Global) → Option (String Global) → Type 0
 HasForms rows junit json = Gives (codes "junit") rows junit × Gives (codes "json") rows json
@@ -178,28 +224,32 @@ HasProgram rows vcd code =
 
 -- the command that makes such a request
 abbrev pub command_of : Request → Text
-command_of (Check vcd sva axi workers window junit json) = codes "check"
+command_of (Check vcd sva axi only keep_going workers window junit json) = codes "check"
 command_of (Build vcd sva axi name out) = codes "build"
 command_of (Verify code) = codes "verify"
 command_of (Run vcd code workers window) = codes "run"
 command_of (Judge vcd sva axi) = codes "judge"
 command_of (Explain vcd sva axi only start most) = codes "explain"
 command_of (Lint vcd sva axi) = codes "lint"
+command_of (Names vcd matching scope) = codes "names"
 command_of (Rules axi) = codes "rules"
 command_of (Upgrade code out) = codes "upgrade"
 
 -- the request has what the rows of its command give
 abbrev pub IsGiven : List Row → Request → Type 0
-IsGiven rows (Check vcd sva axi workers window junit json) =
-    HasText rows vcd sva axi × HasTeam rows workers window × HasForms rows junit json
-IsGiven rows (Build vcd sva axi name out) = HasText rows vcd sva axi × HasOutput rows name out
+IsGiven rows (Check vcd sva axi only keep_going workers window junit json) =
+    HasText rows vcd sva.items axi × HasChoice rows only.items keep_going
+    × HasTeam rows workers window × HasForms rows junit json
+IsGiven rows (Build vcd sva axi name out) =
+    HasText rows vcd sva.items axi × HasOutput rows name out
 IsGiven rows (Verify code) = Gives (codes "code") rows (Some code)
 IsGiven rows (Run vcd code workers window) =
     HasProgram rows vcd code × HasTeam rows workers window
-IsGiven rows (Judge vcd sva axi) = HasText rows vcd sva axi
+IsGiven rows (Judge vcd sva axi) = HasText rows vcd sva.items axi
 IsGiven rows (Explain vcd sva axi only start most) =
-    HasText rows vcd sva axi × HasWanted rows only start most
-IsGiven rows (Lint vcd sva axi) = HasText rows vcd sva axi
+    HasText rows vcd sva.items axi × HasWanted rows only start most
+IsGiven rows (Lint vcd sva axi) = HasText rows vcd sva.items axi
+IsGiven rows (Names vcd matching scope) = HasNames rows vcd matching scope
 IsGiven rows (Rules axi) = Gives (codes "axi") rows (Some axi)
 IsGiven rows (Upgrade code out) =
     Gives (codes "code") rows (Some code) × Gives (codes "out") rows (Some out)

@@ -4,14 +4,15 @@ ghost use Rattle.std.specs.Prelude.{◌≡◌, Some, IfOk, true, false, codes};
 ghost use Rattle.clap.specs.Words.{App, app_of, rule_of, new_app, with_rule, with_subcommand};
 ghost use Rattle.clap.specs.declared.builder.value_parser.ValueParser.TheVariants.{Unsigned};
 ghost use Rattle.cli_words.specs.Words.{file_rule, word_rule, axi_rule, workers_rule};
-ghost use Rattle.cli_words.specs.Words.{option_rule, window_rule};
+ghost use Rattle.cli_words.specs.Words.{option_rule, flag_rule, many_rule, sva_rule, window_rule};
 ghost use Rattle.cli_words.specs.Words.{text_app, check_app, build_app, verify_app, run_app};
 ghost use Rattle.cli_words.specs.Words.{judge_app, lint_app, rules_app, upgrade_app, first_app};
-ghost use Rattle.cli_words.specs.Words.{explain_app, only_rule, start_rule, most_rule};
+ghost use Rattle.cli_words.specs.Words.{chosen_app};
+ghost use Rattle.cli_words.specs.Words.{explain_app, names_app, only_rule, start_rule, most_rule};
 ghost use Rattle.cli_words.specs.Words.{svamon_app};
 
 use crate::release::VERSION;
-use clap::{Arg, Command, value_parser};
+use clap::{Arg, ArgAction, Command, value_parser};
 use std::alloc::{AllocError, Global};
 
 /// An option with one value that has to be there.
@@ -45,14 +46,57 @@ fn file_word<'a>(alloc: Global, name: &'a str, help: &'a str) -> Arg<'a>
         .help(help)
 }
 
+/// An option with one value that may be left out.
+fn free_option<'a>(alloc: Global, name: &'a str, value: &'a str, help: &'a str) -> Arg<'a>
+    ensures rule { rule_of result ≡ option_rule name.entry.now }
+    ensures local { result.global ≡ false }
+{
+    Arg::new(alloc, name)
+        .long(name)
+        .value_name(value)
+        .help(help)
+}
+
+/// An option with one value that may be left out, and given again and again.
+fn many_option<'a>(alloc: Global, name: &'a str, value: &'a str, help: &'a str) -> Arg<'a>
+    ensures rule { rule_of result ≡ many_rule name.entry.now }
+    ensures local { result.global ≡ false }
+{
+    Arg::new(alloc, name)
+        .long(name)
+        .value_name(value)
+        .action(ArgAction::Append)
+        .help(help)
+}
+
+/// An option without a value.
+fn flag_option<'a>(alloc: Global, name: &'a str, help: &'a str) -> Arg<'a>
+    ensures rule { rule_of result ≡ flag_rule name.entry.now }
+    ensures local { result.global ≡ false }
+{
+    Arg::new(alloc, name)
+        .long(name)
+        .action(ArgAction::SetTrue)
+        .help(help)
+}
+
+/// The option for a file of a text, which may be given again and again, and be left out where there
+/// are ports.
+fn sva_option<'a>(alloc: Global) -> Result<Arg<'a>, AllocError>
+    ensures rule { IfOk result (λ o. rule_of o ≡ sva_rule) }
+    ensures local { IfOk result (λ o. o.global ≡ false) }
+{
+    let help = "The assertions; several texts are joined, in this order";
+    many_option(alloc, "sva", "FILE", help).required_unless_present("axi")
+}
+
 /// The option for a port file, which may be left out.
 fn axi_option<'a>(alloc: Global) -> Arg<'a>
     ensures rule { rule_of result ≡ axi_rule }
     ensures local { result.global ≡ false }
 {
-    Arg::new(alloc, "axi").long("axi").value_name("FILE").help(
-        "A port file, whose ports' rules stand after the assertions",
-    )
+    let help = "A port file, whose ports' rules stand after the assertions";
+    free_option(alloc, "axi", "FILE", help)
 }
 
 /// The option with a number from 1 to 64 as its value.
@@ -98,9 +142,8 @@ fn only_option<'a>(alloc: Global) -> Arg<'a>
     ensures rule { rule_of result ≡ only_rule }
     ensures local { result.global ≡ false }
 {
-    Arg::new(alloc, "only").long("only").value_name("NAME").help(
-        "The assertion whose failures are explained; without it, all are",
-    )
+    let help = "The assertion whose failures are explained; without it, all are";
+    free_option(alloc, "only", "NAME", help)
 }
 
 /// The option for the clock at which an attempt began, which may be left out.
@@ -141,10 +184,7 @@ fn form_option<'a>(alloc: Global, name: &'a str, help: &'a str) -> Arg<'a>
     ensures rule { rule_of result ≡ option_rule name.entry.now }
     ensures local { result.global ≡ false }
 {
-    Arg::new(alloc, name)
-        .long(name)
-        .value_name("FILE")
-        .help(help)
+    free_option(alloc, name, "FILE", help)
 }
 
 /// A command that reads a dump and another file.
@@ -165,30 +205,36 @@ fn dump_command<'a>(
         .arg(file)
 }
 
-/// A command that reads a dump, a text and, if they are named, ports.
+/// A command that reads a dump, texts and, if they are named, ports.
 fn text_command<'a>(alloc: Global, name: &'a str, about: &'a str) -> Result<Command<'a>, AllocError>
     ensures { IfOk result (λ c. app_of c ≡ text_app name.entry.now) }
 {
-    dump_command(
-        alloc,
-        name,
-        about,
-        file_option(alloc, "sva", "The assertions"),
-    )?
-    .arg(axi_option(alloc))
+    let text = sva_option(alloc)?;
+    dump_command(alloc, name, about, text)?.arg(axi_option(alloc))
+}
+
+/// `check`, with what it reads and which assertions it judges.
+fn chosen_command<'a>(alloc: Global) -> Result<Command<'a>, AllocError>
+    ensures { IfOk result (λ c. app_of c ≡ chosen_app) }
+{
+    let about = "Judges assertions over a dump and prints the report";
+    let only = "Judges these assertions alone: * in a name is any run of characters, ? is one";
+    let keep_going = "Tells all that is refused as lint does, and judges the rest";
+    text_command(alloc, "check", about)?
+        .arg(many_option(alloc, "only", "GLOB", only))?
+        .arg(flag_option(alloc, "keep-going", keep_going))
 }
 
 fn check_command<'a>(alloc: Global) -> Result<Command<'a>, AllocError>
     ensures { IfOk result (λ c. app_of c ≡ check_app) }
 {
-    let about = "Judges assertions over a dump and prints the report";
     let junit = form_option(
         alloc,
         "junit",
         "Writes the report into a file, as JUnit's XML",
     );
     let json = form_option(alloc, "json", "Writes the report into a file, as JSON");
-    text_command(alloc, "check", about)?
+    chosen_command(alloc)?
         .arg(workers_option(alloc))?
         .arg(window_option(alloc))?
         .arg(junit)?
@@ -247,6 +293,18 @@ fn lint_command<'a>(alloc: Global) -> Result<Command<'a>, AllocError>
     )
 }
 
+fn names_command<'a>(alloc: Global) -> Result<Command<'a>, AllocError>
+    ensures { IfOk result (λ c. app_of c ≡ names_app) }
+{
+    let matching = "Tells the names that hold this text alone";
+    let scope = "Tells the names of this scope, and of those in it, alone";
+    Command::new(alloc, "names")
+        .about("Tells the names of a dump's variables")
+        .arg(file_option(alloc, "vcd", "The dump, in VCD"))?
+        .arg(free_option(alloc, "match", "TEXT", matching))?
+        .arg(free_option(alloc, "scope", "PATH", scope))
+}
+
 fn rules_command<'a>(alloc: Global) -> Result<Command<'a>, AllocError>
     ensures { IfOk result (λ c. app_of c ≡ rules_app) }
 {
@@ -298,5 +356,6 @@ pub(crate) fn svamon_command<'a>(alloc: Global) -> Result<Command<'a>, AllocErro
     let svamon = with_subcommand(svamon, rules_command(alloc))?;
     let svamon = with_subcommand(svamon, upgrade_command(alloc))?;
     let svamon = with_subcommand(svamon, explain_command(alloc))?;
-    with_subcommand(svamon, lint_command(alloc))
+    let svamon = with_subcommand(svamon, lint_command(alloc))?;
+    with_subcommand(svamon, names_command(alloc))
 }

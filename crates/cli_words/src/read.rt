@@ -1,15 +1,15 @@
 //! From words to a request.
 
-ghost use Rattle.std.specs.Prelude.{IfOk, Some, codes, map};
+ghost use Rattle.std.specs.Prelude.{◌≡◌, IfOk, Some, codes, map, string_bytes};
 ghost use Rattle.clap.specs.Words.{found_of, rows_of};
-ghost use Rattle.cli_words.specs.Words.{Gives, IsNumber, GivesNumber, IsRequest, IsNamed};
-ghost use Rattle.cli_words.specs.Words.{IsAsked};
+ghost use Rattle.cli_words.specs.Words.{Gives, GivesAll, GivesFlag, IsNumber, GivesNumber};
+ghost use Rattle.cli_words.specs.Words.{IsRequest, IsNamed, IsAsked};
 
 use crate::command::svamon_command;
 use crate::fault::WordsFault;
 use crate::request::Request;
 use clap::ArgMatches;
-use std::alloc::Global;
+use std::alloc::{AllocError, Global};
 
 /// The text of an option that may be left out.
 fn option_of(alloc: Global, options: &ArgMatches, name: &str) -> Result<Option<String>, WordsFault>
@@ -28,6 +28,37 @@ fn text_of(alloc: Global, options: &ArgMatches, name: &str) -> Result<String, Wo
     match option_of(alloc, options, name)? {
         Some(text) => Ok(text),
         None => Err(WordsFault::OutOfMemory),
+    }
+}
+
+/// Texts of one's own.
+fn owned(alloc: Global, texts: &[&str]) -> Result<Vec<String>, AllocError>
+    ensures { IfOk result (λ ts. map string_bytes ts.items ≡ map (λ t. t.now) texts.now) }
+{
+    let mut all = Vec::new(alloc);
+    for text in texts {
+        all.push(String::from_str(alloc, *text)?)?;
+    }
+    Ok(all)
+}
+
+/// The texts of an option that may be given again and again.
+fn texts_of(alloc: Global, options: &ArgMatches, name: &str) -> Result<Vec<String>, WordsFault>
+    ensures { IfOk result (λ ts. GivesAll name.now (rows_of (found_of options.now)) ts.items) }
+{
+    match options.get_strs(name) {
+        Some(texts) => Ok(owned(alloc, texts)?),
+        None => Ok(Vec::new(alloc)),
+    }
+}
+
+/// Whether an option without a value is given.
+fn is_given(options: &ArgMatches, name: &str) -> bool
+    ensures { GivesFlag name.now (rows_of (found_of options.now)) result }
+{
+    match options.get_str(name) {
+        Some(text) => text == "true",
+        None => false,
     }
 }
 
@@ -53,8 +84,10 @@ fn check_request(alloc: Global, options: &ArgMatches) -> Result<Request, WordsFa
     let window = number_of(options, "window", 65536)?;
     Ok(Request::Check {
         vcd: text_of(alloc, options, "vcd")?,
-        sva: text_of(alloc, options, "sva")?,
+        sva: texts_of(alloc, options, "sva")?,
         axi: option_of(alloc, options, "axi")?,
+        only: texts_of(alloc, options, "only")?,
+        keep_going: is_given(options, "keep-going"),
         workers,
         window,
         junit: option_of(alloc, options, "junit")?,
@@ -67,7 +100,7 @@ fn build_request(alloc: Global, options: &ArgMatches) -> Result<Request, WordsFa
 {
     Ok(Request::Build {
         vcd: text_of(alloc, options, "vcd")?,
-        sva: text_of(alloc, options, "sva")?,
+        sva: texts_of(alloc, options, "sva")?,
         axi: option_of(alloc, options, "axi")?,
         name: text_of(alloc, options, "name")?,
         out: text_of(alloc, options, "out")?,
@@ -100,7 +133,7 @@ fn judge_request(alloc: Global, options: &ArgMatches) -> Result<Request, WordsFa
 {
     Ok(Request::Judge {
         vcd: text_of(alloc, options, "vcd")?,
-        sva: text_of(alloc, options, "sva")?,
+        sva: texts_of(alloc, options, "sva")?,
         axi: option_of(alloc, options, "axi")?,
     })
 }
@@ -125,7 +158,7 @@ fn explain_request(alloc: Global, options: &ArgMatches) -> Result<Request, Words
     let most = number_of(options, "most", 65536)?;
     Ok(Request::Explain {
         vcd: text_of(alloc, options, "vcd")?,
-        sva: text_of(alloc, options, "sva")?,
+        sva: texts_of(alloc, options, "sva")?,
         axi: option_of(alloc, options, "axi")?,
         only: option_of(alloc, options, "only")?,
         start,
@@ -138,8 +171,18 @@ fn lint_request(alloc: Global, options: &ArgMatches) -> Result<Request, WordsFau
 {
     Ok(Request::Lint {
         vcd: text_of(alloc, options, "vcd")?,
-        sva: text_of(alloc, options, "sva")?,
+        sva: texts_of(alloc, options, "sva")?,
         axi: option_of(alloc, options, "axi")?,
+    })
+}
+
+fn names_request(alloc: Global, options: &ArgMatches) -> Result<Request, WordsFault>
+    ensures { IfOk result (IsRequest (codes "names") (rows_of (found_of options.now))) }
+{
+    Ok(Request::Names {
+        vcd: text_of(alloc, options, "vcd")?,
+        matching: option_of(alloc, options, "match")?,
+        scope: option_of(alloc, options, "scope")?,
     })
 }
 
@@ -175,6 +218,7 @@ fn request_of(alloc: Global, matches: &ArgMatches) -> Result<Request, WordsFault
         Some(("upgrade", options)) => upgrade_request(alloc, options),
         Some(("explain", options)) => explain_request(alloc, options),
         Some(("lint", options)) => lint_request(alloc, options),
+        Some(("names", options)) => names_request(alloc, options),
         _ => Err(WordsFault::OutOfMemory),
     }
 }

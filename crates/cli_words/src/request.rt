@@ -7,9 +7,14 @@ pub enum Request {
     /// clocks.
     Check {
         vcd: String,
-        sva: String,
+        /// The files of the text, in the order in which they are joined.
+        sva: Vec<String>,
         /// A port file: the rules of its ports stand after the text.
         axi: Option<String>,
+        /// Patterns of the names of the assertions that are judged; none where all are.
+        only: Vec<String>,
+        /// Whether what is refused is told, and the rest is judged.
+        keep_going: bool,
         /// From 1 to 64.
         workers: u64,
         /// From 1 to 65,536.
@@ -22,7 +27,8 @@ pub enum Request {
     /// Writes the bytecode of one assertion of a text into a file.
     Build {
         vcd: String,
-        sva: String,
+        /// The files of the text, in the order in which they are joined.
+        sva: Vec<String>,
         /// A port file: the rules of its ports stand after the text.
         axi: Option<String>,
         /// The assertion's name.
@@ -46,14 +52,16 @@ pub enum Request {
     /// Judges the assertions of a text over a dump by the slow judge.
     Judge {
         vcd: String,
-        sva: String,
+        /// The files of the text, in the order in which they are joined.
+        sva: Vec<String>,
         /// A port file: the rules of its ports stand after the text.
         axi: Option<String>,
     },
     /// Explains failed attempts of the assertions of a text over a dump.
     Explain {
         vcd: String,
-        sva: String,
+        /// The files of the text, in the order in which they are joined.
+        sva: Vec<String>,
         /// A port file: the rules of its ports stand after the text.
         axi: Option<String>,
         /// The name of the one assertion that is asked for.
@@ -66,9 +74,18 @@ pub enum Request {
     /// Tells each refusal of the assertions of a text over a dump.
     Lint {
         vcd: String,
-        sva: String,
+        /// The files of the text, in the order in which they are joined.
+        sva: Vec<String>,
         /// A port file: the rules of its ports stand after the text.
         axi: Option<String>,
+    },
+    /// Tells the names of a dump's variables.
+    Names {
+        vcd: String,
+        /// A text that the names that are told hold.
+        matching: Option<String>,
+        /// The scope in which they stand.
+        scope: Option<String>,
     },
     /// Prints the rules of the ports of a port file.
     Rules {

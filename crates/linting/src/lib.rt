@@ -2,7 +2,7 @@
 //! what is refused.
 //!
 //! ```text
-//! let told = lint(alloc, &front, text, &ends)?;            // all refusals, and what is left
+//! let told = lint(alloc, &front, text, &ends)?;            // all refusals, and what is accepted
 //! let place = place_of(text, 52);                          // line 2, column 9
 //! push_refusal(&mut out, "rules.sva", text, 52, message)?; // rules.sva:2:9: .., line and caret
 //! let meant = nearest(alloc, 2, "tb.ful", &names)?;        // the place of `tb.full` among names

@@ -11,8 +11,9 @@ use crate::span::{Span, span_of_item};
 use crate::stray::refused_item;
 use std::alloc::{AllocError, Global};
 
-/// What is told of a text: its refusals, and the text without the items that are refused. That is
-/// none where the text could not be cut at the ends of its items.
+/// What is told of a text: its refusals, and the text without the items that are refused, which is
+/// accepted. That is none where the text could not be cut at the ends of its items, or where what is
+/// left is refused in none of them.
 #[derive(Drop)]
 pub struct Linted {
     pub refusals: Vec<Refusal>,
@@ -64,6 +65,8 @@ pub fn lint<F: FrontEnd>(
         (map (λ r. r.at) l.refusals.items) l.rest) }
     ensures accepted { IfOk result
         (λ l. l.refusals.items ≡ [] → F.accepts front.now text.now) }
+    ensures rest { IfOk result
+        (λ l. IfSome l.rest (λ t. F.accepts front.now (string_bytes t))) }
 {
     let mut refusals = Vec::new(alloc);
     let mut left = String::from_str(alloc, text)?;
@@ -85,7 +88,7 @@ pub fn lint<F: FrontEnd>(
         if !refusals.is_empty() && is_blank(left.as_str(), span) {
             return Ok(Linted {
                 refusals,
-                rest: Some(left),
+                rest: None,
             });
         }
         refusals.push(refusal)?;
@@ -93,6 +96,6 @@ pub fn lint<F: FrontEnd>(
     }
     Ok(Linted {
         refusals,
-        rest: Some(left),
+        rest: None,
     })
 }

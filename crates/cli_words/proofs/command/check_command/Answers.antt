@@ -5,7 +5,7 @@ use Rattle.cli_words.proofs.command.check_command.Goals as goal
 pub returns : goal.returns
 returns c =
     let workers =
-    one_option _ _ _ _ _ c.in_ok-arg.ensures c.in_ok-text_command.ensures c.workers_option.ensures.rule
+    one_option _ _ _ _ _ c.in_ok-arg.ensures c.in_ok-chosen_command.ensures c.workers_option.ensures.rule
     c.workers_option.ensures.local in
     let window =
     one_option _ _ _ _ _ c.in_ok-arg-2.ensures workers c.window_option.ensures.rule c.window_option.ensures.local in

@@ -1,7 +1,7 @@
 use Rattle.std.proofs.Common.{◌∙◌, ap, refl}
 use Rattle.std.proofs.lemmas.Result.{IfOk-weaker}
 use Rattle.clap.specs.Words.{App, with_subcommand}
-use Rattle.cli_words.specs.Words.{run_app, judge_app, rules_app, upgrade_app, explain_app, lint_app}
+use Rattle.cli_words.specs.Words.{run_app, judge_app, rules_app, upgrade_app, explain_app, lint_app, names_app}
 use Rattle.cli_words.proofs.command.svamon_command.Goals as goal
 
 pub returns : goal.returns
@@ -21,5 +21,8 @@ returns c =
     let eight =
     c.in_ok-svamon-6.ensures explain_app c.explain_command.ensures refl
     ∙ ap (λ (a : App). with_subcommand a explain_app.top) seven in
-    IfOk-weaker c.with_subcommand-6.result _ _ (λ r h. h ∙ ap (λ (a : App). with_subcommand a lint_app.top) eight)
-    (c.with_subcommand-6.ensures lint_app c.lint_command.ensures refl)
+    let nine =
+    c.in_ok-svamon-7.ensures lint_app c.lint_command.ensures refl
+    ∙ ap (λ (a : App). with_subcommand a lint_app.top) eight in
+    IfOk-weaker c.with_subcommand-7.result _ _ (λ r h. h ∙ ap (λ (a : App). with_subcommand a names_app.top) nine)
+    (c.with_subcommand-7.ensures names_app c.names_command.ensures refl)

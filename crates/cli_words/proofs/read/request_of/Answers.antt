@@ -84,3 +84,12 @@ returns-in-Some-lint-default c =
     (sym c.subcommand.ensures.name ∙ ap (option_map (λ p. p.0.now)) arm.is ∙ ap (λ (t : List ℕ). Some t) arm.is-lint)
     (sym c.subcommand.ensures.rows ∙ ap (option_map (λ p. rows_of (found_of p.1.now))) arm.is))
     c.lint_request.ensures
+
+pub returns-in-Some-names-default : goal.returns-in-Some-names-default
+returns-in-Some-names-default c =
+    let arm = c.in-Some-names-default in
+    IfOk-weaker c.names_request.result _ _
+    (entered c.args.matches.now (codes "names") (rows_of (found_of arm.options.now))
+    (sym c.subcommand.ensures.name ∙ ap (option_map (λ p. p.0.now)) arm.is ∙ ap (λ (t : List ℕ). Some t) arm.is-names)
+    (sym c.subcommand.ensures.rows ∙ ap (option_map (λ p. rows_of (found_of p.1.now))) arm.is))
+    c.names_request.ensures

@@ -1,0 +1,4 @@
+pub mod Chosen
+pub mod Globs
+pub mod Heads
+pub mod Parts
