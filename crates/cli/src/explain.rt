@@ -12,6 +12,7 @@ use crate::explanation::{Explanation, explanations_of};
 use crate::trace::{Trace, trace_of};
 use crate::wanted::Wanted;
 use cli_faults::Fault;
+use cli_texts::Part;
 use signals::{Sink, Source, write_all};
 use std::alloc::{AllocError, Global};
 use vcd_reader::read_dump;
@@ -54,8 +55,8 @@ fn write_text<W: Sink>(out: &mut W, text: &str) -> Result<(), Fault<'static>> {
 }
 
 /// Explains failed attempts of a text's assertions over the dump that a source gives: why each
-/// failed, with the values that it saw. The text is that of the file `path`, which is named where
-/// an assertion's place is told.
+/// failed, with the values that it saw. The text is that of these files, joined; where an
+/// assertion's place is told, its file is named, and the line of that.
 ///
 /// The answer is how many attempts were explained.
 ///
@@ -67,7 +68,7 @@ pub fn explain_one<'a, S: Source, W: Sink>(
     alloc: Global,
     source: &mut S,
     text: &'a str,
-    path: &str,
+    parts: &[Part],
     wanted: &Wanted<'_>,
     out: &mut W,
 ) -> Result<u64, Fault<'a>>
@@ -78,7 +79,7 @@ pub fn explain_one<'a, S: Source, W: Sink>(
     let trace = trace_of(alloc, dump, text)?;
     find_wanted(alloc, &trace, wanted)?;
     let explanations = wanted_of(alloc, &trace, wanted)?;
-    let told = text_of(alloc, &trace, path, explanations.as_slice())?;
+    let told = text_of(alloc, &trace, parts, explanations.as_slice())?;
     write_text(out, told.as_str())?;
     Ok(explanations.len() as u64)
 }

@@ -1,8 +1,9 @@
 //! Explanations as text.
 
 use crate::explanation::{Explanation, Reason};
-use crate::heads::line_and_column;
+use crate::heads::place_in;
 use crate::trace::Trace;
+use cli_texts::Part;
 use explaining::{Sheet, push_sheet};
 use judging::Cause;
 use std::alloc::{AllocError, Global};
@@ -20,18 +21,21 @@ fn push_clock(
     write!(out, "{word} at clock {clock} (#{time})")
 }
 
-/// Adds the first line of an explanation: the assertion and its place in the text of a path, where
-/// the attempt began and was decided, and how many failed.
+/// Adds the first line of an explanation: the assertion, the file in which it stands and the place
+/// there, where the attempt began and was decided, and how many failed.
 fn push_head(
     out: &mut String,
     trace: &Trace<'_>,
-    path: &str,
+    parts: &[Part],
     place: usize,
     line: &Line,
     failure: &Failure,
 ) -> Result<(), AllocError> {
     let at = trace.heads.places.get(place).copied().unwrap_or(0);
-    let (row, column) = line_and_column(trace.text, at);
+    let stands = place_in(parts, at);
+    let path = stands.path;
+    let row = stands.line;
+    let column = stands.column;
     let name = line.name.as_str();
     write!(out, "FAIL {name}  {path}:{row}:{column}   ")?;
     push_clock(out, trace, "began", failure.start)?;
@@ -99,26 +103,26 @@ fn push_explanation(
     alloc: Global,
     out: &mut String,
     trace: &Trace<'_>,
-    path: &str,
+    parts: &[Part],
     explanation: &Explanation,
 ) -> Result<(), AllocError> {
     let failure = &explanation.failure;
     if let Some(line) = trace.report.lines.get(explanation.place) {
-        push_head(out, trace, path, explanation.place, line, failure)?;
+        push_head(out, trace, parts, explanation.place, line, failure)?;
     }
     push_reason(alloc, out, trace, &explanation.reason, failure.clock)
 }
 
-/// The text of explanations; the assertions' text is that of a path.
+/// The text of explanations; the assertions' text is that of these files, joined.
 pub(crate) fn text_of(
     alloc: Global,
     trace: &Trace<'_>,
-    path: &str,
+    parts: &[Part],
     explanations: &[Explanation],
 ) -> Result<String, AllocError> {
     let mut text = String::new(alloc);
     for explanation in explanations {
-        push_explanation(alloc, &mut text, trace, path, explanation)?;
+        push_explanation(alloc, &mut text, trace, parts, explanation)?;
     }
     Ok(text)
 }

@@ -1,7 +1,7 @@
 //! What explanations take from a text beside its suite: where assertions stand, and what counters
 //! are called.
 
-use cli_faults::Fault;
+use cli_texts::{Part, spot_of};
 use lexer::Token;
 use parser::File;
 use parser_grammar::{AssertionTree, ItemTree};
@@ -37,8 +37,33 @@ pub(crate) fn heads_of<'a>(alloc: Global, file: &File<'a>) -> Result<Heads<'a>, 
     Ok(Heads { places, counters })
 }
 
+/// Where a byte of joined texts stands: the file, and the line and the column there, from 1.
+#[derive(Clone, Copy)]
+pub(crate) struct Standing<'p> {
+    pub path: &'p str,
+    pub line: usize,
+    pub column: usize,
+}
+
+/// Where a byte of the joined texts of these files stands.
+pub(crate) fn place_in(parts: &[Part], at: usize) -> Standing<'_> {
+    let spot = spot_of(parts, at);
+    match parts.get(spot.part) {
+        None => Standing {
+            path: "",
+            line: 1,
+            column: 1,
+        },
+        Some(part) => {
+            let (line, column) = line_and_column(part.text.as_str(), spot.at);
+            let path = part.path.as_str();
+            Standing { path, line, column }
+        }
+    }
+}
+
 /// The line and the column of a byte of a text, both counted from 1.
-pub(crate) fn line_and_column(text: &str, place: usize) -> (usize, usize) {
+fn line_and_column(text: &str, place: usize) -> (usize, usize) {
     let mut line = 1usize;
     let mut column = 1usize;
     for byte in text.as_bytes().iter().take(place) {

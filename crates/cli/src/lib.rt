@@ -4,10 +4,11 @@
 //! let totals = check_one(alloc, &mut dump, text, 1024, &mut out)?;  // the report
 //! let totals = check_all(&rt, alloc, &mut dump, text, 4, 1024, &gate, &mut out)?; // by 4 workers
 //! let timed = report_all(&rt, alloc, &mut dump, text, 4, 1024, &gate)?;  // with its clocks' times
+//! let timed = report_over(&rt, alloc, dump, text, team, size, &gate)?;   // over a dump in memory
 //! let totals = judge_one(alloc, &mut dump, text, &mut out)?;        // the same, by the slow judge
 //! let bytes = build_one(alloc, &mut dump, text, "grant")?;          // an assertion's program
-//! let count = explain_one(alloc, &mut dump, text, "rules.sva", &wanted, &mut out)?;  // failures
-//! let bytes = page_one(alloc, &mut dump, text, paths, 3)?;          // the report as HTML
+//! let count = explain_one(alloc, &mut dump, text, &parts, &wanted, &mut out)?;  // failures
+//! let bytes = page_one(alloc, &mut dump, text, paths, &parts, 3)?;  // the report as HTML
 //! ```
 //!
 //! Each call answers with the first fault of the first layer that has one, as one `Fault`. A call
@@ -49,5 +50,5 @@ pub use cli_suites::{Gate, NoGate};
 pub use cli_words::{Request, WordsFault, read_words};
 pub use explain::explain_one;
 pub use page::{Paths, page_one};
-pub use timed::{TimedReport, report_all};
+pub use timed::{TimedReport, report_all, report_over};
 pub use wanted::Wanted;

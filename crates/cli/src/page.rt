@@ -7,10 +7,11 @@ ghost use Rattle.cli.specs.Explained.{HasPage, IsPageOn};
 
 use crate::explain::wanted_of;
 use crate::explanation::Explanation;
-use crate::heads::line_and_column;
+use crate::heads::place_in;
 use crate::trace::{Trace, trace_of};
 use crate::wanted::Wanted;
 use cli_faults::Fault;
+use cli_texts::Part;
 use report_forms::Provenance;
 use report_page::{Picture, page};
 use signals::Source;
@@ -28,6 +29,7 @@ pub struct Paths<'p> {
 fn push_picture<'p>(
     pictures: &mut Vec<Picture<'p>>,
     trace: &'p Trace<'_>,
+    parts: &'p [Part],
     explanation: &'p Explanation,
 ) -> Result<(), AllocError> {
     let Some(line) = trace.report.lines.get(explanation.place) else {
@@ -42,11 +44,12 @@ fn push_picture<'p>(
         .get(explanation.place)
         .copied()
         .unwrap_or(0);
-    let (row, column) = line_and_column(trace.text, at);
+    let stands = place_in(parts, at);
     pictures.push(Picture {
         name: line.name.as_str(),
-        line: row as u64,
-        column: column as u64,
+        text: stands.path,
+        line: stands.line as u64,
+        column: stands.column as u64,
         failed: line.counts.fails,
         failure: explanation.failure,
         ends: reason.cause.ends.as_slice(),
@@ -61,6 +64,7 @@ fn page_of(
     alloc: Global,
     trace: &Trace<'_>,
     paths: Paths<'_>,
+    parts: &[Part],
     explanations: &[Explanation],
 ) -> Result<Vec<u8>, AllocError>
     ensures { IfOk result (λ bytes. IsPageOn paths trace.now.times.items
@@ -68,7 +72,7 @@ fn page_of(
 {
     let mut pictures = Vec::new(alloc);
     for explanation in explanations {
-        push_picture(&mut pictures, trace, explanation)?;
+        push_picture(&mut pictures, trace, parts, explanation)?;
     }
     let from = Provenance {
         dump: paths.dump,
@@ -79,7 +83,8 @@ fn page_of(
 }
 
 /// The report that [`check_one`](crate::check_one) writes, as a page of HTML; of each assertion as
-/// many failed attempts are shown as `most` says, the first ones.
+/// many failed attempts are shown as `most` says, the first ones. The text is that of these files,
+/// joined.
 ///
 /// # Errors
 ///
@@ -89,6 +94,7 @@ pub fn page_one<'a, S: Source>(
     source: &mut S,
     text: &'a str,
     paths: Paths<'_>,
+    parts: &[Part],
     most: u64,
 ) -> Result<Vec<u8>, Fault<'a>>
     ensures page { IfOk result (λ bytes. HasPage text.entry.now
@@ -102,5 +108,5 @@ pub fn page_one<'a, S: Source>(
         most,
     };
     let explanations = wanted_of(alloc, &trace, &wanted)?;
-    Ok(page_of(alloc, &trace, paths, explanations.as_slice())?)
+    Ok(page_of(alloc, &trace, paths, parts, explanations.as_slice())?)
 }

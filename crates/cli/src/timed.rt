@@ -34,8 +34,13 @@ pub struct TimedReport {
     pub times: Vec<u64>,
 }
 
-/// The report on a text over a dump by a team, and the times.
-fn timed_by_team<'a, G: Gate + Sync, R: Threads + Wait + Sync>(
+/// Makes the report that [`report_all`] makes, over a dump that was read.
+///
+/// # Errors
+///
+/// What is wrong with the text, with its clock, with the first of its assertions that has no
+/// program, and with their number, as for [`report_all`]; and want of memory.
+pub fn report_over<'a, G: Gate + Sync, R: Threads + Wait + Sync>(
     rt: &R,
     alloc: Global,
     dump: Dump,
@@ -80,7 +85,7 @@ fn read_and_report<'a, S: Source, G: Gate + Sync, R: Threads + Wait + Sync>(
         (reading_of text.entry.now (S.state source.old) (S.state source.new))) }
 {
     let dump = read_dump(alloc, source)?;
-    timed_by_team(rt, alloc, dump, text, team, size, gate)
+    report_over(rt, alloc, dump, text, team, size, gate)
 }
 
 /// Makes the report that [`check_all`](crate::check_all) writes, and tells the times of its clocks

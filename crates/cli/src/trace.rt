@@ -23,7 +23,6 @@ use verdicts::Report;
 /// A suite with its text's heads, the rows and the times of its clocks, and the report.
 #[derive(Drop)]
 pub(crate) struct Trace<'a> {
-    pub text: &'a str,
     pub heads: Heads<'a>,
     pub suite: Suite,
     pub rows: Rows,
@@ -62,7 +61,6 @@ pub(crate) fn trace_of<'a>(alloc: Global, dump: Dump, text: &'a str) -> Result<T
     let times = times_of(alloc, &dump, &clocks, rows.signals.len())?;
     match report_by_programs(alloc, dump, clocks, &suite, WindowSize::usual()) {
         Ok(report) => Ok(Trace {
-            text,
             heads,
             suite,
             rows,

@@ -1,7 +1,8 @@
 //! What refuses texts over a dump.
 
-ghost use Rattle.std.specs.Prelude.{◌≡◌, ◌≢◌, Ok, map, IfOk, IfErr};
+ghost use Rattle.std.specs.Prelude.{◌≡◌, ◌⊎◌, Ok, map, IfOk, IfErr};
 ghost use Rattle.std.specs.Prelude.{MatchOption, string_bytes};
+ghost use Rattle.std.specs.List.{list_any};
 ghost use Rattle.lexer.specs.Cutting.{cut_of, tokens_of};
 ghost use Rattle.parser.specs.Faults.{IsParseFault};
 ghost use Rattle.parser_grammar.specs.Views.{items_of};
@@ -10,6 +11,7 @@ ghost use Rattle.types_suites.specs.Faults.{IsFaultless, IsTypeFault};
 ghost use Rattle.types_suites.specs.Texts.{assertions_of, suite_clock};
 ghost use Rattle.cli_lint.specs.Dumps.{width_named};
 ghost use Rattle.cli_lint.specs.Refused.{IsAccepted, IsRefused, Spells, scope_over, is_one_bit};
+ghost use Rattle.cli_lint.specs.Rests.{IsBare, is_verb};
 
 use crate::dump_paths::told_path;
 use crate::dump_widths::{DumpWidths, width_in_dump};
@@ -90,7 +92,7 @@ fn typed(
 ) -> Result<Option<Refusal>, AllocError>
     requires { Spells text.now tokens.now (items_of file.now) }
     ensures { IfOk result (λ r. MatchOption r
-        (text.now ≡ front.now.whole.now → IsAccepted (variables_of front.now.dump.now) text.now)
+        (IsAccepted (variables_of front.now.dump.now) text.now)
         (λ refusal. IsRefused (variables_of front.now.dump.now) text.now refusal.at)) }
 {
     let clock = match typed_over(alloc, front.dump, file) {
@@ -103,12 +105,24 @@ fn typed(
     Ok(Some(unclocked(alloc, front, file, clock.as_str())?))
 }
 
-/// Whether a text has no assertion.
-fn has_no_assertion(fault: ParseFault) -> bool {
+/// Whether all that is wrong with a text is that it has no assertion.
+fn wants_an_assertion(fault: ParseFault) -> bool {
     match fault {
         ParseFault::Expected(what, _) => what == "an assertion",
         _ => false,
     }
+}
+
+/// Whether some token begins an assertion.
+fn has_verb(tokens: &[Token]) -> bool
+    ensures { result ≡ list_any is_verb tokens.now }
+{
+    for token in tokens {
+        if token.text == "assert" || token.text == "assume" {
+            return true;
+        }
+    }
+    false
 }
 
 /// The refusal of a text whose tokens spell no items; none where all its assertions are blanked.
@@ -121,12 +135,14 @@ fn unparsed(
 ) -> Result<Option<Refusal>, AllocError>
     requires cut { tokens_of text.now ≡ Ok (map cut_of tokens.now) }
     requires refused { IsParseFault tokens.now fault }
-    ensures { IfOk result (λ r. MatchOption r (text.now ≢ front.now.whole.now)
+    ensures { IfOk result (λ r. MatchOption r (IsBare front.now.whole.now text.now)
         (λ refusal. IsRefused (variables_of front.now.dump.now) text.now refusal.at)) }
 {
     if text != front.whole {
-        if has_no_assertion(fault) {
-            return Ok(None);
+        if wants_an_assertion(fault) {
+            if !has_verb(tokens) {
+                return Ok(None);
+            }
         }
     }
     Ok(Some(parse_refusal(alloc, text, fault)?))
@@ -141,7 +157,8 @@ fn parsed(
 ) -> Result<Option<Refusal>, AllocError>
     requires { tokens_of text.now ≡ Ok (map cut_of tokens.now) }
     ensures { IfOk result (λ r. MatchOption r
-        (text.now ≡ front.now.whole.now → IsAccepted (variables_of front.now.dump.now) text.now)
+        (IsAccepted (variables_of front.now.dump.now) text.now
+        ⊎ IsBare front.now.whole.now text.now)
         (λ refusal. IsRefused (variables_of front.now.dump.now) text.now refusal.at)) }
 {
     match parse(alloc, tokens) {
@@ -153,7 +170,8 @@ fn parsed(
 /// The first refusal of a text over a dump, if there is one.
 fn refusal_in(alloc: Global, front: &DumpFront, text: &str) -> Result<Option<Refusal>, AllocError>
     ensures { IfOk result (λ r. MatchOption r
-        (text.now ≡ front.now.whole.now → IsAccepted (variables_of front.now.dump.now) text.now)
+        (IsAccepted (variables_of front.now.dump.now) text.now
+        ⊎ IsBare front.now.whole.now text.now)
         (λ refusal. IsRefused (variables_of front.now.dump.now) text.now refusal.at)) }
 {
     match lex(alloc, text) {
@@ -163,8 +181,8 @@ fn refusal_in(alloc: Global, front: &DumpFront, text: &str) -> Result<Option<Ref
 }
 
 impl FrontEnd for DumpFront<'_> {
-    ghost accepts = { λ it text. text ≡ it.whole.now
-        → IsAccepted (variables_of it.dump.now) text };
+    ghost accepts = { λ it text.
+        IsAccepted (variables_of it.dump.now) text ⊎ IsBare it.whole.now text };
 
     ghost refuses = { λ it text at. IsRefused (variables_of it.dump.now) text at };
 

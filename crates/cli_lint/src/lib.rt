@@ -1,18 +1,21 @@
 //! All refusals of a text over a dump: the call of the command `lint`.
 //!
 //! ```text
-//! let refused = lint_one(alloc, &mut dump, text, "rules.sva", &mut out)?;
+//! let refused = lint_one(alloc, &mut dump, text, &parts, &mut out)?;
 //! let told = lint_over(alloc, &dump, &names, text)?;   // told.linted.refusals, told.items
+//! let rest = rest_over(alloc, &dump, text, &origin)?;  // rest.told, and rest.text: what is left
 //! ```
 //!
 //! The text is cut into tokens, read and typed as for a report. What is refused is told, its item
 //! is blanked byte for byte, and the rest is looked at again, so that all refusals stand where the
 //! text has them. `lint_over` promises that each told refusal is one of the text without the items
 //! that were refused before it, at the byte that is told, and that a text of which nothing is told
-//! is accepted.
+//! is accepted; and that what is left is the text without those items, and is accepted, or has no
+//! assertion. So does `rest_over`.
 //!
 //! The definitions: which texts are accepted, and at which byte others are refused, in
-//! `specs/Refused.antt`; what is told of all items, and its text, in `linting`.
+//! `specs/Refused.antt`; what is left of a text in `specs/Rests.antt`; what is told of all items,
+//! and its text, in `linting`.
 //!
 //! Not promised: what a message says after its code, that the text is written without a failure,
 //! and that a text is compiled: faults of programs (K) aren't told.
@@ -28,5 +31,5 @@ mod messages;
 mod tests;
 
 pub use fault::LintFault;
-pub use lint::{Told, lint_one, lint_over};
+pub use lint::{Rest, Told, lint_one, lint_over, rest_over};
 pub use linting::{Linted, Refusal};

@@ -1,37 +1,160 @@
-//! The text of the assertions: that of the file, and after it the rules of ports.
+//! The text of the assertions: those of files, and after them the rules of ports.
 
 use crate::files::{open, read_opened, read_text, text_of};
-use axi4_rules::{joined_text, port_rules};
+use crate::words::slices_of;
+use axi4_rules::port_rules;
 use cli_faults::Fault;
+use cli_texts::{Added, Part, chosen, joined};
+use std::alloc::{AllocError, Global};
 use std::fs::Files;
 
-/// The text of a file, a line feed, and the rules of the ports that another file names: both files
-/// are opened before one is read, and both are read before one is found to be no text.
-fn text_with_rules<R: Files + AllocGlobal>(
-    rt: &R,
-    sva: &str,
-    axi: &str,
-) -> Result<String, Fault<'static>> {
-    let mut text_file = open(rt, sva)?;
-    let mut port_file = open(rt, axi)?;
-    let text = read_opened(rt.alloc(), &mut text_file, sva)?;
-    let ports = read_opened(rt.alloc(), &mut port_file, axi)?;
-    let text = text_of(rt.alloc(), text, sva)?;
-    let ports = text_of(rt.alloc(), ports, axi)?;
-    let rules = port_rules(rt.alloc(), ports.as_str())?;
-    Ok(joined_text(rt.alloc(), text.as_str(), rules.as_str())?)
+/// The text that is judged, and what it was made of.
+#[derive(Drop)]
+pub struct Sources {
+    /// The texts of the files, and the rules of the ports.
+    pub parts: Vec<Part>,
+    /// These as one, or what is left of that.
+    pub text: String,
+    /// What was added to it.
+    pub added: Vec<Added>,
 }
 
-/// The text that is judged: that of the file, and the rules of a port file where there is one.
-pub fn read_assertions<R: Files + AllocGlobal>(
-    rt: &R,
-    sva: &str,
-    axi: Option<&str>,
-) -> Result<String, Fault<'static>> {
-    match axi {
-        None => read_text(rt, sva),
-        Some(axi) => text_with_rules(rt, sva, axi),
+/// Adds one more.
+fn push<T: Drop>(all: &mut Vec<T>, one: T) -> Result<(), AllocError> {
+    all.push(one)?;
+    Ok(())
+}
+
+/// The opened files of some paths.
+fn opened<R: Files + AllocGlobal>(rt: &R, paths: &[&str]) -> Result<Vec<R::File>, Fault<'static>> {
+    let mut files = Vec::new(rt.alloc());
+    for path in paths {
+        push(&mut files, open(rt, *path)?)?;
     }
+    Ok(files)
+}
+
+/// What is in the files of some paths, which are all opened before one is read.
+fn read_all<R: Files + AllocGlobal>(
+    rt: &R,
+    paths: &[&str],
+) -> Result<Vec<Vec<u8>>, Fault<'static>> {
+    let mut files = opened(rt, paths)?;
+    let mut all = Vec::new(rt.alloc());
+    for (file, path) in files.iter_mut().zip(paths.iter()) {
+        push(&mut all, read_opened(rt.alloc(), file, *path)?)?;
+    }
+    Ok(all)
+}
+
+/// The texts of the files of some paths, which are all read before one is found to be no text.
+fn read_texts<R: Files + AllocGlobal>(rt: &R, paths: &[&str]) -> Result<Vec<Part>, Fault<'static>> {
+    let mut parts = Vec::new(rt.alloc());
+    for (bytes, path) in read_all(rt, paths)?.into_iter().zip(paths.iter()) {
+        let text = text_of(rt.alloc(), bytes, *path)?;
+        let path = String::from_str(rt.alloc(), *path)?;
+        push(&mut parts, Part { path, text })?;
+    }
+    Ok(parts)
+}
+
+/// The texts with the rules of the ports of a port file, which is the last of them, in its place.
+fn with_rules(alloc: Global, mut parts: Vec<Part>, axi: &str) -> Result<Vec<Part>, Fault<'static>> {
+    if let Some(ports) = parts.pop() {
+        let text = port_rules(alloc, ports.text.as_str())?;
+        let path = format!(in alloc; "rules of {axi}")?;
+        push(&mut parts, Part { path, text })?;
+    }
+    Ok(parts)
+}
+
+/// The paths of the files of a text, and after them that of a port file where there is one.
+fn paths_of<'a, R: AllocGlobal>(
+    rt: &R,
+    sva: &'a [String],
+    axi: Option<&'a str>,
+) -> Result<Vec<&'a str>, AllocError> {
+    let mut paths = slices_of(rt, sva)?;
+    if let Some(axi) = axi {
+        paths.push(axi)?;
+    }
+    Ok(paths)
+}
+
+/// The texts that are judged: those of the files, and the rules of a port file where there is one.
+fn read_parts<R: Files + AllocGlobal>(
+    rt: &R,
+    sva: &[String],
+    axi: Option<&str>,
+) -> Result<Vec<Part>, Fault<'static>> {
+    let paths = paths_of(rt, sva, axi)?;
+    let parts = read_texts(rt, paths.as_slice())?;
+    match axi {
+        None => Ok(parts),
+        Some(axi) => with_rules(rt.alloc(), parts, axi),
+    }
+}
+
+/// The text that is judged: those of the files, one after another, and after them the rules of a
+/// port file where there is one.
+pub fn read_sources<R: Files + AllocGlobal>(
+    rt: &R,
+    sva: &[String],
+    axi: Option<&str>,
+) -> Result<Sources, Fault<'static>> {
+    let parts = read_parts(rt, sva, axi)?;
+    let text = joined(rt.alloc(), parts.as_slice())?;
+    Ok(Sources {
+        parts,
+        text,
+        added: Vec::new(rt.alloc()),
+    })
+}
+
+/// The text with those assertions alone that one of some patterns means, if there are any; N1 where
+/// a pattern means none.
+fn with_only(alloc: Global, sources: Sources, only: &[String]) -> Result<Sources, Fault<'static>> {
+    let choice = chosen(alloc, sources.text.as_str(), only)?;
+    if let Some(place) = choice.unmatched {
+        if let Some(pattern) = only.get(place) {
+            return Err(Fault::NoAssertion(pattern.clone()?));
+        }
+    }
+    Ok(Sources {
+        parts: sources.parts,
+        text: choice.text,
+        added: choice.added,
+    })
+}
+
+/// The text that is judged, as [`read_sources`] reads it, but with those assertions alone that one
+/// of some patterns means, where there are patterns. N1 where one means no assertion.
+pub fn read_chosen<R: Files + AllocGlobal>(
+    rt: &R,
+    sva: &[String],
+    axi: Option<&str>,
+    only: &[String],
+) -> Result<Sources, Fault<'static>> {
+    let sources = read_sources(rt, sva, axi)?;
+    if only.is_empty() {
+        return Ok(sources);
+    }
+    with_only(rt.alloc(), sources, only)
+}
+
+/// The paths of a text as one: those of its files, a comma between, or else that of its ports.
+pub fn told_paths(alloc: Global, sva: &[String], axi: Option<&str>) -> Result<String, AllocError> {
+    let mut paths = String::new(alloc);
+    for path in sva {
+        if !paths.as_str().is_empty() {
+            paths.push_str(", ")?;
+        }
+        paths.push_str(path.as_str())?;
+    }
+    if sva.is_empty() {
+        paths.push_str(axi.unwrap_or(""))?;
+    }
+    Ok(paths)
 }
 
 /// The rules of the ports that a file names.

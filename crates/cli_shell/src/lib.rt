@@ -5,7 +5,9 @@
 //! let words = words_of(&rt)?;
 //! let request = request_of(&rt, words.as_slice())?;
 //! let dump = open(&rt, "top.vcd")?;
-//! let text = read_assertions(&rt, "rules.sva", Some("ports.txt"))?;
+//! let sources = read_sources(&rt, &paths, Some("ports.txt"))?;        // sources.text, its files
+//! let sources = read_chosen(&rt, &paths, None, &patterns)?;           // some assertions alone
+//! let fault = moved_fault(&sources.added, fault);                     // where the files have it
 //! let status = shown_status(&rt, outcome);
 //! let totals = print_report(&rt, &files, &from, &report)?;    // files in other forms before it
 //! ```
@@ -15,7 +17,8 @@
 //! can't be written.
 //!
 //! The definitions: statuses in `cli_faults/specs/Statuses.antt`, the rules of ports in
-//! `axi4_rules`, what words ask for in `cli_words`, the other forms of a report in `report_forms`.
+//! `axi4_rules`, what words ask for in `cli_words`, joined and chosen texts in `cli_texts`, faults
+//! of these in `specs/Moved.antt`, the other forms of a report in `report_forms`.
 //!
 //! Not promised: what a file holds, and that a line reaches anyone; these are tested
 //! (`docs/TESTED.md`).
@@ -24,14 +27,16 @@
 mod assertions_text;
 mod files;
 mod forms;
+mod moved;
 mod print;
 mod status;
 mod words;
 
-pub use assertions_text::read_assertions;
+pub use assertions_text::{Sources, read_chosen, read_sources, told_paths};
 pub use files::{open, read_bytes, write_bytes};
 pub use forms::{FormFiles, print_report};
+pub use moved::moved_fault;
 pub use print::print_rules;
 pub use report_forms::Provenance;
-pub use status::shown_status;
+pub use status::{shown_lines, shown_status};
 pub use words::{refuse_words, request_of, shown_version, words_of};

@@ -15,6 +15,11 @@ fn report_fault<R: Eprint + AllocGlobal>(rt: &R, fault: &Fault) {
     }
 }
 
+/// Writes lines to standard error; they are lost where that can't be written.
+pub fn shown_lines<R: Eprint>(rt: &R, lines: &str) {
+    let _ = eprint!(rt; "{lines}");
+}
+
 /// The status of an outcome. The line of a fault goes to standard error.
 pub fn shown_status<R: Eprint + AllocGlobal>(rt: &R, outcome: Result<[u64; 5], Fault>) -> u8 {
     if let Err(fault) = &outcome {

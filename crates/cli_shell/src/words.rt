@@ -28,7 +28,10 @@ pub fn refuse_words<R: Eprint + AllocGlobal>(rt: &R, error: &io::Error) -> u8 {
 }
 
 /// The words as slices.
-fn slices_of<'a, R: AllocGlobal>(rt: &R, words: &'a [String]) -> Result<Vec<&'a str>, AllocError> {
+pub(crate) fn slices_of<'a, R: AllocGlobal>(
+    rt: &R,
+    words: &'a [String],
+) -> Result<Vec<&'a str>, AllocError> {
     let mut slices = Vec::new(rt.alloc());
     for word in words {
         slices.push(word.as_str())?;

@@ -1,8 +1,8 @@
 //! The program `svamon`: checks SystemVerilog assertions over recorded waveforms.
 //!
 //! ```text
-//! svamon check --vcd top.vcd --sva rules.sva [--axi ports.txt] [--workers 4] [--window 1024]
-//!     [--junit report.xml] [--json report.json]
+//! svamon check --vcd top.vcd --sva rules.sva [--sva more.sva] [--axi ports.txt] [--only 'req_*']
+//!     [--keep-going] [--workers 4] [--window 1024] [--junit report.xml] [--json report.json]
 //! svamon judge --vcd top.vcd --sva rules.sva [--axi ports.txt]
 //! svamon build --vcd top.vcd --sva rules.sva [--axi ports.txt] --name r --out r.svm
 //! svamon run --vcd top.vcd --code r.svm [--workers 4] [--window 1024]
@@ -29,6 +29,7 @@
 //! commands and each fault.
 #![tactic(auto)]
 
+mod check;
 mod serve;
 
 use std::process::ExitCode;

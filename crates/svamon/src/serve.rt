@@ -1,13 +1,12 @@
 //! The commands, from the words of the command line to the answer.
 
-use cli::{
-    Fault, NoGate, Request, Wanted, build_one, check_all, explain_one, judge_one, report_all,
-};
+use crate::check::{Asked, Team, serve_check};
+use cli::{Fault, NoGate, Request, Wanted, build_one, explain_one, judge_one};
 use cli_bytecode::{run_code, upgrade_code, verify_code};
 use cli_lint::{LintFault, lint_one};
 use cli_shell::{
-    FormFiles, Provenance, open, print_report, print_rules, read_assertions, read_bytes,
-    refuse_words, request_of, shown_status, shown_version, words_of, write_bytes,
+    FormFiles, Sources, open, print_rules, read_bytes, read_sources, refuse_words, request_of,
+    shown_status, shown_version, words_of, write_bytes,
 };
 use signals::Counted;
 use std::env::Env;
@@ -17,102 +16,33 @@ use std::io::{Eprint, Print};
 use std::sync::Wait;
 use std::thread::Threads;
 
-/// By how many workers, and through windows of how many clocks.
-#[derive(Clone, Copy)]
-struct Team {
-    workers: u64,
-    window: u64,
-}
-
-/// Judges a text over a dump by a team, or by the slow judge where there is none; the report goes
-/// to standard output.
-fn judge_text<'a, R: Files + Print + AllocGlobal + Threads + Wait + Sync>(
+/// Judges a text over a dump by the slow judge; the report goes to standard output.
+fn judge_text<'a, R: Files + Print + AllocGlobal>(
     rt: &R,
     dump: R::File,
     text: &'a str,
-    team: Option<Team>,
 ) -> Result<[u64; 5], Fault<'a>> {
     let mut dump = Counted::new(dump);
     let mut out = Counted::new(io::writer(rt));
-    match team {
-        Some(Team { workers, window }) => check_all(
-            rt,
-            rt.alloc(),
-            &mut dump,
-            text,
-            workers,
-            window,
-            &NoGate,
-            &mut out,
-        ),
-        None => judge_one(rt.alloc(), &mut dump, text, &mut out),
-    }
+    judge_one(rt.alloc(), &mut dump, text, &mut out)
 }
 
-/// Opens the dump, then reads the text, and judges it.
-fn serve_text<R: Files + Print + Eprint + AllocGlobal + Threads + Wait + Sync>(
+/// Opens the dump, then reads the text, and judges it by the slow judge.
+fn serve_judge<R: Files + Print + Eprint + AllocGlobal>(
     rt: &R,
     vcd: &str,
-    sva: &str,
+    sva: &[String],
     axi: Option<&str>,
-    team: Option<Team>,
 ) -> u8 {
     let dump = match open(rt, vcd) {
         Ok(dump) => dump,
         Err(fault) => return shown_status(rt, Err(fault)),
     };
-    let text = match read_assertions(rt, sva, axi) {
-        Ok(text) => text,
+    let sources = match read_sources(rt, sva, axi) {
+        Ok(sources) => sources,
         Err(fault) => return shown_status(rt, Err(fault)),
     };
-    shown_status(rt, judge_text(rt, dump, text.as_str(), team))
-}
-
-/// Judges the text of a path over the dump of another by a team; the report goes to files in other
-/// forms, and to standard output.
-fn judge_into_forms<'a, R: Files + Print + AllocGlobal + Threads + Wait + Sync>(
-    rt: &R,
-    dump: R::File,
-    text: &'a str,
-    vcd: &str,
-    sva: &str,
-    team: Team,
-    files: &FormFiles<'_>,
-) -> Result<[u64; 5], Fault<'a>> {
-    let mut dump = Counted::new(dump);
-    let Team { workers, window } = team;
-    let made = report_all(rt, rt.alloc(), &mut dump, text, workers, window, &NoGate)?;
-    let from = Provenance {
-        dump: vcd,
-        text: sva,
-        times: made.times.as_slice(),
-    };
-    print_report(rt, files, &from, &made.report)
-}
-
-/// Opens the dump, then reads the text, and judges it by a team; the report goes to files in other
-/// forms, too, where there are any.
-fn serve_check<R: Files + Print + Eprint + AllocGlobal + Threads + Wait + Sync>(
-    rt: &R,
-    vcd: &str,
-    sva: &str,
-    axi: Option<&str>,
-    team: Team,
-    files: &FormFiles<'_>,
-) -> u8 {
-    if files.is_empty() {
-        return serve_text(rt, vcd, sva, axi, Some(team));
-    }
-    let dump = match open(rt, vcd) {
-        Ok(dump) => dump,
-        Err(fault) => return shown_status(rt, Err(fault)),
-    };
-    let text = match read_assertions(rt, sva, axi) {
-        Ok(text) => text,
-        Err(fault) => return shown_status(rt, Err(fault)),
-    };
-    let outcome = judge_into_forms(rt, dump, text.as_str(), vcd, sva, team, files);
-    shown_status(rt, outcome)
+    shown_status(rt, judge_text(rt, dump, sources.text.as_str()))
 }
 
 /// Explains failed attempts of a text's assertions over a dump; the text goes to standard output.
@@ -120,13 +50,14 @@ fn serve_check<R: Files + Print + Eprint + AllocGlobal + Threads + Wait + Sync>(
 fn explain_text<'a, R: Files + Print + AllocGlobal>(
     rt: &R,
     dump: R::File,
-    text: &'a str,
-    path: &str,
+    sources: &'a Sources,
     wanted: &Wanted<'_>,
 ) -> Result<[u64; 5], Fault<'a>> {
     let mut dump = Counted::new(dump);
     let mut out = Counted::new(io::writer(rt));
-    let explained = explain_one(rt.alloc(), &mut dump, text, path, wanted, &mut out)?;
+    let text = sources.text.as_str();
+    let parts = sources.parts.as_slice();
+    let explained = explain_one(rt.alloc(), &mut dump, text, parts, wanted, &mut out)?;
     Ok([0, 0, explained, 0, 0])
 }
 
@@ -135,7 +66,7 @@ fn explain_text<'a, R: Files + Print + AllocGlobal>(
 fn serve_explain<R: Files + Print + Eprint + AllocGlobal>(
     rt: &R,
     vcd: &str,
-    sva: &str,
+    sva: &[String],
     axi: Option<&str>,
     wanted: &Wanted<'_>,
 ) -> u8 {
@@ -143,11 +74,11 @@ fn serve_explain<R: Files + Print + Eprint + AllocGlobal>(
         Ok(dump) => dump,
         Err(fault) => return shown_status(rt, Err(fault)),
     };
-    let text = match read_assertions(rt, sva, axi) {
-        Ok(text) => text,
+    let sources = match read_sources(rt, sva, axi) {
+        Ok(sources) => sources,
         Err(fault) => return shown_status(rt, Err(fault)),
     };
-    shown_status(rt, explain_text(rt, dump, text.as_str(), sva, wanted))
+    shown_status(rt, explain_text(rt, dump, &sources, wanted))
 }
 
 /// Why nothing is told of a text, as a fault of a command.
@@ -163,12 +94,18 @@ fn lint_fault(fault: LintFault) -> Fault<'static> {
 fn lint_text<R: Files + Print + AllocGlobal>(
     rt: &R,
     dump: R::File,
-    text: &str,
-    path: &str,
+    sources: &Sources,
 ) -> Result<u64, LintFault> {
     let mut dump = Counted::new(dump);
     let mut out = Counted::new(io::writer(rt));
-    lint_one(rt.alloc(), &mut dump, text, path, &mut out)
+    let text = sources.text.as_str();
+    lint_one(
+        rt.alloc(),
+        &mut dump,
+        text,
+        sources.parts.as_slice(),
+        &mut out,
+    )
 }
 
 /// Opens the dump, then reads the text, and tells its refusals: status 2 where one was told, 0
@@ -176,18 +113,18 @@ fn lint_text<R: Files + Print + AllocGlobal>(
 fn serve_lint<R: Files + Print + Eprint + AllocGlobal>(
     rt: &R,
     vcd: &str,
-    sva: &str,
+    sva: &[String],
     axi: Option<&str>,
 ) -> u8 {
     let dump = match open(rt, vcd) {
         Ok(dump) => dump,
         Err(fault) => return shown_status(rt, Err(fault)),
     };
-    let text = match read_assertions(rt, sva, axi) {
-        Ok(text) => text,
+    let sources = match read_sources(rt, sva, axi) {
+        Ok(sources) => sources,
         Err(fault) => return shown_status(rt, Err(fault)),
     };
-    match lint_text(rt, dump, text.as_str(), sva) {
+    match lint_text(rt, dump, &sources) {
         Ok(0) => 0,
         Ok(_) => 2,
         Err(fault) => shown_status(rt, Err(lint_fault(fault))),
@@ -212,7 +149,7 @@ fn build_text<'a, R: Files + AllocGlobal>(
 fn serve_build<R: Files + Eprint + AllocGlobal>(
     rt: &R,
     vcd: &str,
-    sva: &str,
+    sva: &[String],
     axi: Option<&str>,
     name: &str,
     out: &str,
@@ -221,11 +158,11 @@ fn serve_build<R: Files + Eprint + AllocGlobal>(
         Ok(dump) => dump,
         Err(fault) => return shown_status(rt, Err(fault)),
     };
-    let text = match read_assertions(rt, sva, axi) {
-        Ok(text) => text,
+    let sources = match read_sources(rt, sva, axi) {
+        Ok(sources) => sources,
         Err(fault) => return shown_status(rt, Err(fault)),
     };
-    match build_text(rt, dump, text.as_str(), name, out) {
+    match build_text(rt, dump, sources.text.as_str(), name, out) {
         Ok(()) => 0,
         Err(fault) => shown_status(rt, Err(fault)),
     }
@@ -326,6 +263,8 @@ fn serve<R: Files + Print + Eprint + AllocGlobal + Threads + Wait + Sync>(
             vcd,
             sva,
             axi,
+            only,
+            keep_going,
             workers,
             window,
             junit,
@@ -339,7 +278,16 @@ fn serve<R: Files + Print + Eprint + AllocGlobal + Threads + Wait + Sync>(
                 junit: path_of(junit),
                 json: path_of(json),
             };
-            serve_check(rt, vcd.as_str(), sva.as_str(), path_of(axi), team, &files)
+            let asked = Asked {
+                vcd: vcd.as_str(),
+                sva: sva.as_slice(),
+                axi: path_of(axi),
+                only: only.as_slice(),
+                keep_going: *keep_going,
+                team,
+                files,
+            };
+            serve_check(rt, &asked)
         }
         Request::Build {
             vcd,
@@ -350,7 +298,7 @@ fn serve<R: Files + Print + Eprint + AllocGlobal + Threads + Wait + Sync>(
         } => serve_build(
             rt,
             vcd.as_str(),
-            sva.as_str(),
+            sva.as_slice(),
             path_of(axi),
             name.as_str(),
             out.as_str(),
@@ -369,7 +317,7 @@ fn serve<R: Files + Print + Eprint + AllocGlobal + Threads + Wait + Sync>(
             shown_status(rt, run_file(rt, vcd.as_str(), code.as_str(), team))
         }
         Request::Judge { vcd, sva, axi } => {
-            serve_text(rt, vcd.as_str(), sva.as_str(), path_of(axi), None)
+            serve_judge(rt, vcd.as_str(), sva.as_slice(), path_of(axi))
         }
         Request::Explain {
             vcd,
@@ -384,11 +332,12 @@ fn serve<R: Files + Print + Eprint + AllocGlobal + Threads + Wait + Sync>(
                 start: *start,
                 most: *most,
             };
-            serve_explain(rt, vcd.as_str(), sva.as_str(), path_of(axi), &wanted)
+            serve_explain(rt, vcd.as_str(), sva.as_slice(), path_of(axi), &wanted)
         }
         Request::Lint { vcd, sva, axi } => {
-            serve_lint(rt, vcd.as_str(), sva.as_str(), path_of(axi))
+            serve_lint(rt, vcd.as_str(), sva.as_slice(), path_of(axi))
         }
+        Request::Names { .. } => 2,
         Request::Rules { axi } => serve_rules(rt, axi.as_str()),
         Request::Upgrade { code, out } => serve_upgrade(rt, code.as_str(), out.as_str()),
     }

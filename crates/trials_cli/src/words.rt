@@ -11,6 +11,29 @@ fn file_or_none(file: &Option<String>) -> &str {
     }
 }
 
+/// Texts in a line, a comma between.
+fn listed(alloc: Global, texts: &[String]) -> Result<String, AllocError> {
+    let mut line = String::new(alloc);
+    for text in texts {
+        if !line.as_str().is_empty() {
+            line.push_str(",")?;
+        }
+        line.push_str(text.as_str())?;
+    }
+    Ok(line)
+}
+
+/// Files of a text, with those of ports.
+fn texts_of(
+    alloc: Global,
+    vcd: &str,
+    sva: &[String],
+    axi: &Option<String>,
+) -> Result<String, AllocError> {
+    let sva = listed(alloc, sva)?;
+    format!(in alloc; "{vcd} {sva} {}", file_or_none(axi))
+}
+
 /// What is asked for, in a line.
 fn line_of(alloc: Global, request: &Request) -> Result<String, AllocError> {
     match request {
@@ -18,22 +41,38 @@ fn line_of(alloc: Global, request: &Request) -> Result<String, AllocError> {
             vcd,
             sva,
             axi,
+            only,
+            keep_going,
             workers,
             window,
             junit,
             json,
-        } => format!(in alloc;
-            "check {vcd} {sva} {} {workers} {window} {} {}",
-            file_or_none(axi),
-            file_or_none(junit),
-            file_or_none(json)
-        ),
+        } => {
+            let texts = texts_of(alloc, vcd.as_str(), sva.as_slice(), axi)?;
+            let only = listed(alloc, only.as_slice())?;
+            format!(in alloc;
+                "check {texts} {only} {keep_going} {workers} {window} {} {}",
+                file_or_none(junit),
+                file_or_none(json)
+            )
+        }
         Request::Judge { vcd, sva, axi } => {
-            format!(in alloc; "judge {vcd} {sva} {}", file_or_none(axi))
+            let texts = texts_of(alloc, vcd.as_str(), sva.as_slice(), axi)?;
+            format!(in alloc; "judge {texts}")
         }
         Request::Lint { vcd, sva, axi } => {
-            format!(in alloc; "lint {vcd} {sva} {}", file_or_none(axi))
+            let texts = texts_of(alloc, vcd.as_str(), sva.as_slice(), axi)?;
+            format!(in alloc; "lint {texts}")
         }
+        Request::Names {
+            vcd,
+            matching,
+            scope,
+        } => format!(in alloc;
+            "names {vcd} {} {}",
+            file_or_none(matching),
+            file_or_none(scope)
+        ),
         Request::Rules { axi } => format!(in alloc; "rules {axi}"),
         Request::Verify { code } => format!(in alloc; "verify {code}"),
         Request::Build {
@@ -42,7 +81,10 @@ fn line_of(alloc: Global, request: &Request) -> Result<String, AllocError> {
             axi,
             name,
             out,
-        } => format!(in alloc; "build {vcd} {sva} {} {name} {out}", file_or_none(axi)),
+        } => {
+            let texts = texts_of(alloc, vcd.as_str(), sva.as_slice(), axi)?;
+            format!(in alloc; "build {texts} {name} {out}")
+        }
         Request::Run {
             vcd,
             code,
@@ -57,13 +99,15 @@ fn line_of(alloc: Global, request: &Request) -> Result<String, AllocError> {
             only,
             start,
             most,
-        } => format!(in alloc;
-            "explain {vcd} {sva} {} {} {} {} {most}",
-            file_or_none(axi),
-            file_or_none(only),
-            start.is_some(),
-            start.unwrap_or(0)
-        ),
+        } => {
+            let texts = texts_of(alloc, vcd.as_str(), sva.as_slice(), axi)?;
+            format!(in alloc;
+                "explain {texts} {} {} {} {most}",
+                file_or_none(only),
+                start.is_some(),
+                start.unwrap_or(0)
+            )
+        }
     }
 }
 
@@ -88,16 +132,42 @@ fn words_are_read(rt: HostRuntime) -> Result<(), Fail> {
     for (words, wanted) in [
         (
             "svamon check --vcd a.vcd --sva a.sva --window 7 --workers 64",
-            "check a.vcd a.sva none 64 7 none none",
+            "check a.vcd a.sva none  false 64 7 none none",
         ),
         (
             "svamon check --sva a.sva --vcd a.vcd",
-            "check a.vcd a.sva none 4 1024 none none",
+            "check a.vcd a.sva none  false 4 1024 none none",
         ),
         (
             "svamon check --json b --sva a.sva --vcd a.vcd --junit c",
-            "check a.vcd a.sva none 4 1024 c b",
+            "check a.vcd a.sva none  false 4 1024 c b",
         ),
+        (
+            "svamon check --sva b --only x* --vcd a --keep-going --sva c --only ?y --axi p",
+            "check a b,c p x*,?y true 4 1024 none none",
+        ),
+        (
+            "svamon check --vcd a --axi p",
+            "check a  p  false 4 1024 none none",
+        ),
+        ("svamon lint --vcd a --sva b --sva c", "lint a b,c none"),
+        (
+            "svamon build --vcd a --axi p --name r --out s",
+            "build a  p r s",
+        ),
+        ("svamon names --vcd a", "names a none none"),
+        (
+            "svamon names --scope t.u --vcd a --match re",
+            "names a re t.u",
+        ),
+        ("svamon names", "refused 2 true"),
+        ("svamon names --vcd a --match b --match c", "refused 2 true"),
+        ("svamon check --vcd a --sva b --only", "refused 2 true"),
+        (
+            "svamon check --vcd a --sva b --keep-going x",
+            "refused 2 true",
+        ),
+        ("svamon judge --vcd a --sva b --only x", "refused 2 true"),
         (
             "svamon judge --vcd a.vcd --sva a.sva --axi p",
             "judge a.vcd a.sva p",

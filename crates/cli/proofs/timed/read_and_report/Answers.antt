@@ -13,7 +13,7 @@ both (Err e) P Q S f p q = tt
 pub returns-clause-made : goal.returns-clause-made
 returns-clause-made g c =
     let read = c.in_ok-dump.ensures.accepted in
-    both c.timed_by_team.result _ _ _
+    both c.report_over.result _ _ _
     (λ t has times. record {
       bytes = read.1.0;
       gave = read.1.1;
@@ -22,13 +22,13 @@ returns-clause-made g c =
       dump = read.1.2;
       timed = times;
       reads = c.in_ok-dump.ensures.counted;
-    }) (c.timed_by_team.ensures.ok read.0 read.2) (c.timed_by_team.ensures.timed read.0 read.2)
+    }) (c.report_over.ensures.ok read.0 read.2) (c.report_over.ensures.timed read.0 read.2)
 
 pub returns-clause-refused : goal.returns-clause-refused
 returns-clause-refused g c =
     let read = c.in_ok-dump.ensures.accepted in
     let r =
     reading_of c.args.text.now (g.S.Source.state c.args.source.now) (g.S.Source.state c.read_dump.new.source) in
-    IfErr-weaker c.timed_by_team.result _ _
+    IfErr-weaker c.report_over.result _ _
     (refused_check r read.0 read.1 c.in_ok-dump.ensures.counted (record { held = refl; counted = refl }))
-    (c.timed_by_team.ensures.err read.0 read.2)
+    (c.report_over.ensures.err read.0 read.2)

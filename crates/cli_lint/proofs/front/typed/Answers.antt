@@ -11,7 +11,7 @@ returns-in-Err c =
     c.in_ok-type_refusal-in-Err.ensures
 
 pub returns-then-is_clock : goal.returns-then-is_clock
-returns-then-is_clock c = λ whole.
+returns-then-is_clock c =
     let vs = variables_of c.args.front.now.dump.now in
     record {
       tokens = c.args.tokens.now;

@@ -12,7 +12,7 @@ use Rattle.cli.specs.Timed.{AreTimesIn}
 use Rattle.cli.proofs.TimeLaws.{timed}
 use Rattle.cli.proofs.ProgramLaws.{team_rows}
 use Rattle.cli.proofs.CheckedLaws.{has_report, no_report}
-use Rattle.cli.proofs.timed.timed_by_team.Goals as goal
+use Rattle.cli.proofs.timed.report_over.Goals as goal
 
 pub returns-clause-err : goal.returns-clause-err
 returns-clause-err g c = λ k holds.

@@ -1,0 +1,207 @@
+//! The command `check`.
+
+use cli::{Fault, NoGate, check_all, report_all, report_over};
+use cli_lint::{Rest, rest_over};
+use cli_shell::{
+    FormFiles, Provenance, Sources, moved_fault, open, print_report, read_chosen, shown_lines,
+    shown_status, told_paths,
+};
+use cli_texts::{Added, Origin};
+use cycle_window::WindowSize;
+use signals::Counted;
+use std::fs::Files;
+use std::io;
+use std::io::{Eprint, Print};
+use std::sync::Wait;
+use std::thread::Threads;
+use vcd_reader::{Dump, read_dump};
+use workers_core::TeamSize;
+
+/// By how many workers, and through windows of how many clocks.
+#[derive(Clone, Copy)]
+pub struct Team {
+    pub workers: u64,
+    pub window: u64,
+}
+
+/// What is judged, by whom, and where the report goes.
+#[derive(Clone, Copy)]
+pub struct Asked<'a> {
+    pub vcd: &'a str,
+    pub sva: &'a [String],
+    pub axi: Option<&'a str>,
+    /// Patterns of the names of the assertions that are judged; none where all are.
+    pub only: &'a [String],
+    /// Whether what is refused is told, and the rest is judged.
+    pub keep_going: bool,
+    pub team: Team,
+    pub files: FormFiles<'a>,
+}
+
+/// Judges a text over a dump by a team; the report goes to standard output.
+fn judge_by_team<'a, R: Files + Print + AllocGlobal + Threads + Wait + Sync>(
+    rt: &R,
+    dump: R::File,
+    text: &'a str,
+    team: Team,
+) -> Result<[u64; 5], Fault<'a>> {
+    let mut dump = Counted::new(dump);
+    let mut out = Counted::new(io::writer(rt));
+    check_all(
+        rt,
+        rt.alloc(),
+        &mut dump,
+        text,
+        team.workers,
+        team.window,
+        &NoGate,
+        &mut out,
+    )
+}
+
+/// Judges a text over a dump by a team; the report goes to files in other forms, and to standard
+/// output.
+fn judge_into_forms<'a, R: Files + Print + AllocGlobal + Threads + Wait + Sync>(
+    rt: &R,
+    dump: R::File,
+    text: &'a str,
+    asked: &Asked<'_>,
+) -> Result<[u64; 5], Fault<'a>> {
+    let mut dump = Counted::new(dump);
+    let Team { workers, window } = asked.team;
+    let made = report_all(rt, rt.alloc(), &mut dump, text, workers, window, &NoGate)?;
+    let paths = told_paths(rt.alloc(), asked.sva, asked.axi)?;
+    let from = Provenance {
+        dump: asked.vcd,
+        text: paths.as_str(),
+        times: made.times.as_slice(),
+    };
+    print_report(rt, &asked.files, &from, &made.report)
+}
+
+/// Judges what is left of a text over a dump in memory, as [`judge_into_forms`] does.
+fn judge_rest<'a, R: Files + Print + AllocGlobal + Threads + Wait + Sync>(
+    rt: &R,
+    dump: Dump,
+    text: &'a str,
+    asked: &Asked<'_>,
+) -> Result<[u64; 5], Fault<'a>> {
+    let size = WindowSize::new(asked.team.window)?;
+    let Ok(team) = TeamSize::new(asked.team.workers) else {
+        return Err(Fault::BadWorkers);
+    };
+    let made = report_over(rt, rt.alloc(), dump, text, team, size, &NoGate)?;
+    let paths = told_paths(rt.alloc(), asked.sva, asked.axi)?;
+    let from = Provenance {
+        dump: asked.vcd,
+        text: paths.as_str(),
+        times: made.times.as_slice(),
+    };
+    print_report(rt, &asked.files, &from, &made.report)
+}
+
+/// The status of an outcome; the line of a fault goes to standard error, with the byte that it has
+/// in the files.
+fn shown<R: Eprint + AllocGlobal>(
+    rt: &R,
+    added: &[Added],
+    outcome: Result<[u64; 5], Fault<'_>>,
+) -> u8 {
+    match outcome {
+        Ok(totals) => shown_status(rt, Ok(totals)),
+        Err(fault) => shown_status(rt, Err(moved_fault(added, fault))),
+    }
+}
+
+/// The status where some items were refused, which were told, and the rest was judged. That no
+/// assertion was left is not told: all that were there were refused.
+fn shown_after_refusals<R: Eprint + AllocGlobal>(
+    rt: &R,
+    added: &[Added],
+    outcome: Result<[u64; 5], Fault<'_>>,
+) -> u8 {
+    match outcome {
+        Ok(_) | Err(Fault::Parse(_)) => 2,
+        Err(fault) => shown_status(rt, Err(moved_fault(added, fault))),
+    }
+}
+
+/// Judges what is left of a text over a dump in memory, and answers the status.
+fn serve_rest<R: Files + Print + Eprint + AllocGlobal + Threads + Wait + Sync>(
+    rt: &R,
+    dump: Dump,
+    rest: &Rest,
+    added: &[Added],
+    asked: &Asked<'_>,
+) -> u8 {
+    let Some(text) = &rest.text else {
+        return 2;
+    };
+    let outcome = judge_rest(rt, dump, text.as_str(), asked);
+    if rest.refused == 0 {
+        return shown(rt, added, outcome);
+    }
+    shown_after_refusals(rt, added, outcome)
+}
+
+/// Tells all that is refused of a text over a dump in memory, and judges the rest: status 2 where
+/// something was refused.
+fn serve_going<R: Files + Print + Eprint + AllocGlobal + Threads + Wait + Sync>(
+    rt: &R,
+    dump: Dump,
+    sources: &Sources,
+    asked: &Asked<'_>,
+) -> u8 {
+    let origin = Origin {
+        parts: sources.parts.as_slice(),
+        added: sources.added.as_slice(),
+    };
+    match rest_over(rt.alloc(), &dump, sources.text.as_str(), &origin) {
+        Ok(rest) => {
+            if rest.refused > 0 {
+                shown_lines(rt, rest.told.as_str());
+            }
+            serve_rest(rt, dump, &rest, origin.added, asked)
+        }
+        Err(_) => shown_status(rt, Err(Fault::Memory)),
+    }
+}
+
+/// Judges a text over a dump, and answers the status.
+fn serve_whole<R: Files + Print + Eprint + AllocGlobal + Threads + Wait + Sync>(
+    rt: &R,
+    dump: R::File,
+    sources: &Sources,
+    asked: &Asked<'_>,
+) -> u8 {
+    let text = sources.text.as_str();
+    let outcome = if asked.files.is_empty() {
+        judge_by_team(rt, dump, text, asked.team)
+    } else {
+        judge_into_forms(rt, dump, text, asked)
+    };
+    shown(rt, sources.added.as_slice(), outcome)
+}
+
+/// Opens the dump, then reads the text, and judges it, or what is left of it where what is refused
+/// is to be told and left out.
+pub fn serve_check<R: Files + Print + Eprint + AllocGlobal + Threads + Wait + Sync>(
+    rt: &R,
+    asked: &Asked<'_>,
+) -> u8 {
+    let dump = match open(rt, asked.vcd) {
+        Ok(dump) => dump,
+        Err(fault) => return shown_status(rt, Err(fault)),
+    };
+    let sources = match read_chosen(rt, asked.sva, asked.axi, asked.only) {
+        Ok(sources) => sources,
+        Err(fault) => return shown_status(rt, Err(fault)),
+    };
+    if !asked.keep_going {
+        return serve_whole(rt, dump, &sources, asked);
+    }
+    match read_dump(rt.alloc(), &mut Counted::new(dump)) {
+        Ok(dump) => serve_going(rt, dump, &sources, asked),
+        Err(fault) => shown_status(rt, Err(Fault::from(fault))),
+    }
+}
