@@ -3,7 +3,7 @@
 use crate::explanation::{Explanation, Reason};
 use crate::heads::place_in;
 use crate::trace::Trace;
-use cli_texts::Part;
+use cli_texts::{Part, spot_of};
 use explaining::{Sheet, push_sheet};
 use judging::Cause;
 use std::alloc::{AllocError, Global};
@@ -32,7 +32,7 @@ fn push_head(
     failure: &Failure,
 ) -> Result<(), AllocError> {
     let at = trace.heads.places.get(place).copied().unwrap_or(0);
-    let stands = place_in(parts, at);
+    let stands = place_in(parts, spot_of(parts, at));
     let path = stands.path;
     let row = stands.line;
     let column = stands.column;

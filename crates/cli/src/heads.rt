@@ -1,7 +1,7 @@
 //! What explanations take from a text beside its suite: where assertions stand, and what counters
 //! are called.
 
-use cli_texts::{Part, spot_of};
+use cli_texts::{Part, Spot};
 use lexer::Token;
 use parser::File;
 use parser_grammar::{AssertionTree, ItemTree};
@@ -45,9 +45,8 @@ pub(crate) struct Standing<'p> {
     pub column: usize,
 }
 
-/// Where a byte of the joined texts of these files stands.
-pub(crate) fn place_in(parts: &[Part], at: usize) -> Standing<'_> {
-    let spot = spot_of(parts, at);
+/// Where a spot of these files stands.
+pub(crate) fn place_in(parts: &[Part], spot: Spot) -> Standing<'_> {
     match parts.get(spot.part) {
         None => Standing {
             path: "",

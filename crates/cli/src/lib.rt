@@ -8,7 +8,7 @@
 //! let totals = judge_one(alloc, &mut dump, text, &mut out)?;        // the same, by the slow judge
 //! let bytes = build_one(alloc, &mut dump, text, "grant")?;          // an assertion's program
 //! let count = explain_one(alloc, &mut dump, text, &parts, &wanted, &mut out)?;  // failures
-//! let bytes = page_one(alloc, &mut dump, text, paths, &parts, 3)?;  // the report as HTML
+//! let bytes = page_one(alloc, &mut dump, text, paths, &origin, 3)?;  // the report as HTML
 //! ```
 //!
 //! Each call answers with the first fault of the first layer that has one, as one `Fault`. A call

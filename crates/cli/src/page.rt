@@ -11,7 +11,7 @@ use crate::heads::place_in;
 use crate::trace::{Trace, trace_of};
 use crate::wanted::Wanted;
 use cli_faults::Fault;
-use cli_texts::Part;
+use cli_texts::{Origin, spot_in};
 use report_forms::Provenance;
 use report_page::{Picture, page};
 use signals::Source;
@@ -29,7 +29,7 @@ pub struct Paths<'p> {
 fn push_picture<'p>(
     pictures: &mut Vec<Picture<'p>>,
     trace: &'p Trace<'_>,
-    parts: &'p [Part],
+    origin: &'p Origin<'p>,
     explanation: &'p Explanation,
 ) -> Result<(), AllocError> {
     let Some(line) = trace.report.lines.get(explanation.place) else {
@@ -44,7 +44,7 @@ fn push_picture<'p>(
         .get(explanation.place)
         .copied()
         .unwrap_or(0);
-    let stands = place_in(parts, at);
+    let stands = place_in(origin.parts, spot_in(origin, at));
     pictures.push(Picture {
         name: line.name.as_str(),
         text: stands.path,
@@ -64,7 +64,7 @@ fn page_of(
     alloc: Global,
     trace: &Trace<'_>,
     paths: Paths<'_>,
-    parts: &[Part],
+    origin: &Origin<'_>,
     explanations: &[Explanation],
 ) -> Result<Vec<u8>, AllocError>
     ensures { IfOk result (λ bytes. IsPageOn paths trace.now.times.items
@@ -72,7 +72,7 @@ fn page_of(
 {
     let mut pictures = Vec::new(alloc);
     for explanation in explanations {
-        push_picture(&mut pictures, trace, parts, explanation)?;
+        push_picture(&mut pictures, trace, origin, explanation)?;
     }
     let from = Provenance {
         dump: paths.dump,
@@ -83,8 +83,8 @@ fn page_of(
 }
 
 /// The report that [`check_one`](crate::check_one) writes, as a page of HTML; of each assertion as
-/// many failed attempts are shown as `most` says, the first ones. The text is that of these files,
-/// joined.
+/// many failed attempts are shown as `most` says, the first ones. `origin` tells from which files
+/// the text was made.
 ///
 /// # Errors
 ///
@@ -94,7 +94,7 @@ pub fn page_one<'a, S: Source>(
     source: &mut S,
     text: &'a str,
     paths: Paths<'_>,
-    parts: &[Part],
+    origin: &Origin<'_>,
     most: u64,
 ) -> Result<Vec<u8>, Fault<'a>>
     ensures page { IfOk result (λ bytes. HasPage text.entry.now
@@ -108,5 +108,5 @@ pub fn page_one<'a, S: Source>(
         most,
     };
     let explanations = wanted_of(alloc, &trace, &wanted)?;
-    Ok(page_of(alloc, &trace, paths, parts, explanations.as_slice())?)
+    Ok(page_of(alloc, &trace, paths, origin, explanations.as_slice())?)
 }

@@ -91,7 +91,9 @@ chosen_app =
 abbrev pub check_app : App
 check_app =
     let team = with_rule (with_rule chosen_app workers_rule) window_rule in
-    with_rule (with_rule team (option_rule (codes "junit"))) (option_rule (codes "json"))
+    with_rule
+    (with_rule (with_rule team (option_rule (codes "junit"))) (option_rule (codes "json")))
+    (option_rule (codes "html"))
 
 abbrev pub build_app : App
 build_app =
@@ -214,8 +216,11 @@ HasNames rows vcd matching scope =
     × Gives (codes "scope") rows scope
 
 -- the files into which other forms of the report are written, if there are any
-abbrev pub HasForms : List Row → Option (String Global) → Option (String Global) → Type 0
-HasForms rows junit json = Gives (codes "junit") rows junit × Gives (codes "json") rows json
+abbrev pub HasForms : List Row → Option (String Global) → Option (String Global)
+    → Option (String Global) → Type 0
+HasForms rows junit json html =
+    Gives (codes "junit") rows junit × Gives (codes "json") rows json
+    × Gives (codes "html") rows html
 
 -- a dump, and a program to run over it
 abbrev pub HasProgram : List Row → String Global → String Global → Type 0
@@ -224,7 +229,7 @@ HasProgram rows vcd code =
 
 -- the command that makes such a request
 abbrev pub command_of : Request → Text
-command_of (Check vcd sva axi only keep_going workers window junit json) = codes "check"
+command_of (Check vcd sva axi only keep_going workers window junit json html) = codes "check"
 command_of (Build vcd sva axi name out) = codes "build"
 command_of (Verify code) = codes "verify"
 command_of (Run vcd code workers window) = codes "run"
@@ -237,9 +242,9 @@ command_of (Upgrade code out) = codes "upgrade"
 
 -- the request has what the rows of its command give
 abbrev pub IsGiven : List Row → Request → Type 0
-IsGiven rows (Check vcd sva axi only keep_going workers window junit json) =
+IsGiven rows (Check vcd sva axi only keep_going workers window junit json html) =
     HasText rows vcd sva.items axi × HasChoice rows only.items keep_going
-    × HasTeam rows workers window × HasForms rows junit json
+    × HasTeam rows workers window × HasForms rows junit json html
 IsGiven rows (Build vcd sva axi name out) =
     HasText rows vcd sva.items axi × HasOutput rows name out
 IsGiven rows (Verify code) = Gives (codes "code") rows (Some code)

@@ -234,11 +234,17 @@ fn check_command<'a>(alloc: Global) -> Result<Command<'a>, AllocError>
         "Writes the report into a file, as JUnit's XML",
     );
     let json = form_option(alloc, "json", "Writes the report into a file, as JSON");
+    let html = form_option(
+        alloc,
+        "html",
+        "Writes the report into a file, as a page of HTML",
+    );
     chosen_command(alloc)?
         .arg(workers_option(alloc))?
         .arg(window_option(alloc))?
         .arg(junit)?
-        .arg(json)
+        .arg(json)?
+        .arg(html)
 }
 
 fn build_command<'a>(alloc: Global) -> Result<Command<'a>, AllocError>

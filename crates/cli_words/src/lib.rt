@@ -2,7 +2,7 @@
 //!
 //! ```text
 //! match read_words(alloc, &["svamon", "check", "--vcd", "top.vcd", "--sva", "rules.sva"]) {
-//!     Ok(Request::Check { vcd, sva, axi, only, keep_going, workers, window, junit, json }) => ..,
+//!     Ok(Request::Check { vcd, sva, axi, only, keep_going, workers, window, .. }) => ..,
 //!     Ok(Request::Build { vcd, sva, axi, name, out }) => ..,
 //!     Ok(Request::Verify { code }) => ..,
 //!     Ok(Request::Run { vcd, code, workers, window }) => ..,
@@ -21,12 +21,12 @@
 //! (`subcommand_of`, for a command written out in `specs/Words.antt`): the command that is named,
 //! and for each of its options the value after it or else its default; the file of `verify` and
 //! that of `upgrade` is a word alone. `--axi` may be left out where a text is read, as may
-//! `--junit` and `--json` of `check` and both options of `names` but the dump, which gives None.
-//! `--sva`, and `--only` of `check`, may be given again and again. The contract of `read_words`
-//! says that a request is that command with those values, in their order, that there are 1 to 64
-//! workers, that a window has from 1 to 65,536 clocks, and that so many attempts are explained at
-//! most. Words of which `asks_for_version` holds are answered with `VERSION`, and ask for nothing
-//! else. Not promised: which words are refused, and with what text; tests show that.
+//! `--junit`, `--json` and `--html` of `check` and both options of `names` but the dump, which
+//! gives None. `--sva`, and `--only` of `check`, may be given again and again. The contract of
+//! `read_words` says that a request is that command with those values, in their order, that there
+//! are 1 to 64 workers, that a window has from 1 to 65,536 clocks, and that so many attempts are
+//! explained at most. Words of which `asks_for_version` holds are answered with `VERSION`, and ask
+//! for nothing else. Not promised: which words are refused, and with what text; tests show that.
 #![tactic(auto)]
 
 mod command;

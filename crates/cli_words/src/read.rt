@@ -92,6 +92,7 @@ fn check_request(alloc: Global, options: &ArgMatches) -> Result<Request, WordsFa
         window,
         junit: option_of(alloc, options, "junit")?,
         json: option_of(alloc, options, "json")?,
+        html: option_of(alloc, options, "html")?,
     })
 }
 

@@ -23,6 +23,8 @@ pub enum Request {
         junit: Option<String>,
         /// The file into which the report is written as JSON.
         json: Option<String>,
+        /// The file into which the report is written as a page of HTML.
+        html: Option<String>,
     },
     /// Writes the bytecode of one assertion of a text into a file.
     Build {

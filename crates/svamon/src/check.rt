@@ -1,10 +1,10 @@
 //! The command `check`.
 
-use cli::{Fault, NoGate, check_all, report_all, report_over};
+use cli::{Fault, NoGate, Paths, check_all, page_one, report_all, report_over};
 use cli_lint::{Rest, rest_over};
 use cli_shell::{
-    FormFiles, Provenance, Sources, moved_fault, open, print_report, read_chosen, shown_lines,
-    shown_status, told_paths,
+    FormFiles, NewFile, Provenance, Sources, moved_fault, open, print_report, read_chosen,
+    shown_lines, shown_status, told_paths,
 };
 use cli_texts::{Added, Origin};
 use cycle_window::WindowSize;
@@ -36,6 +36,48 @@ pub struct Asked<'a> {
     pub keep_going: bool,
     pub team: Team,
     pub files: FormFiles<'a>,
+    /// The file of the page.
+    pub html: Option<&'a str>,
+}
+
+/// How many failed attempts of each assertion a page shows.
+const SHOWN: u64 = 3;
+
+/// The report on a text over the dump of a path, as a page; the dump is read once more for it.
+fn page_of<'a, R: Files + AllocGlobal>(
+    rt: &R,
+    text: &'a str,
+    origin: &Origin<'_>,
+    asked: &Asked<'_>,
+) -> Result<Vec<u8>, Fault<'a>> {
+    let mut dump = Counted::new(open(rt, asked.vcd)?);
+    let told = told_paths(rt.alloc(), asked.sva, asked.axi)?;
+    let paths = Paths {
+        dump: asked.vcd,
+        text: told.as_str(),
+    };
+    page_one(rt.alloc(), &mut dump, text, paths, origin, SHOWN)
+}
+
+/// The page, or no bytes where none is asked for.
+fn page_bytes<'a, R: Files + AllocGlobal>(
+    rt: &R,
+    text: &'a str,
+    origin: &Origin<'_>,
+    asked: &Asked<'_>,
+) -> Result<Vec<u8>, Fault<'a>> {
+    if asked.html.is_none() {
+        return Ok(Vec::new(rt.alloc()));
+    }
+    page_of(rt, text, origin, asked)
+}
+
+/// The file of the page, if one is asked for.
+fn page_file<'f>(asked: &Asked<'f>, bytes: &'f [u8]) -> Option<NewFile<'f>> {
+    match asked.html {
+        None => None,
+        Some(path) => Some(NewFile { path, bytes }),
+    }
 }
 
 /// Judges a text over a dump by a team; the report goes to standard output.
@@ -65,8 +107,10 @@ fn judge_into_forms<'a, R: Files + Print + AllocGlobal + Threads + Wait + Sync>(
     rt: &R,
     dump: R::File,
     text: &'a str,
+    origin: &Origin<'_>,
     asked: &Asked<'_>,
 ) -> Result<[u64; 5], Fault<'a>> {
+    let page = page_bytes(rt, text, origin, asked)?;
     let mut dump = Counted::new(dump);
     let Team { workers, window } = asked.team;
     let made = report_all(rt, rt.alloc(), &mut dump, text, workers, window, &NoGate)?;
@@ -76,7 +120,8 @@ fn judge_into_forms<'a, R: Files + Print + AllocGlobal + Threads + Wait + Sync>(
         text: paths.as_str(),
         times: made.times.as_slice(),
     };
-    print_report(rt, &asked.files, &from, &made.report)
+    let file = page_file(asked, page.as_slice());
+    print_report(rt, &asked.files, file, &from, &made.report)
 }
 
 /// Judges what is left of a text over a dump in memory, as [`judge_into_forms`] does.
@@ -84,8 +129,10 @@ fn judge_rest<'a, R: Files + Print + AllocGlobal + Threads + Wait + Sync>(
     rt: &R,
     dump: Dump,
     text: &'a str,
+    origin: &Origin<'_>,
     asked: &Asked<'_>,
 ) -> Result<[u64; 5], Fault<'a>> {
+    let page = page_bytes(rt, text, origin, asked)?;
     let size = WindowSize::new(asked.team.window)?;
     let Ok(team) = TeamSize::new(asked.team.workers) else {
         return Err(Fault::BadWorkers);
@@ -97,7 +144,8 @@ fn judge_rest<'a, R: Files + Print + AllocGlobal + Threads + Wait + Sync>(
         text: paths.as_str(),
         times: made.times.as_slice(),
     };
-    print_report(rt, &asked.files, &from, &made.report)
+    let file = page_file(asked, page.as_slice());
+    print_report(rt, &asked.files, file, &from, &made.report)
 }
 
 /// The status of an outcome; the line of a fault goes to standard error, with the byte that it has
@@ -131,13 +179,14 @@ fn serve_rest<R: Files + Print + Eprint + AllocGlobal + Threads + Wait + Sync>(
     rt: &R,
     dump: Dump,
     rest: &Rest,
-    added: &[Added],
+    origin: &Origin<'_>,
     asked: &Asked<'_>,
 ) -> u8 {
     let Some(text) = &rest.text else {
         return 2;
     };
-    let outcome = judge_rest(rt, dump, text.as_str(), asked);
+    let added = origin.added;
+    let outcome = judge_rest(rt, dump, text.as_str(), origin, asked);
     if rest.refused == 0 {
         return shown(rt, added, outcome);
     }
@@ -161,7 +210,7 @@ fn serve_going<R: Files + Print + Eprint + AllocGlobal + Threads + Wait + Sync>(
             if rest.refused > 0 {
                 shown_lines(rt, rest.told.as_str());
             }
-            serve_rest(rt, dump, &rest, origin.added, asked)
+            serve_rest(rt, dump, &rest, &origin, asked)
         }
         Err(_) => shown_status(rt, Err(Fault::Memory)),
     }
@@ -175,12 +224,16 @@ fn serve_whole<R: Files + Print + Eprint + AllocGlobal + Threads + Wait + Sync>(
     asked: &Asked<'_>,
 ) -> u8 {
     let text = sources.text.as_str();
-    let outcome = if asked.files.is_empty() {
+    let origin = Origin {
+        parts: sources.parts.as_slice(),
+        added: sources.added.as_slice(),
+    };
+    let outcome = if asked.files.is_empty() && asked.html.is_none() {
         judge_by_team(rt, dump, text, asked.team)
     } else {
-        judge_into_forms(rt, dump, text, asked)
+        judge_into_forms(rt, dump, text, &origin, asked)
     };
-    shown(rt, sources.added.as_slice(), outcome)
+    shown(rt, origin.added, outcome)
 }
 
 /// Opens the dump, then reads the text, and judges it, or what is left of it where what is refused

@@ -269,6 +269,7 @@ fn serve<R: Files + Print + Eprint + AllocGlobal + Threads + Wait + Sync>(
             window,
             junit,
             json,
+            html,
         } => {
             let team = Team {
                 workers: *workers,
@@ -286,6 +287,7 @@ fn serve<R: Files + Print + Eprint + AllocGlobal + Threads + Wait + Sync>(
                 keep_going: *keep_going,
                 team,
                 files,
+                html: path_of(html),
             };
             serve_check(rt, &asked)
         }

@@ -47,13 +47,15 @@ fn line_of(alloc: Global, request: &Request) -> Result<String, AllocError> {
             window,
             junit,
             json,
+            html,
         } => {
             let texts = texts_of(alloc, vcd.as_str(), sva.as_slice(), axi)?;
             let only = listed(alloc, only.as_slice())?;
             format!(in alloc;
-                "check {texts} {only} {keep_going} {workers} {window} {} {}",
+                "check {texts} {only} {keep_going} {workers} {window} {} {} {}",
                 file_or_none(junit),
-                file_or_none(json)
+                file_or_none(json),
+                file_or_none(html)
             )
         }
         Request::Judge { vcd, sva, axi } => {
@@ -132,23 +134,23 @@ fn words_are_read(rt: HostRuntime) -> Result<(), Fail> {
     for (words, wanted) in [
         (
             "svamon check --vcd a.vcd --sva a.sva --window 7 --workers 64",
-            "check a.vcd a.sva none  false 64 7 none none",
+            "check a.vcd a.sva none  false 64 7 none none none",
         ),
         (
             "svamon check --sva a.sva --vcd a.vcd",
-            "check a.vcd a.sva none  false 4 1024 none none",
+            "check a.vcd a.sva none  false 4 1024 none none none",
         ),
         (
             "svamon check --json b --sva a.sva --vcd a.vcd --junit c",
-            "check a.vcd a.sva none  false 4 1024 c b",
+            "check a.vcd a.sva none  false 4 1024 c b none",
         ),
         (
             "svamon check --sva b --only x* --vcd a --keep-going --sva c --only ?y --axi p",
-            "check a b,c p x*,?y true 4 1024 none none",
+            "check a b,c p x*,?y true 4 1024 none none none",
         ),
         (
             "svamon check --vcd a --axi p",
-            "check a  p  false 4 1024 none none",
+            "check a  p  false 4 1024 none none none",
         ),
         ("svamon lint --vcd a --sva b --sva c", "lint a b,c none"),
         (

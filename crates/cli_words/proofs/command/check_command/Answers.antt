@@ -12,6 +12,9 @@ returns c =
     let junit =
     one_option _ _ _ _ _ c.in_ok-arg-3.ensures window c.form_option-junit.ensures.rule
     c.form_option-junit.ensures.local in
-    IfOk-weaker c.arg-4.result _ _
-    (λ r h. one_option _ r _ _ _ h junit c.form_option-json.ensures.rule c.form_option-json.ensures.local)
-    c.arg-4.ensures
+    let json =
+    one_option _ _ _ _ _ c.in_ok-arg-4.ensures junit c.form_option-json.ensures.rule
+    c.form_option-json.ensures.local in
+    IfOk-weaker c.arg-5.result _ _
+    (λ r h. one_option _ r _ _ _ h json c.form_option-html.ensures.rule c.form_option-html.ensures.local)
+    c.arg-5.ensures
