@@ -3,6 +3,7 @@
 //! ```text
 //! svamon check --vcd top.vcd --sva rules.sva [--sva more.sva] [--axi ports.txt] [--only 'req_*']
 //!     [--keep-going] [--workers 4] [--window 1024] [--junit report.xml] [--json report.json]
+//!     [--html report.html]
 //! svamon judge --vcd top.vcd --sva rules.sva [--axi ports.txt]
 //! svamon build --vcd top.vcd --sva rules.sva [--axi ports.txt] --name r --out r.svm
 //! svamon run --vcd top.vcd --code r.svm [--workers 4] [--window 1024]
@@ -10,6 +11,7 @@
 //! svamon upgrade r.svm --out r2.svm
 //! svamon explain --vcd top.vcd --sva rules.sva [--axi ports.txt] [--only r] [--start 9] [--most 1]
 //! svamon lint --vcd top.vcd --sva rules.sva [--axi ports.txt]
+//! svamon names --vcd top.vcd [--match addr] [--scope tb.dut]
 //! svamon rules --axi ports.txt
 //! svamon --version
 //! ```
@@ -19,10 +21,11 @@
 //! memory, and 4 for a file that can't be opened, read or written.
 //!
 //! It opens files (`cli_shell`) and hands over what is in them; what a command answers is said by
-//! the contracts of `cli` (`check_all`, `report_all`, `judge_one`, `build_one`), of `report_forms`
-//! (`junit_report`, `json_report`), of `cli_bytecode` (`verify_code`, `run_code`, `upgrade_code`),
-//! of `cli_lint` (`lint_over`) and of `axi4_rules` (`port_rules`, `joined_text`), whose definitions
-//! stand in their `specs/`.
+//! the contracts of `cli` (`check_all`, `report_all`, `report_over`, `judge_one`, `build_one`,
+//! `explain_one`, `page_one`), of `report_forms` (`junit_report`, `json_report`), of `cli_bytecode`
+//! (`verify_code`, `run_code`, `upgrade_code`), of `cli_lint` (`lint_over`), of `cli_names`
+//! (`names_one`), of `cli_texts` (`joined`, `chosen`) and of `axi4_rules` (`port_rules`), whose
+//! definitions stand in their `specs/`.
 //!
 //! Not promised: what a file holds, that the line of a fault reaches anyone, and that the process
 //! ends with the status: these are tested (`docs/TESTED.md`). `docs/USING.md` goes through the

@@ -4,6 +4,7 @@ use crate::check::{Asked, Team, serve_check};
 use cli::{Fault, NoGate, Request, Wanted, build_one, explain_one, judge_one};
 use cli_bytecode::{run_code, upgrade_code, verify_code};
 use cli_lint::{LintFault, lint_one};
+use cli_names::{Filter, NamesFault, names_one};
 use cli_shell::{
     FormFiles, Sources, open, print_rules, read_bytes, read_sources, refuse_words, request_of,
     shown_status, shown_version, words_of, write_bytes,
@@ -128,6 +129,43 @@ fn serve_lint<R: Files + Print + Eprint + AllocGlobal>(
         Ok(0) => 0,
         Ok(_) => 2,
         Err(fault) => shown_status(rt, Err(lint_fault(fault))),
+    }
+}
+
+/// Why the names of a dump are not told, as a fault of a command.
+fn names_fault(fault: NamesFault) -> Fault<'static> {
+    match fault {
+        NamesFault::Vcd(fault) => Fault::Vcd(fault),
+        NamesFault::Report(fault) => Fault::Report(fault),
+        NamesFault::Memory => Fault::Memory,
+    }
+}
+
+/// Tells the variables of a dump; they go to standard output. The answer is how many.
+fn tell_names<R: Files + Print + AllocGlobal>(
+    rt: &R,
+    dump: R::File,
+    filter: &Filter<'_>,
+) -> Result<u64, NamesFault> {
+    let mut dump = Counted::new(dump);
+    let mut out = Counted::new(io::writer(rt));
+    names_one(rt.alloc(), &mut dump, filter, &mut out)
+}
+
+/// Opens the dump, and tells its variables: status 0 where one was told, 1 where none was.
+fn serve_names<R: Files + Print + Eprint + AllocGlobal>(
+    rt: &R,
+    vcd: &str,
+    filter: &Filter<'_>,
+) -> u8 {
+    let dump = match open(rt, vcd) {
+        Ok(dump) => dump,
+        Err(fault) => return shown_status(rt, Err(fault)),
+    };
+    match tell_names(rt, dump, filter) {
+        Ok(0) => 1,
+        Ok(_) => 0,
+        Err(fault) => shown_status(rt, Err(names_fault(fault))),
     }
 }
 
@@ -339,7 +377,17 @@ fn serve<R: Files + Print + Eprint + AllocGlobal + Threads + Wait + Sync>(
         Request::Lint { vcd, sva, axi } => {
             serve_lint(rt, vcd.as_str(), sva.as_slice(), path_of(axi))
         }
-        Request::Names { .. } => 2,
+        Request::Names {
+            vcd,
+            matching,
+            scope,
+        } => {
+            let filter = Filter {
+                matching: path_of(matching),
+                scope: path_of(scope),
+            };
+            serve_names(rt, vcd.as_str(), &filter)
+        }
         Request::Rules { axi } => serve_rules(rt, axi.as_str()),
         Request::Upgrade { code, out } => serve_upgrade(rt, code.as_str(), out.as_str()),
     }

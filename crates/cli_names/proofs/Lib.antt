@@ -1,0 +1,6 @@
+pub mod NameLaws
+pub mod RowLaws
+pub mod WordLaws
+pub mod TextLaws
+pub mod FreeLaws
+pub mod ColumnLaws

@@ -1,0 +1,5 @@
+pub mod TextLaws
+pub mod SectionLaws
+pub mod DeclarationLaws
+pub mod PartLaws
+pub mod SpellingLaws
