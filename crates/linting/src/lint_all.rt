@@ -12,8 +12,8 @@ use crate::stray::refused_item;
 use std::alloc::{AllocError, Global};
 
 /// What is told of a text: its refusals, and the text without the items that are refused, which is
-/// accepted. That is none where the text could not be cut at the ends of its items, or where what is
-/// left is refused in none of them.
+/// accepted. That is none where the text could not be cut at the ends of its items, or where what
+/// is left is refused in none of them.
 #[derive(Drop)]
 pub struct Linted {
     pub refusals: Vec<Refusal>,

@@ -53,8 +53,9 @@ first_text p (Some f) = clock_text p (codes "clock ") f.clock
 -- the row of an assertion
 unfoldable pub row_text : ProvenanceData → LineData → List ℕ
 row_text p l =
-    codes "<tr class=\"" ++ class_text l ++ codes "\"><td>" ++ name_text l.name (slice_get l.fails 0)
-    ++ counts_text l.counts ++ first_text p (slice_get l.fails 0) ++ codes "</td></tr>\n"
+    codes "<tr class=\"" ++ class_text l ++ codes "\"><td>"
+    ++ name_text l.name (slice_get l.fails 0) ++ counts_text l.counts
+    ++ first_text p (slice_get l.fails 0) ++ codes "</td></tr>\n"
 
 -- what is told of a failed attempt before its picture
 pub record PictureHead : Type 0 where

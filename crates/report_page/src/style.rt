@@ -7,11 +7,14 @@ pub(crate) const HEAD: &str =
 
 /// The style, and the beginning of the body.
 pub(crate) const STYLE: &str = "</title>\n<style>\n\
-:root { color-scheme: light dark; --ink: #1c2430; --paper: #ffffff; --faint: #8a94a3; --line: #d5dae1;\n\
+:root { color-scheme: light dark; --ink: #1c2430; --paper: #ffffff; --faint: #8a94a3;\n\
+  --line: #d5dae1;\n\
   --good: #1a7f37; --bad: #c62828; --band: #fbe4e1; --wave: #1f5fae; --box: #eef3fa; }\n\
 @media (prefers-color-scheme: dark) { :root { --ink: #e3e7ed; --paper: #14181e; --faint: #8791a0;\n\
-  --line: #333b46; --good: #57b870; --bad: #ff7a70; --band: #3d2323; --wave: #79b0f2; --box: #1f2833; } }\n\
-body { margin: 0 auto; max-width: 76rem; padding: 1rem; color: var(--ink); background: var(--paper);\n\
+  --line: #333b46; --good: #57b870; --bad: #ff7a70; --band: #3d2323; --wave: #79b0f2;\n\
+  --box: #1f2833; } }\n\
+body { margin: 0 auto; max-width: 76rem; padding: 1rem; color: var(--ink);\n\
+  background: var(--paper);\n\
   font: 16px/1.45 system-ui, sans-serif; }\n\
 h1 { font-size: 1.4rem; margin: 0 0 .3rem; } h2 { font-size: 1.1rem; margin: 2rem 0 .2rem; }\n\
 p { margin: .2rem 0; overflow-wrap: anywhere; }\n\
@@ -23,12 +26,15 @@ th { padding: 0; } th button { all: unset; cursor: pointer; padding: .25rem .7re
 th button:focus-visible { outline: 2px solid var(--wave); }\n\
 th[aria-sort=ascending] button::after { content: ' \\2191'; }\n\
 th[aria-sort=descending] button::after { content: ' \\2193'; }\n\
-.fails .bad, .told { color: var(--bad); } .holds .good { color: var(--good); } .untried { color: var(--faint); }\n\
+.fails .bad, .told { color: var(--bad); } .holds .good { color: var(--good); }\n\
+.untried { color: var(--faint); }\n\
 a { color: inherit; }\n\
 svg { display: block; font: 13px ui-monospace, monospace; margin-top: .5rem; }\n\
 svg text { fill: var(--ink); } svg .faint { fill: var(--faint); } svg .at { fill: var(--band); }\n\
-svg .grid { stroke: var(--line); } svg .wave { fill: none; stroke: var(--wave); stroke-width: 1.5; }\n\
-svg .box { fill: var(--box); stroke: var(--wave); } svg .end { stroke: var(--bad); stroke-dasharray: 4 3; }\n\
+svg .grid { stroke: var(--line); } \n\
+svg .wave { fill: none; stroke: var(--wave); stroke-width: 1.5; }\n\
+svg .box { fill: var(--box); stroke: var(--wave); } \n\
+svg .end { stroke: var(--bad); stroke-dasharray: 4 3; }\n\
 </style>\n</head>\n<body>\n";
 
 /// The beginning of the table.
@@ -42,7 +48,8 @@ pub(crate) const TABLE_END: &str = "</tbody>\n</table>\n</div>\n";
 
 /// The end of a page, with what sorts its table.
 pub(crate) const END: &str = "<script>\n\
-document.querySelectorAll('th button').forEach((button, place) => button.addEventListener('click', () => {\n\
+document.querySelectorAll('th button').forEach((button, place) =>\n\
+    button.addEventListener('click', () => {\n\
   const head = button.parentNode, body = document.querySelector('tbody');\n\
   const up = head.getAttribute('aria-sort') !== 'ascending';\n\
   document.querySelectorAll('th').forEach(it => it.removeAttribute('aria-sort'));\n\
