@@ -8,7 +8,8 @@ compared (200). Of each attempt are worked out by the definition, with all match
 and the first from which the consequent has no match; and by reference_values.py the value of each signal and counter
 that the assertion reads, at each clock that is shown, and that of each of its booleans where one is shown. Clocks and
 times, the assertion's place in the text and the number of failures are looked at, too. At which clocks a boolean is
-shown is not. It stops at the first attempt that differs, and leaves its files in the working folder.
+shown is not, nor whether one is left out, as those are of which no match can come. It stops at the first attempt that
+differs, and leaves its files in the working folder.
 """
 import pathlib
 import re
@@ -148,30 +149,30 @@ def name_rows(rows):
     labels = [line.split()[0] for line in rows]
     for at, (line, label) in enumerate(zip(rows, labels)):
         shown = line[len(label) + 2:].strip()[:1]
-        if not re.fullmatch(r'[\w.]+', label) or label in labels[:at] or shown not in DIGITS:
+        if not re.fullmatch(r'[a-z][\w.]*', label) or label in labels[:at] or shown not in DIGITS:
             return at
     return len(rows)
 
 
 def check_names(rows, edges, clocks, read, trace):
-    """What is wrong with the rows of signals and counters, or nothing."""
+    """The names that the rows of signals and counters show, and what is wrong with one of them, or nothing."""
     names = {spelling(name): name for name in read}
     told = set()
     for line in rows:
         name = names.get(plain(line.split()[0]))
         if name is None:
-            return 'no name that is read: ' + line
+            return told, 'no name that is read: ' + line
         right = ['..' if clock is None else shown_text(values.value(name, clock, name[1], trace), name[1])
                  for clock in clocks]
         if cells(line, edges) != right:
-            return '%s\nnot %s' % (line, right)
+            return told, '%s\nnot %s' % (line, right)
         told.add(name)
-    return '' if told == read else 'names left out: %s' % (read - told)
+    return told, ''
 
 
 def check_booleans(rows, edges, clocks, booleans, trace):
-    """What is wrong with the rows of booleans, or nothing."""
-    trees, told = {}, set()
+    """The booleans that rows show, and what is wrong with one of them, or nothing."""
+    trees, told = {}, []
     for tree in booleans:
         trees.setdefault(spelling(tree), []).append(tree)
     for line in rows:
@@ -181,9 +182,9 @@ def check_booleans(rows, edges, clocks, booleans, trace):
             cell in ('', '-', '..') or cell == '%d' % (values.value(tree, clock, values.width(tree), trace) != 0)
             for cell, clock in zip(found, clocks))
         if not any(is_right(tree) for tree in trees.get(label, [])):
-            return 'no boolean of the assertion has these values: %s\n%s, not of %s' % (line, label, sorted(trees))
-        told.add(label)
-    return '' if told == set(trees) else 'booleans left out: %s' % (set(trees) ^ told)
+            return told, 'no boolean of the assertion has these values: %s (%s)' % (line, label)
+        told.append(trees[label][0])
+    return told, ''
 
 
 def check_told(block, made, count, failure, text, trace, counters):
@@ -215,9 +216,12 @@ def check_told(block, made, count, failure, text, trace, counters):
     if block[-1] != last:
         return '%s\nnot%s' % (block[-1], last)
     rows, many = block[3:-1], name_rows(block[3:-1])
-    read = read_names(made.booleans, counters)
-    return (check_names(rows[:many], edges, clocks, read, trace)
-            or check_booleans(rows[many:], edges, clocks, made.booleans, trace))
+    names, wrong = check_names(rows[:many], edges, clocks, read_names(made.booleans, counters), trace)
+    if wrong:
+        return wrong
+    shown, wrong = check_booleans(rows[many:], edges, clocks, made.booleans, trace)
+    left_out = read_names(shown, counters) - names
+    return wrong or ('names left out: %s' % left_out if left_out else '')
 
 
 def case(program, number):
