@@ -108,6 +108,7 @@ random: svamon oracle_bytecode oracle_verifier oracle_machine
 	scripts/random/random_verifier.py $(VERIFIER) $(CASES) $(SEED)
 	scripts/random/random_machine.py $(MACHINE) $(PROGRAMS) 100 $(SEED)
 	cd crates/svamon/out && ../../../scripts/random/random_judge.py ./svamon $(CASES) $(SEED)
+	cd crates/svamon/out && ../../../scripts/random/random_explain.py ./svamon $(CASES) $(SEED)
 	scripts/random/edge_ports.py crates/svamon/out/svamon
 	scripts/random/least_axi4.py crates/svamon/out/svamon
 	scripts/random/same_reports.py crates/svamon/out/svamon

@@ -8,7 +8,8 @@ compared (200). Of each attempt are worked out by the definition, with all match
 and the first from which the consequent has no match; and by reference_values.py the value of each signal and counter
 that the assertion reads, at each clock that is shown, and that of each of its booleans where one is shown. Clocks and
 times, the assertion's place in the text and the number of failures are looked at, too. At which clocks a boolean is
-shown is not. It stops at the first attempt that differs, and leaves its files in the working folder.
+shown is not, nor whether one is left out, as those are of which no match can come. It stops at the first attempt that
+differs, and leaves its files in the working folder.
 """
 import pathlib
 import re
@@ -20,11 +21,12 @@ from random_judge import judge, values
 
 draw = drawn.draw
 NAMES = {'signal': 's', 'counter': 'c'}
+DIGITS = set('0123456789abcdef')
 
 
 def unit(word):
-    """A word of an expression without brackets and blanks, in one spelling."""
-    return re.sub(r'[()\s]', '', word).replace('^~', '~^')
+    """An expression without brackets, braces and blanks, in one spelling."""
+    return re.sub(r'[(){}\s]', '', word).replace('~|', '!')
 
 
 def number_text(bits, number):
@@ -34,7 +36,7 @@ def number_text(bits, number):
 
 
 def spelling(tree):
-    """An expression without brackets and blanks."""
+    """An expression without brackets, braces and blanks."""
     kind = tree[0]
     if kind == 'constant':
         return number_text(tree[1], tree[2])
@@ -44,11 +46,11 @@ def spelling(tree):
         high, low = tree[2], tree[3]
         return spelling(tree[1]) + ('[%d]' % high if high == low else '[%d:%d]' % (high, low))
     if kind == 'braces':
-        return '{%s}' % ','.join(spelling(part) for part in tree[1])
+        return ','.join(spelling(part) for part in tree[1])
     if kind == 'past':
         return '$past%s' % spelling(tree[1]) + ('' if tree[2] == 1 else ',%d' % tree[2])
     if kind in ('change', 'reduce'):
-        return tree[1] + spelling(tree[2])
+        return tree[1].replace('~|', '!') + spelling(tree[2])
     if kind == 'invert':
         return '~' + spelling(tree[1])
     if kind == 'choose':
@@ -58,7 +60,7 @@ def spelling(tree):
 
 def names_in(tree):
     """The names that an expression reads."""
-    if isinstance(tree, tuple) and tree and tree[0] in NAMES:
+    if isinstance(tree, tuple) and tree and isinstance(tree[0], str) and tree[0] in NAMES:
         return {tree}
     if isinstance(tree, (tuple, list)):
         return set().union(*(names_in(part) for part in tree))
@@ -66,7 +68,7 @@ def names_in(tree):
 
 
 def booleans(tree, bodies):
-    """The booleans of a sequence, named ones written out."""
+    """The booleans of a sequence, named ones written out, without what is repeated no time."""
     kind = tree[0]
     if kind == 'boolean':
         return [tree[1]]
@@ -74,6 +76,8 @@ def booleans(tree, bodies):
         return booleans(bodies[tree[1]], bodies)
     if kind == 'throughout':
         return [tree[1]] + booleans(tree[2], bodies)
+    if kind == 'repeat' and tree[3] == 0:
+        return []
     return [found for part in tree[1:] if isinstance(part, tuple) for found in booleans(part, bodies)]
 
 
@@ -83,7 +87,7 @@ def read_names(trees, counters):
     while left:
         found |= left
         clauses = [counters[name[2]][1] for name in left if name[0] == 'counter']
-        left = set().union(*(names_in(tuple(it.values())) for it in clauses)) - found
+        left = set().union(*(names_in(list(it.values())) for it in clauses)) - found
     return found
 
 
@@ -135,36 +139,52 @@ def shown_text(value, bits):
     return '%d' % value if bits <= 4 else '%x' % value
 
 
-def check_rows(rows, edges, clocks, made, trace, counters):
-    """What is wrong with the rows of a table, or nothing."""
-    names = {spelling(name): name for name in read_names(made.booleans, counters)}
-    trees = {}
-    for tree in made.booleans:
-        trees.setdefault(spelling(tree), []).append(tree)
-    told = []
-    for line in rows[:len(names)]:
-        label, held = unit(line[:edges[0]].split()[0]), cells(line, edges)
-        name = names.get(re.sub(r'tb\.(?:u\d+\.s|w\.r|s)(\d+)', r's\1', label))
+def plain(label):
+    """A label without brackets and blanks, each path as its signal's name."""
+    return re.sub(r'tb\.(?:u\d+\.s|w\.r|s)(\d+)', r's\1', unit(label))
+
+
+def name_rows(rows):
+    """How many rows are of signals and counters: the first ones, each of another name."""
+    labels = [line.split()[0] for line in rows]
+    for at, (line, label) in enumerate(zip(rows, labels)):
+        shown = line[len(label) + 2:].strip()[:1]
+        if not re.fullmatch(r'[a-z][\w.]*', label) or label in labels[:at] or shown not in DIGITS:
+            return at
+    return len(rows)
+
+
+def check_names(rows, edges, clocks, read, trace):
+    """The names that the rows of signals and counters show, and what is wrong with one of them, or nothing."""
+    names = {spelling(name): name for name in read}
+    told = set()
+    for line in rows:
+        name = names.get(plain(line.split()[0]))
         if name is None:
-            return 'no name that is read: ' + line
-        right = [shown_text(values.value(name, clock, name[1], trace), name[1]) if clock is not None else '..'
+            return told, 'no name that is read: ' + line
+        right = ['..' if clock is None else shown_text(values.value(name, clock, name[1], trace), name[1])
                  for clock in clocks]
-        if held != right:
-            return '%s\nnot %s' % (line, right)
-        told.append(name)
-    if set(told) != set(names.values()):
-        return 'names left out'
-    labels = []
-    for line in rows[len(names):]:
-        start = min([edge - len(cell) for edge, cell in zip(edges, cells(line, edges)) if cell] or [len(line)])
-        label = re.sub(r'tb\.(?:u\d+\.s|w\.r|s)(\d+)', r's\1', unit(line[:start]))
-        labels.append(label)
-        good = [tree for tree in trees.get(label, []) if all(
+        if cells(line, edges) != right:
+            return told, '%s\nnot %s' % (line, right)
+        told.add(name)
+    return told, ''
+
+
+def check_booleans(rows, edges, clocks, booleans, trace):
+    """The booleans that rows show, and what is wrong with one of them, or nothing."""
+    trees, told = {}, []
+    for tree in booleans:
+        trees.setdefault(spelling(tree), []).append(tree)
+    for line in rows:
+        found = cells(line, edges)
+        label = plain(line[:min([edge - len(cell) for edge, cell in zip(edges, found) if cell] or [len(line)])])
+        is_right = lambda tree: all(
             cell in ('', '-', '..') or cell == '%d' % (values.value(tree, clock, values.width(tree), trace) != 0)
-            for cell, clock in zip(cells(line, edges), clocks))]
-        if not good:
-            return 'no boolean of the assertion has these values: %s (%s)' % (line, label)
-    return '' if set(labels) == set(trees) else 'booleans left out: %s' % (set(trees) ^ set(labels))
+            for cell, clock in zip(found, clocks))
+        if not any(is_right(tree) for tree in trees.get(label, [])):
+            return told, 'no boolean of the assertion has these values: %s (%s)' % (line, label)
+        told.append(trees[label][0])
+    return told, ''
 
 
 def check_told(block, made, count, failure, text, trace, counters):
@@ -195,7 +215,13 @@ def check_told(block, made, count, failure, text, trace, counters):
         's' if many else '', ', '.join(map(str, ends)), 'clock %d' % broken if many else 'there', clock)
     if block[-1] != last:
         return '%s\nnot%s' % (block[-1], last)
-    return check_rows(block[3:-1], edges, clocks, made, trace, counters)
+    rows, many = block[3:-1], name_rows(block[3:-1])
+    names, wrong = check_names(rows[:many], edges, clocks, read_names(made.booleans, counters), trace)
+    if wrong:
+        return wrong
+    shown, wrong = check_booleans(rows[many:], edges, clocks, made.booleans, trace)
+    left_out = read_names(shown, counters) - names
+    return wrong or ('names left out: %s' % left_out if left_out else '')
 
 
 def case(program, number):

@@ -49,6 +49,68 @@ fn most_edits(path: &str) -> u8 {
     if path.len() < 6 { 1 } else { 2 }
 }
 
+/// Whether a name is a path in other letters, large and small, or ends with it after a dot.
+fn ends_alike(name: &str, path: &str) -> bool {
+    let Some(start) = name.len().checked_sub(path.len()) else {
+        return false;
+    };
+    let Some(end) = name.get(start..) else {
+        return false;
+    };
+    let is_apart = start == 0 || name.as_bytes().get(start - 1) == Some(&b'.');
+    is_apart && end.eq_ignore_ascii_case(path)
+}
+
+/// Whether a name stands in the scope of a path.
+fn is_inside(name: &str, path: &str) -> bool {
+    match name.strip_prefix(path) {
+        None => false,
+        Some(rest) => rest.starts_with('.'),
+    }
+}
+
+/// The first name that ends as a path does, or is it in other letters.
+fn alike<'n>(names: &'n [String], path: &str) -> Option<&'n str> {
+    for name in names {
+        if ends_alike(name.as_str(), path) {
+            return Some(name.as_str());
+        }
+    }
+    None
+}
+
+/// The first name in the scope of a path.
+fn inside<'n>(names: &'n [String], path: &str) -> Option<&'n str> {
+    for name in names {
+        if is_inside(name.as_str(), path) {
+            return Some(name.as_str());
+        }
+    }
+    None
+}
+
+/// Whether a path is one of the names.
+pub(crate) fn is_listed(names: &[String], path: &str) -> bool {
+    for name in names {
+        if name.as_str() == path {
+            return true;
+        }
+    }
+    false
+}
+
+/// The name that a path may mean: the nearest one, or else one that ends as it does.
+fn meant<'n>(
+    alloc: Global,
+    names: &'n [String],
+    path: &str,
+) -> Result<Option<&'n str>, AllocError> {
+    match nearest(alloc, most_edits(path), path, names)? {
+        None => Ok(alike(names, path)),
+        Some(place) => Ok(names.get(place).map(|name| name.as_str())),
+    }
+}
+
 /// What is told of a path that stands for nothing, with the name that may be meant.
 pub(crate) fn told_path(
     alloc: Global,
@@ -56,15 +118,14 @@ pub(crate) fn told_path(
     what: &str,
     path: &str,
 ) -> Result<String, AllocError> {
-    let Some(place) = nearest(alloc, most_edits(path), path, names)? else {
-        return format!(in alloc; "{what} {path}");
-    };
-    let Some(name) = names.get(place) else {
-        return format!(in alloc; "{what} {path}");
-    };
-    let name = name.as_str();
-    if name == path {
+    if is_listed(names, path) {
         return format!(in alloc; "{what} {path}; it is refused itself, or no value");
     }
-    format!(in alloc; "{what} {path}; did you mean {name}?")
+    if let Some(name) = inside(names, path) {
+        return format!(in alloc; "{what} {path}; it is a scope, in which {name} is");
+    }
+    match meant(alloc, names, path)? {
+        None => format!(in alloc; "{what} {path}"),
+        Some(name) => format!(in alloc; "{what} {path}; did you mean {name}?"),
+    }
 }

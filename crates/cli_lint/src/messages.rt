@@ -3,7 +3,7 @@
 ghost use Rattle.std.specs.Prelude.{◌≡◌, IfOk, Some};
 ghost use Rattle.cli_lint.specs.Refused.{byte_of_lex, byte_of_parse, byte_of_type};
 
-use crate::dump_paths::{path_at, told_path};
+use crate::dump_paths::{is_listed, path_at, told_path};
 use lexer::LexFault;
 use linting::{CODES, MARKS, Refusal, SIGNS, WORDS, hint_at, hint_beside};
 use parser::ParseFault;
@@ -48,12 +48,42 @@ pub(crate) fn lex_refusal(alloc: Global, text: &str, fault: LexFault) -> Result<
     }
 }
 
+/// Whether the text before a byte ends with a bracket and a new line, so that a `;` may be missing.
+fn is_after_bracket(text: &str, at: usize) -> bool {
+    let mut last = b' ';
+    let mut has_feed = false;
+    for byte in text.as_bytes().iter().take(at) {
+        if !byte.is_ascii_whitespace() {
+            last = *byte;
+            has_feed = false;
+        }
+        if *byte == b'\n' {
+            has_feed = true;
+        }
+    }
+    has_feed && last == b')'
+}
+
+/// What to write where a token can't go on.
+fn hint_beside_token(text: &str, at: usize) -> Option<&'static str> {
+    match hint_at(text, at, &MARKS) {
+        Some(hint) => Some(hint),
+        None => {
+            if is_after_bracket(text, at) {
+                Some("is a ; missing before it?")
+            } else {
+                None
+            }
+        }
+    }
+}
+
 /// What is told of a token that can't go on.
 fn expected(alloc: Global, text: &str, at: usize, what: &str) -> Result<Refusal, AllocError>
     ensures { IfOk result (λ r. r.at ≡ at) }
 {
     let message = format!(in alloc; "P1 Expected {what}")?;
-    refusal_at(alloc, at, message.as_str(), hint_at(text, at, &MARKS))
+    refusal_at(alloc, at, message.as_str(), hint_beside_token(text, at))
 }
 
 /// What is told of a word or a symbol that the profile leaves out.
@@ -93,6 +123,23 @@ fn unknown(alloc: Global, names: &[String], text: &str, at: usize) -> Result<Ref
     Ok(Refusal { at, message })
 }
 
+/// What is told of a clock that isn't that of the first assertion.
+fn other_clock(
+    alloc: Global,
+    names: &[String],
+    text: &str,
+    at: usize,
+) -> Result<Refusal, AllocError>
+    ensures { IfOk result (λ r. r.at ≡ at) }
+{
+    let path = path_at(text, at);
+    if is_listed(names, path) {
+        return coded(alloc, at, "Y7", "Y7 OtherClock");
+    }
+    let message = told_path(alloc, names, "Y7 OtherClock", path)?;
+    Ok(Refusal { at, message })
+}
+
 /// What is told of a fault of types.
 pub(crate) fn type_refusal(
     alloc: Global,
@@ -109,7 +156,7 @@ pub(crate) fn type_refusal(
         TypeFault::SliceRange(at) => coded(alloc, at, "Y4", "Y4 SliceRange"),
         TypeFault::Degenerate(at) => coded(alloc, at, "Y5", "Y5 Degenerate"),
         TypeFault::AdmitsEmpty(at) => coded(alloc, at, "Y6", "Y6 AdmitsEmpty"),
-        TypeFault::OtherClock(at) => coded(alloc, at, "Y7", "Y7 OtherClock"),
+        TypeFault::OtherClock(at) => other_clock(alloc, names, text, at),
         TypeFault::CyclicSequence(at) => coded(alloc, at, "Y8", "Y8 CyclicSequence"),
         TypeFault::TooWide(at) => coded(alloc, at, "Y9", "Y9 TooWide"),
         TypeFault::Memory => Err(AllocError),

@@ -32,7 +32,10 @@ pub const WORDS: [Hint; 30] = [
         "leave it out: the report has the clock of each failure",
     ),
     ("case", "write an assertion for each case"),
-    ("always", "leave it out: an attempt begins at each clock"),
+    (
+        "always",
+        "leave it out in front; write a[*4] for always [0:3] a, or count in a counter",
+    ),
     ("nexttime", "write ##1 S"),
     ("eventually", "write ##[0:60] S, or count in a counter"),
     (

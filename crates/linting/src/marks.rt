@@ -8,7 +8,7 @@ ghost use Rattle.linting.specs.Hints.{stands_before};
 pub type Mark = (&'static str, usize, &'static str);
 
 /// Marks by which items go wrong.
-pub const MARKS: [Mark; 24] = [
+pub const MARKS: [Mark; 40] = [
     ("===", 2, "write ==: x and z are 0"),
     ("!==", 2, "write !=: x and z are 0"),
     (
@@ -25,16 +25,24 @@ pub const MARKS: [Mark; 24] = [
     ("<<<", 2, "write <<"),
     ("##[*]", 2, "write ##[0:60], or count in a counter"),
     ("##[+]", 3, "write ##[1:60], or count in a counter"),
+    ("##[", 3, "a bound is a number, not a name"),
+    ("#-#", 0, "write ##0 for #-#, as in A ##0 S"),
+    ("#=#", 0, "write ##1 for #=#, as in A ##1 S"),
     ("[->", 1, "write !a[*0:20] ##1 a for a[->1]"),
     ("[=", 1, "write !a[*0:20] ##1 a ##1 !a[*0:20] for a[=1]"),
     ("[*]", 2, "write [*0:20]"),
     ("[+]", 1, "write [*1:20]"),
+    ("[*", 2, "a bound is a number, not a name"),
+    ("[", 1, "write ((v >> i) & 1) == 1 for v[i]"),
+    ("+:", 0, "write both bounds, as v[3:0] for v[0 +: 4]"),
+    ("-:", 0, "write both bounds, as v[7:4] for v[7 -: 4]"),
     (
         "][",
         1,
         "a select is of a name alone: name the word by a wire in the bench",
     ),
     ("].", 1, "name the signal by a wire in the bench"),
+    ("<->", 1, "write !a == !b for a <-> b"),
     (
         "->",
         1,
@@ -54,6 +62,22 @@ pub const MARKS: [Mark; 24] = [
     ),
     ("`", 0, "write out what the macro stands for"),
     ("\\", 0, "name the signal by a wire in the bench"),
+    ("@(", 2, "write @(posedge clk)"),
+    ("@", 1, "write @(posedge clk)"),
+    (
+        "@",
+        0,
+        "an assertion has one clock, which stands at its front alone",
+    ),
+    ("property (", 10, "begin with the clock, as @(posedge clk)"),
+    ("property(", 9, "begin with the clock, as @(posedge clk)"),
+    ("assert ", 7, "write assert property (@(posedge clk) ..)"),
+    ("expect ", 7, "write assert property (@(posedge clk) ..)"),
+    (
+        ",",
+        0,
+        "write $past(v, n) for what was sampled before, or keep it in a counter",
+    ),
     ("inside", 0, "write a == 1 || a == 2 for a inside {1, 2}"),
     ("{", 0, "write {a, a} for {2{a}}"),
     ("-", 0, "write 0 - a for -a"),
