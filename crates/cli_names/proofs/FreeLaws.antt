@@ -106,5 +106,6 @@ free-noted vs k d at spelled named =
     let fits : ltb 128 size ≡ false = grind (arith, nat_tests) in
     chain-none (bytes_eq kind (codes "real") || bytes_eq kind (codes "realtime")) (bytes_eq kind (codes "string"))
     (bytes_eq kind (codes "event")) (eqb size 0) (ltb 128 size) (are_words true (path_told d))
-    (begins_with_name (path_told d)) (is_place k (variable_named vs (path_told d))) kinds.0 kinds.1 kinds.2 some fits words.0 words.1
+    (begins_with_name (path_told d)) (is_place k (variable_named vs (path_told d))) kinds.0 kinds.1 kinds.2 some fits
+    words.0 words.1
     (itself-place k (variable_named vs (path_told d)) named)

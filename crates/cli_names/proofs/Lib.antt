@@ -4,3 +4,4 @@ pub mod WordLaws
 pub mod TextLaws
 pub mod FreeLaws
 pub mod ColumnLaws
+pub mod ReadLaws

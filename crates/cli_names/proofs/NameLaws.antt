@@ -60,7 +60,8 @@ later-if : (vs : List Declared) (k : ℕ) (w : Declared) (b : Bool) (ms : List N
     → (ms ≡ n ∷ ns → NamesLater vs (suc k) n.path)
     → cond b (record { path = w.path; width = w.size } ∷ ms) ms ≡ n ∷ ns → NamesLater vs k n.path
 later-if vs k w true ms n ns is more e =
-    let path : n.path ≡ w.path = ap (λ (x : Named). x.path) (let h : n ≡ record { path = w.path; width = w.size } = cc in h) in
+    let path : n.path ≡ w.path =
+    ap (λ (x : Named). x.path) (let h : n ≡ record { path = w.path; width = w.size } = cc in h) in
     record {
       place = k;
       later = omega arith;

@@ -2,7 +2,8 @@
 use Rattle.std.specs.Prelude.{◌≡◌, ◌↔◌, ℕ, suc, Bool, true, List, [], ◌∷◌, map, Some, string_bytes}
 use Rattle.std.specs.Prelude.{if◌then◌else◌}
 use Rattle.std.specs.Fmt.{decimal}
-use Rattle.vcd_reader.specs.Variables.{Declared, path_of, variable_at_place, variable_named, is_place}
+use Rattle.vcd_reader.specs.Variables.{Declared, path_of, variable_at_place, variable_named}
+use Rattle.vcd_reader.specs.Variables.{is_place}
 use Rattle.vcd_reader.specs.Header.{name_of}
 use Rattle.vcd_header.specs.Declarations.{Fields, Declaration, variable_of, range_of}
 use Rattle.vcd_header.specs.Views.{path_in, range_in}

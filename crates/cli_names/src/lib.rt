@@ -21,8 +21,8 @@
 //! paths a rule can spell), `specs/Filters.antt` (which variables are asked for), `specs/Rows.antt`
 //! (what is told of each), `specs/Tables.antt` (the text). What a header declares is said by
 //! `vcd_header`, which path names what by `vcd_reader`, and what words are by `lexer` and
-//! `parser_grammar`. By `note_law` a variable has no note exactly where a rule can spell its path and
-//! the path names it.
+//! `parser_grammar`. By `note_law` a variable has no note exactly where a rule can spell its path
+//! and the path names it.
 //!
 //! Not promised: that a text which declares a sequence or a counter of a path's one word reads the
 //! variable, and that programs hold paths of over 65,535 bytes.
@@ -37,8 +37,6 @@ mod note;
 mod rows;
 mod spelled;
 mod table;
-#[cfg(test)]
-mod tests;
 
 pub use fault::NamesFault;
 pub use filter::Filter;

@@ -13,7 +13,8 @@ loop-row-preserved c =
     c.min.ensures ∙ ap (λ (m : ℕ). min (length c.cell.result.now) m) c.most.ensures
     ∙ ap (λ (m : ℕ). min m (most c.args.column)) long in
     ap (λ (w : ℕ). max w (width_of c.args.column (map row_data (drop (i + 1) rows)))) c.max-width.ensures
-    ∙ width-next c.args.column rows i c.row-item.result c.loop-row.width c.min.result c.loop-row-test.true c.row-item.is n
+    ∙ width-next c.args.column rows i c.row-item.result c.loop-row.width c.min.result c.loop-row-test.true
+    c.row-item.is n
     ∙ c.loop-row.invariant
 
 pub returns : goal.returns

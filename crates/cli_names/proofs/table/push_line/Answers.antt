@@ -27,7 +27,8 @@ returns c =
     and_then
     (and_then
     (and_then
-    (and_then (and_then (and_then (and_then path c.in_ok-push_blanks.ensures) size) c.in_ok-push_blanks-2.ensures) range)
+    (and_then (and_then (and_then (and_then path c.in_ok-push_blanks.ensures) size) c.in_ok-push_blanks-2.ensures)
+    range)
     c.in_ok-push_blanks-3.ensures)
     kind)
     end
