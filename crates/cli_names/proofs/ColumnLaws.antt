@@ -1,7 +1,6 @@
 -- Columns: blanks, and widths a row at a time.
-use Rattle.std.proofs.Common.{◌≡◌, ℕ, zero, suc, ◌+◌, ◌<◌, ◌≤◌, min, max, List, [], ◌∷◌, ◌++◌, length, get_or, drop}
-use Rattle.std.proofs.Common.{map}
-use Rattle.std.proofs.Common.{refl, sym, ap, ◌∙◌, arith, append_assoc, append-nil, add-one}
+use Rattle.std.proofs.Common.{◌≡◌, ℕ, suc, ◌+◌, ◌<◌, ◌≤◌, min, max, List, [], ◌∷◌, ◌++◌, length, get_or, drop}
+use Rattle.std.proofs.Common.{map, refl, sym, ap, ◌∙◌, arith, append_assoc, append-nil}
 use Rattle.std.proofs.Math.Seq.{drop-cons}
 use Rattle.std.proofs.Math.ListN.{drop_of_length-le}
 use Rattle.cli_names.specs.declared.column.Column.{Column}
@@ -43,4 +42,11 @@ module _ (c : Column) where
 
 pub widths-same : (rs : List RowData) (w : Widths) → w.path ≡ width_of Path rs → w.size ≡ width_of Size rs
     → w.range ≡ width_of Range rs → w.kind ≡ width_of Kind rs → w ≡ widths_of rs
-widths-same rs w a b c d = cc
+widths-same rs w a b c d =
+    ap (λ (n : ℕ). let x : Widths = record { path = n; size = w.size; range = w.range; kind = w.kind } in x) a
+    ∙ ap (λ (n : ℕ). let x : Widths =
+    record { path = width_of Path rs; size = n; range = w.range; kind = w.kind } in x) b
+    ∙ ap (λ (n : ℕ). let x : Widths =
+    record { path = width_of Path rs; size = width_of Size rs; range = n; kind = w.kind } in x) c
+    ∙ ap (λ (n : ℕ). let x : Widths =
+    record { path = width_of Path rs; size = width_of Size rs; range = width_of Range rs; kind = n } in x) d

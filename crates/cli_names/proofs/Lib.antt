@@ -5,3 +5,4 @@ pub mod TextLaws
 pub mod FreeLaws
 pub mod ColumnLaws
 pub mod ReadLaws
+pub mod TableLaws

@@ -1,6 +1,7 @@
 -- Texts in paths.
 use Rattle.std.proofs.Common.{◌≡◌, ℕ, suc, ◌+◌, ◌<◌, ◌≤◌, Bool, true, false, ◌||◌, eqb, List, [], ◌∷◌, length, drop}
-use Rattle.std.proofs.Common.{refl, sym, ap, ◌∙◌, add-one}
+use Rattle.std.proofs.Common.{refl, sym, ap, ◌∙◌, add-one, arith}
+use Rattle.std.proofs.lemmas.Bool.{ne_eqb}
 use Rattle.std.proofs.Math.ListN.{drop_of_length-le}
 use Rattle.std.specs.Prelude.{nat_eq}
 use Rattle.std.specs.List.{starts_with}
@@ -25,7 +26,7 @@ module _ (text path : List ℕ) (i : ℕ) (lt : i < length path) where
 has-nil : (text : List ℕ) → has_text text [] ≡ eqb (length text) 0
 unfolding has_text
 has-nil [] = refl
-has-nil (b ∷ bs) = refl
+has-nil (b ∷ bs) = sym (ne_eqb (length (b ∷ bs)) 0 (λ e. omega arith))
 
 -- no byte is left
 pub has-none : (text path : List ℕ) (i : ℕ) → length path ≤ i → has_text text (drop i path) ≡ eqb (length text) 0

@@ -1,6 +1,6 @@
 //! The columns of a table.
 
-ghost use Rattle.std.specs.Prelude.{◌≡◌, map};
+ghost use Rattle.std.specs.Prelude.{◌≡◌, map, max};
 ghost use Rattle.cli_names.specs.Rows.{row_data};
 ghost use Rattle.cli_names.specs.Tables.{cell, most, width_of};
 
@@ -41,13 +41,20 @@ pub(crate) fn cell<'r>(row: &'r Row<'_>, column: Column) -> &'r [u8]
     }
 }
 
+/// The larger of two numbers.
+fn larger(left: usize, right: usize) -> usize
+    ensures { result ≡ max left right }
+{
+    if left < right { right } else { left }
+}
+
 /// The width of a column: that of its widest text, at most `most`.
 pub(crate) fn width_of(rows: &[Row<'_>], column: Column) -> usize
     ensures { result ≡ width_of column (map row_data rows.now) }
 {
     let mut width = 0;
     for row in rows {
-        width = width.max(cell(row, column).len().min(column.most()));
+        width = larger(width, cell(row, column).len().min(column.most()));
     }
     width
 }

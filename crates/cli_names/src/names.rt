@@ -1,6 +1,7 @@
 //! The call behind the command `names`.
 
-ghost use Rattle.std.specs.Prelude.{IfOk};
+ghost use Rattle.std.specs.Prelude.{◌≡◌, IfOk, OnOk, false};
+ghost use Rattle.std.specs.Io.KnownBytes.{Appends};
 ghost use Rattle.vcd_reader.specs.Dump.{Gave};
 ghost use Rattle.vcd_reader.specs.Held.{Parses};
 ghost use Rattle.cli_names.specs.Told.{IsTable, IsTableOf, IsTold};
@@ -67,6 +68,21 @@ fn table_over(
     Ok(table_in(alloc, &dump, bytes, filter)?)
 }
 
+/// Writes a table and flushes it.
+fn write_table<W: Sink>(out: &mut W, table: &[u8]) -> Result<(), NamesFault>
+    ensures written { OnOk result
+        (Appends (W.state out.old).contents (W.state out.new).contents table.now) }
+    ensures flushed { OnOk result ((W.state out.new).keeps_back ≡ false) }
+{
+    if write_all(out, table).is_err() {
+        return Err(NamesFault::Report(ReportFault::Write));
+    }
+    match out.flush() {
+        Ok(()) => Ok(()),
+        Err(_) => Err(NamesFault::Report(ReportFault::Write)),
+    }
+}
+
 /// Tells the variables of the dump that a source gives that are asked for, in the header's order:
 /// of each its path, its width in bits, its declared range, its kind, and where no rule can name
 /// it, why not. Where none is told, it writes `0 of N variables`.
@@ -87,8 +103,6 @@ pub fn names_one<S: Source, W: Sink>(
 {
     let bytes = bytes_of(alloc, source)?;
     let (table, count) = table_over(alloc, &bytes, filter)?;
-    if write_all(out, &table).is_err() || out.flush().is_err() {
-        return Err(NamesFault::Report(ReportFault::Write));
-    }
+    write_table(out, &table)?;
     Ok(count)
 }

@@ -1,6 +1,6 @@
 //! The table of what is told.
 
-ghost use Rattle.std.specs.Prelude.{◌≡◌, ◌++◌, map, OnOk, IfOk};
+ghost use Rattle.std.specs.Prelude.{◌≡◌, ◌++◌, [], map, OnOk, IfOk};
 ghost use Rattle.verdicts.specs.Texts.{Grows};
 ghost use Rattle.cli_names.specs.Rows.{row_data};
 ghost use Rattle.std.specs.List.{flat_map};
@@ -118,15 +118,22 @@ fn lines_of(alloc: Global, rows: &[Row<'_>]) -> Result<Vec<u8>, AllocError>
     Ok(out)
 }
 
+/// What is told where no variable of so many is.
+#[tactic(auto, unfolding(crate::specs::Tables::table_text))]
+fn none_of(alloc: Global, total: u64) -> Result<Vec<u8>, AllocError>
+    ensures { IfOk result (λ out. out.items ≡ table_text [] total) }
+{
+    let none = format!(in alloc; "0 of {total} variables\n")?;
+    Ok(Vec::from_slice(alloc, none.as_bytes())?)
+}
+
 /// The table of what is told.
 pub(crate) fn table_of(alloc: Global, told: &Told<'_>) -> Result<Vec<u8>, AllocError>
     ensures { IfOk result (λ out. out.items
         ≡ table_text (map row_data told.now.rows.items) told.now.total) }
 {
     if told.rows.is_empty() {
-        let total = told.total;
-        let none = format!(in alloc; "0 of {total} variables\n")?;
-        return Vec::from_slice(alloc, none.as_bytes());
+        return none_of(alloc, told.total);
     }
     lines_of(alloc, &told.rows)
 }

@@ -12,7 +12,7 @@ loop-row-preserved c =
     let n : c.min.result ≡ min (length (cell c.args.column (row_data c.row-item.result))) (most c.args.column) =
     c.min.ensures ∙ ap (λ (m : ℕ). min (length c.cell.result.now) m) c.most.ensures
     ∙ ap (λ (m : ℕ). min m (most c.args.column)) long in
-    ap (λ (w : ℕ). max w (width_of c.args.column (map row_data (drop (i + 1) rows)))) c.max-width.ensures
+    ap (λ (w : ℕ). max w (width_of c.args.column (map row_data (drop (i + 1) rows)))) c.larger-width.ensures
     ∙ width-next c.args.column rows i c.row-item.result c.loop-row.width c.min.result c.loop-row-test.true
     c.row-item.is n
     ∙ c.loop-row.invariant

@@ -1,4 +1,4 @@
-use Rattle.std.proofs.Common.{◌≡◌, ◌∙◌, ◌+◌, Bool, drop, sym, ap, arith}
+use Rattle.std.proofs.Common.{◌∙◌, ◌+◌, Bool, drop, sym, ap}
 use Rattle.std.proofs.lemmas.Bool.{eq-eqb, ne_eqb}
 use Rattle.cli_names.specs.Spelled.{are_words}
 use Rattle.cli_names.proofs.WordLaws.{words-letter, words-no_letter, words-dot, words-part, words-no_part, words-end}
