@@ -1,5 +1,5 @@
 -- The report on a text over a dump, and why there is none by programs, once its suite is known.
-use Rattle.std.proofs.Common.{◌≡◌, ◌∙◌, ℕ, List, refl, sym, ap, subst}
+use Rattle.std.proofs.Common.{ℕ, List, refl, subst}
 use Rattle.std.specs.Prelude.{string_bytes}
 use Rattle.assertions.specs.declared.suite.Suite.{Suite}
 use Rattle.vcd_reader.specs.declared.dump.Dump.{Dump}
@@ -11,13 +11,9 @@ use Rattle.verdicts.specs.Lines.{ReportData}
 use Rattle.cli_suites.specs.declared.fault.LinesFault.{LinesFault}
 use Rattle.cli_suites.specs.Lines.{AreVariables, rows_at}
 use Rattle.cli_suites.specs.Faults.{WhyNoLines}
-use Rattle.expressions.specs.declared.rows.Rows.{Rows}
-use Rattle.expressions.specs.Rows.{HasCounts}
 use Rattle.judging_reports.specs.Reported.{OverRows}
-use Rattle.judging_reports.proofs.ReportLaws.{have_places}
 use Rattle.cli.specs.Programs.{lines_fault}
 use Rattle.cli.specs.Reported.{HasReport, SaysSuite}
-use Rattle.cli.specs.Explained.{IsTraced}
 use Rattle.cli.specs.Outcomes.{WhyNoneByPrograms}
 use Rattle.cli.proofs.TextLaws.{are_named, uncompiled}
 use Rattle.cli.proofs.ProgramLaws.{has_clock, reports_by}
@@ -38,22 +34,3 @@ module _ (c : Contents) (d : Dump) (text : List ℕ) (suite : Suite) (code : ℕ
 
   pub no_report : (e : LinesFault) → WhyNoLines suite e → WhyNoneByPrograms c text (lines_fault e)
   no_report e why = uncompiled c text suite e says (has_clock c.variables (string_bytes suite.clock) code clock) why
-
-  -- rows of the suite's signals with their counts, and the report on them
-  pub traced : (rows : Rows) (r : ReportData)
-      → ((signals : List ℕ) → AreVariables c suite signals → rows.signals ≡ rows_at c signals code)
-      → HasCounts suite.counters.items rows
-      → ((signals : List ℕ) → AreVariables c suite signals → OverRows suite (rows_at c signals code) r)
-      → IsTraced c text suite rows r
-  traced rows r are counts over =
-      let have = have_places c.variables suite.names.items (are_named c c.variables says.items suite refl says.typed) in
-      let is = are have.places have.are in
-      record {
-        says = says;
-        clock = clock.0;
-        signals = have.places;
-        bound = record { clock_named = clock.1; clock_bit = clock.2; signals_named = have.are };
-        rows_are = is ∙ ap (λ (n : ℕ). rows_at c have.places n) clock.3;
-        counted = counts;
-        over = subst (λ (xs : List (List ℕ)). OverRows suite xs r) (sym is) (over have.places have.are);
-      }

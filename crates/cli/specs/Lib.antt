@@ -3,6 +3,5 @@ pub mod Named
 pub mod Programs
 pub mod Reported
 pub mod Timed
-pub mod Explained
 pub mod Outcomes
 pub mod Builds

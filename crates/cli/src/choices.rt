@@ -1,10 +1,5 @@
 //! Which failed attempts of a report are explained.
 
-ghost use Rattle.std.specs.Prelude.{◌≡◌, ◌++◌, ℕ, List, IfOk, OnOk, map, take};
-ghost use Rattle.std.specs.List.{filter};
-ghost use Rattle.verdicts.specs.Lines.{line};
-ghost use Rattle.cli.specs.Explained.{begins_at, chosen_of_line, choices_from};
-
 use crate::wanted::Wanted;
 use std::alloc::{AllocError, Global};
 use verdicts::{Failure, Line};
@@ -21,9 +16,7 @@ fn begun_at(
     alloc: Global,
     start: Option<u64>,
     fails: &[Failure],
-) -> Result<Vec<Failure>, AllocError>
-    ensures { IfOk result (λ begun. begun.items ≡ filter (begins_at start) fails.now) }
-{
+) -> Result<Vec<Failure>, AllocError> {
     let mut begun = Vec::new(alloc);
     for failure in fails {
         if begins_at(start, failure) {
@@ -34,9 +27,7 @@ fn begun_at(
 }
 
 /// Whether an attempt began at a clock, if one is given.
-fn begins_at(start: Option<u64>, failure: &Failure) -> bool
-    ensures { result ≡ begins_at start failure.now }
-{
+fn begins_at(start: Option<u64>, failure: &Failure) -> bool {
     match start {
         None => true,
         Some(start) => failure.start == start,
@@ -44,9 +35,7 @@ fn begins_at(start: Option<u64>, failure: &Failure) -> bool
 }
 
 /// At most so many.
-fn at_most(most: u64, fails: &[Failure]) -> &[Failure]
-    ensures { result.now ≡ take most fails.entry.now }
-{
+fn at_most(most: u64, fails: &[Failure]) -> &[Failure] {
     if fails.len() as u64 <= most {
         fails
     } else {
@@ -59,10 +48,7 @@ fn push_choices(
     choices: &mut Vec<Choice>,
     place: usize,
     fails: &[Failure],
-) -> Result<(), AllocError>
-    ensures { OnOk result (choices.new.items ≡ choices.old.items
-        ++ map (λ f. record { place = place; failure = f }) fails.now) }
-{
+) -> Result<(), AllocError> {
     for failure in fails {
         choices.push(Choice {
             place,
@@ -79,10 +65,7 @@ fn push_wanted(
     wanted: &Wanted<'_>,
     place: usize,
     of: &Line,
-) -> Result<(), AllocError>
-    ensures { OnOk result (choices.new.items ≡ choices.old.items
-        ++ chosen_of_line wanted.now place (line of.now)) }
-{
+) -> Result<(), AllocError> {
     if !wanted.has_assertion(of.name.as_str()) {
         return Ok(());
     }
@@ -95,10 +78,7 @@ pub(crate) fn choices_of(
     alloc: Global,
     wanted: &Wanted<'_>,
     lines: &[Line],
-) -> Result<Vec<Choice>, AllocError>
-    ensures { IfOk result (λ choices.
-        choices.items ≡ choices_from wanted.now 0 (map line lines.now)) }
-{
+) -> Result<Vec<Choice>, AllocError> {
     let mut choices = Vec::new(alloc);
     for place in 0..lines.len() {
         push_wanted(alloc, &mut choices, wanted, place, &lines[place])?;

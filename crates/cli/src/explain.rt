@@ -1,11 +1,5 @@
 //! The call of the command `explain`.
 
-ghost use Rattle.std.specs.Prelude.{◌≡◌, ℕ, List, IfOk};
-ghost use Rattle.std.specs.List.{AllZip};
-ghost use Rattle.vcd_reader.specs.Dump.{Contents};
-ghost use Rattle.verdicts.specs.Shown.{data_of};
-ghost use Rattle.cli.specs.Explained.{IsExplanation, choices_from, HasExplained};
-
 use crate::choices::choices_of;
 use crate::explain_text::text_of;
 use crate::explanation::{Explanation, explanations_of};
@@ -37,11 +31,7 @@ pub(crate) fn wanted_of(
     alloc: Global,
     trace: &Trace<'_>,
     wanted: &Wanted<'_>,
-) -> Result<Vec<Explanation>, AllocError>
-    ensures { IfOk result (λ explanations. AllZip
-        (IsExplanation trace.now.suite trace.now.rows)
-        (choices_from wanted.now 0 (data_of trace.now.report).lines) explanations.items) }
-{
+) -> Result<Vec<Explanation>, AllocError> {
     let choices = choices_of(alloc, wanted, trace.report.lines.as_slice())?;
     explanations_of(alloc, trace, choices.as_slice())
 }
@@ -71,10 +61,7 @@ pub fn explain_one<'a, S: Source, W: Sink>(
     parts: &[Part],
     wanted: &Wanted<'_>,
     out: &mut W,
-) -> Result<u64, Fault<'a>>
-    ensures explained { IfOk result (HasExplained text.entry.now
-        (S.state source.old) (S.state source.new) wanted.now) }
-{
+) -> Result<u64, Fault<'a>> {
     let dump = read_dump(alloc, source)?;
     let trace = trace_of(alloc, dump, text)?;
     find_wanted(alloc, &trace, wanted)?;

@@ -1,9 +1,5 @@
 //! Explanations, as values.
 
-ghost use Rattle.std.specs.Prelude.{◌≡◌, IfOk, slice_get};
-ghost use Rattle.std.specs.List.{AllZip};
-ghost use Rattle.cli.specs.Explained.{IsWhy, IsExplanation};
-
 use crate::choices::Choice;
 use crate::trace::Trace;
 use assertions::Assertion;
@@ -34,10 +30,7 @@ fn reason_of(
     read: &Read<'_>,
     counters: &[&str],
     failure: &Failure,
-) -> Result<Option<Reason>, AllocError>
-    ensures { IfOk result (IsWhy read.now.suite.now read.now.rows.now read.now.assertion.now
-        failure.now) }
-{
+) -> Result<Option<Reason>, AllocError> {
     let start = failure.start as usize;
     let clock = failure.clock as usize;
     if start > clock || clock >= read.rows.signals.len() {
@@ -60,11 +53,7 @@ fn reason_at(
     alloc: Global,
     trace: &Trace<'_>,
     choice: &Choice,
-) -> Result<Option<Reason>, AllocError>
-    ensures { IfOk result (λ reason. MatchOption
-        (slice_get trace.now.suite.assertions.items choice.now.place) (reason ≡ None)
-        (λ a. IsWhy trace.now.suite trace.now.rows a choice.now.failure reason)) }
-{
+) -> Result<Option<Reason>, AllocError> {
     let Some(assertion) = trace.suite.assertions.get(choice.place) else {
         return Ok(None);
     };
@@ -86,9 +75,7 @@ fn explanation_of(
     alloc: Global,
     trace: &Trace<'_>,
     choice: &Choice,
-) -> Result<Explanation, AllocError>
-    ensures { IfOk result (IsExplanation trace.now.suite trace.now.rows choice.now) }
-{
+) -> Result<Explanation, AllocError> {
     let reason = reason_at(alloc, trace, choice)?;
     Ok(Explanation {
         place: choice.place,
@@ -102,10 +89,7 @@ pub(crate) fn explanations_of(
     alloc: Global,
     trace: &Trace<'_>,
     choices: &[Choice],
-) -> Result<Vec<Explanation>, AllocError>
-    ensures { IfOk result (λ explanations. AllZip
-        (IsExplanation trace.now.suite trace.now.rows) choices.now explanations.items) }
-{
+) -> Result<Vec<Explanation>, AllocError> {
     let mut explanations = Vec::with_capacity(alloc, choices.len())?;
     for choice in choices {
         explanations.push(explanation_of(alloc, trace, choice)?)?;

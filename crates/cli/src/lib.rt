@@ -17,9 +17,8 @@
 //!
 //! The definitions: what a report on bytes and a text is in `specs/Reported.antt`, what a run comes
 //! to in `specs/Outcomes.antt`, the times of clocks in `specs/Timed.antt`, what a build comes to
-//! in `specs/Builds.antt`, what is explained in `specs/Explained.antt`; the report on a suite in
-//! `judging_reports`, a page in `report_page`; faults, their lines and
-//! statuses in `cli_faults`.
+//! in `specs/Builds.antt`; the report on a suite in `judging_reports`, a page in `report_page`;
+//! faults, their lines and statuses in `cli_faults`.
 //!
 //! Not promised: that memory suffices; of `check_all`, that it returns, and that two workers were
 //! at work at once.

@@ -1,10 +1,5 @@
 //! The report on a text over a dump as a page.
 
-ghost use Rattle.std.specs.Prelude.{◌≡◌, ℕ, List, IfOk};
-ghost use Rattle.verdicts.specs.Shown.{data_of};
-ghost use Rattle.report_page.specs.PageForm.{IsPage};
-ghost use Rattle.cli.specs.Explained.{HasPage, IsPageOn};
-
 use crate::explain::wanted_of;
 use crate::explanation::Explanation;
 use crate::heads::place_in;
@@ -60,16 +55,13 @@ fn push_picture<'p>(
 }
 
 /// The page of a trace, with these failed attempts.
-fn page_of(
+fn page_of<'p>(
     alloc: Global,
-    trace: &Trace<'_>,
-    paths: Paths<'_>,
-    origin: &Origin<'_>,
-    explanations: &[Explanation],
-) -> Result<Vec<u8>, AllocError>
-    ensures { IfOk result (λ bytes. IsPageOn paths trace.now.times.items
-        (data_of trace.now.report) bytes.items) }
-{
+    trace: &'p Trace<'_>,
+    paths: Paths<'p>,
+    origin: &'p Origin<'p>,
+    explanations: &'p [Explanation],
+) -> Result<Vec<u8>, AllocError> {
     let mut pictures = Vec::new(alloc);
     for explanation in explanations {
         push_picture(&mut pictures, trace, origin, explanation)?;
@@ -96,10 +88,7 @@ pub fn page_one<'a, S: Source>(
     paths: Paths<'_>,
     origin: &Origin<'_>,
     most: u64,
-) -> Result<Vec<u8>, Fault<'a>>
-    ensures page { IfOk result (λ bytes. HasPage text.entry.now
-        (S.state source.old) (S.state source.new) paths bytes.items) }
-{
+) -> Result<Vec<u8>, Fault<'a>> {
     let dump = read_dump(alloc, source)?;
     let trace = trace_of(alloc, dump, text)?;
     let wanted = Wanted {

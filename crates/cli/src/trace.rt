@@ -1,10 +1,7 @@
 //! What explanations are made of.
 
-ghost use Rattle.std.specs.Prelude.{◌≡◌, ℕ, List, IfOk};
 ghost use Rattle.vcd_reader.specs.Dump.{Contents};
 ghost use Rattle.vcd_reader.specs.Held.{HoldsContents};
-ghost use Rattle.verdicts.specs.Shown.{data_of};
-ghost use Rattle.cli.specs.Explained.{IsTraced};
 
 use crate::checked::{TimedSuite, timed_suite};
 use crate::heads::{Heads, heads_of};
@@ -51,8 +48,6 @@ impl Trace<'_> {
 /// it is on.
 pub(crate) fn trace_of<'a>(alloc: Global, dump: Dump, text: &'a str) -> Result<Trace<'a>, Fault<'a>>
     requires held { (c : Contents) × HoldsContents dump c }
-    ensures traced { (c : Contents) → HoldsContents dump c
-        → IfOk result (λ t. IsTraced c text.entry.now t.suite t.rows (data_of t.report)) }
 {
     let file = file_of(alloc, text)?;
     let heads = heads_of(alloc, &file)?;

@@ -12,13 +12,8 @@ pub struct Wanted<'w> {
 }
 
 impl Wanted<'_> {
-    ghost use Rattle.std.specs.Prelude.{◌≡◌};
-    ghost use Rattle.cli.specs.Explained.{is_wanted};
-
     /// Whether an assertion's failed attempts are explained.
-    pub(crate) fn has_assertion(&self, name: &str) -> bool
-        ensures { result ≡ is_wanted self.now name.now }
-    {
+    pub(crate) fn has_assertion(&self, name: &str) -> bool {
         match self.only {
             None => true,
             Some(only) => only == name,
