@@ -21,8 +21,8 @@
 //! memory, and 4 for a file that can't be opened, read or written.
 //!
 //! It opens files (`cli_shell`) and hands over what is in them; what a command answers is said by
-//! the contracts of `cli` (`check_all`, `report_all`, `report_over`, `judge_one`, `build_one`,
-//! `explain_one`, `page_one`), of `report_forms` (`junit_report`, `json_report`), of `cli_bytecode`
+//! the contracts of `cli` (`check_all`, `report_all`, `report_over`, `judge_one`, `build_one`),
+//! of `report_page` (`page`), of `report_forms` (`junit_report`, `json_report`), of `cli_bytecode`
 //! (`verify_code`, `run_code`, `upgrade_code`), of `cli_lint` (`lint_over`), of `cli_names`
 //! (`names_one`), of `cli_texts` (`joined`, `chosen`) and of `axi4_rules` (`port_rules`), whose
 //! definitions stand in their `specs/`.
