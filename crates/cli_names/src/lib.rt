@@ -37,6 +37,8 @@ mod note;
 mod rows;
 mod spelled;
 mod table;
+#[cfg(test)]
+mod tests;
 
 pub use fault::NamesFault;
 pub use filter::Filter;
