@@ -72,14 +72,6 @@ fn page_bytes<'a, R: Files + AllocGlobal>(
     page_of(rt, text, origin, asked)
 }
 
-/// The file of the page, if one is asked for.
-fn page_file<'f>(asked: &Asked<'f>, bytes: &'f [u8]) -> Option<NewFile<'f>> {
-    match asked.html {
-        None => None,
-        Some(path) => Some(NewFile { path, bytes }),
-    }
-}
-
 /// Judges a text over a dump by a team; the report goes to standard output.
 fn judge_by_team<'a, R: Files + Print + AllocGlobal + Threads + Wait + Sync>(
     rt: &R,
@@ -120,7 +112,13 @@ fn judge_into_forms<'a, R: Files + Print + AllocGlobal + Threads + Wait + Sync>(
         text: paths.as_str(),
         times: made.times.as_slice(),
     };
-    let file = page_file(asked, page.as_slice());
+    let file = match asked.html {
+        None => None,
+        Some(path) => Some(NewFile {
+            path,
+            bytes: page.as_slice(),
+        }),
+    };
     print_report(rt, &asked.files, file, &from, &made.report)
 }
 
@@ -144,7 +142,13 @@ fn judge_rest<'a, R: Files + Print + AllocGlobal + Threads + Wait + Sync>(
         text: paths.as_str(),
         times: made.times.as_slice(),
     };
-    let file = page_file(asked, page.as_slice());
+    let file = match asked.html {
+        None => None,
+        Some(path) => Some(NewFile {
+            path,
+            bytes: page.as_slice(),
+        }),
+    };
     print_report(rt, &asked.files, file, &from, &made.report)
 }
 
