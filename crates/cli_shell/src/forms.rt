@@ -10,13 +10,6 @@ use std::io;
 use std::io::Print;
 use verdicts::Report;
 
-/// A file that is still to be made: its path, and what goes into it.
-#[derive(Clone, Copy)]
-pub struct NewFile<'a> {
-    pub path: &'a str,
-    pub bytes: &'a [u8],
-}
-
 /// The paths of files into which a report is written in other forms, where there are any.
 #[derive(Clone, Copy)]
 pub struct FormFiles<'a> {
@@ -59,17 +52,6 @@ impl FormFiles<'_> {
     }
 }
 
-/// Makes a file, where there is one to make.
-fn write_new<R: Files + AllocGlobal>(
-    rt: &R,
-    file: Option<NewFile<'_>>,
-) -> Result<(), Fault<'static>> {
-    match file {
-        None => Ok(()),
-        Some(file) => write_bytes(rt, file.path, file.bytes),
-    }
-}
-
 /// Makes the file of a path, where there is one.
 fn write_form<R: Files + AllocGlobal>(
     rt: &R,
@@ -82,18 +64,16 @@ fn write_form<R: Files + AllocGlobal>(
     }
 }
 
-/// Writes a report into files in other forms, which all are made before one is written, with a page
-/// that was made before, and then to standard output; answers its totals.
+/// Writes a report into files in other forms, which all are made before one is written, and then to
+/// standard output; answers its totals.
 pub fn print_report<R: Files + Print + AllocGlobal>(
     rt: &R,
     files: &FormFiles<'_>,
-    page: Option<NewFile<'_>>,
     from: &Provenance<'_>,
     report: &Report,
 ) -> Result<[u64; 5], Fault<'static>> {
     let junit = files.junit_bytes(rt.alloc(), from, report)?;
     let json = files.json_bytes(rt.alloc(), from, report)?;
-    write_new(rt, page)?;
     write_form(rt, files.junit, junit.as_slice())?;
     write_form(rt, files.json, json.as_slice())?;
     let mut out = Counted::new(io::writer(rt));

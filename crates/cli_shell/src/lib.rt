@@ -9,7 +9,7 @@
 //! let sources = read_chosen(&rt, &paths, None, &patterns)?;           // some assertions alone
 //! let fault = moved_fault(&sources.added, fault);                     // where the files have it
 //! let status = shown_status(&rt, outcome);
-//! let totals = print_report(&rt, &files, page, &from, &report)?;  // files in other forms first
+//! let totals = print_report(&rt, &files, &from, &report)?;    // files in other forms before it
 //! ```
 //!
 //! A file that can't be opened, read or made is the fault `File` with its path, and one that is no
@@ -34,7 +34,7 @@ mod words;
 
 pub use assertions_text::{Sources, read_chosen, read_sources, told_paths};
 pub use files::{open, read_bytes, write_bytes};
-pub use forms::{FormFiles, NewFile, print_report};
+pub use forms::{FormFiles, print_report};
 pub use moved::moved_fault;
 pub use print::print_rules;
 pub use report_forms::Provenance;

@@ -3,8 +3,8 @@
 use cli::{Fault, NoGate, Paths, check_all, page_one, report_all, report_over};
 use cli_lint::{Rest, rest_over};
 use cli_shell::{
-    FormFiles, NewFile, Provenance, Sources, moved_fault, open, print_report, read_chosen,
-    shown_lines, shown_status, told_paths,
+    FormFiles, Provenance, Sources, moved_fault, open, print_report, read_chosen, shown_lines,
+    shown_status, told_paths, write_bytes,
 };
 use cli_texts::{Added, Origin};
 use cycle_window::WindowSize;
@@ -72,6 +72,18 @@ fn page_bytes<'a, R: Files + AllocGlobal>(
     page_of(rt, text, origin, asked)
 }
 
+/// Makes the file of the page, if one is asked for.
+fn write_page<R: Files + AllocGlobal>(
+    rt: &R,
+    html: Option<&str>,
+    bytes: &[u8],
+) -> Result<(), Fault<'static>> {
+    match html {
+        None => Ok(()),
+        Some(path) => write_bytes(rt, path, bytes),
+    }
+}
+
 /// Judges a text over a dump by a team; the report goes to standard output.
 fn judge_by_team<'a, R: Files + Print + AllocGlobal + Threads + Wait + Sync>(
     rt: &R,
@@ -112,14 +124,8 @@ fn judge_into_forms<'a, R: Files + Print + AllocGlobal + Threads + Wait + Sync>(
         text: paths.as_str(),
         times: made.times.as_slice(),
     };
-    let file = match asked.html {
-        None => None,
-        Some(path) => Some(NewFile {
-            path,
-            bytes: page.as_slice(),
-        }),
-    };
-    print_report(rt, &asked.files, file, &from, &made.report)
+    write_page(rt, asked.html, page.as_slice())?;
+    print_report(rt, &asked.files, &from, &made.report)
 }
 
 /// Judges what is left of a text over a dump in memory, as [`judge_into_forms`] does.
@@ -142,14 +148,8 @@ fn judge_rest<'a, R: Files + Print + AllocGlobal + Threads + Wait + Sync>(
         text: paths.as_str(),
         times: made.times.as_slice(),
     };
-    let file = match asked.html {
-        None => None,
-        Some(path) => Some(NewFile {
-            path,
-            bytes: page.as_slice(),
-        }),
-    };
-    print_report(rt, &asked.files, file, &from, &made.report)
+    write_page(rt, asked.html, page.as_slice())?;
+    print_report(rt, &asked.files, &from, &made.report)
 }
 
 /// The status of an outcome; the line of a fault goes to standard error, with the byte that it has
