@@ -1,5 +1,8 @@
 //! The command `check`.
 
+ghost use Rattle.vcd_reader.specs.Dump.{Contents};
+ghost use Rattle.vcd_reader.specs.Held.{HoldsContents};
+
 use cli::{Fault, NoGate, Paths, check_all, page_one, report_all, report_over};
 use cli_lint::{Rest, rest_over};
 use cli_shell::{
@@ -135,7 +138,9 @@ fn judge_rest<'a, R: Files + Print + AllocGlobal + Threads + Wait + Sync>(
     text: &'a str,
     origin: &Origin<'_>,
     asked: &Asked<'_>,
-) -> Result<[u64; 5], Fault<'a>> {
+) -> Result<[u64; 5], Fault<'a>>
+    requires held { (c : Contents) × HoldsContents dump c }
+{
     let page = page_bytes(rt, text, origin, asked)?;
     let size = WindowSize::new(asked.team.window)?;
     let Ok(team) = TeamSize::new(asked.team.workers) else {
@@ -185,7 +190,9 @@ fn serve_rest<R: Files + Print + Eprint + AllocGlobal + Threads + Wait + Sync>(
     rest: &Rest,
     origin: &Origin<'_>,
     asked: &Asked<'_>,
-) -> u8 {
+) -> u8
+    requires held { (c : Contents) × HoldsContents dump c }
+{
     let Some(text) = &rest.text else {
         return 2;
     };
@@ -204,7 +211,9 @@ fn serve_going<R: Files + Print + Eprint + AllocGlobal + Threads + Wait + Sync>(
     dump: Dump,
     sources: &Sources,
     asked: &Asked<'_>,
-) -> u8 {
+) -> u8
+    requires held { (c : Contents) × HoldsContents dump c }
+{
     let origin = Origin {
         parts: sources.parts.as_slice(),
         added: sources.added.as_slice(),
