@@ -1,5 +1,5 @@
 PREFIX ?= /usr/local
-DUMP ?= crates/oracle_dumps/data/fifo_arb_bug1.vcd
+DUMP ?= crates/answers_dumps/data/fifo_arb_bug1.vcd
 CLOCK ?= tb.clk
 CASES ?= 1000
 MUTANTS ?= 100000
@@ -10,10 +10,10 @@ EXAMPLES := $(wildcard crates/demo/data/*/*)
 UNPROVED := Builds svamon without proof, with run-time checks: what you see is unproved and slow. \
 	make install proves and installs it.
 
-BYTECODE := crates/oracle_bytecode/out/oracle_bytecode
-VERIFIER := crates/oracle_verifier/out/oracle_verifier
-MACHINE := crates/oracle_machine/out/oracle_machine
-CORE := crates/oracle_core/out/oracle_core
+BYTECODE := crates/answers_bytecode/out/answers_bytecode
+VERIFIER := crates/answers_verifier/out/answers_verifier
+MACHINE := crates/answers_machine/out/answers_machine
+CORE := crates/answers_core/out/answers_core
 REFUSING := scripts/tools/fail_alloc 3 crates/svamon/out/svamon
 PROGRAM := examples/fails_at_its_tick/program.svm
 FILES = --vcd examples/$(1)/dump.vcd --sva examples/$(1)/assertion.sva
@@ -66,16 +66,16 @@ svamon:
 	cd crates/svamon && rm -f out/svamon && { rt run -- help; test -x out/svamon; }
 
 # Their runs by rt have no cases, and fail.
-oracle_bytecode oracle_verifier oracle_machine oracle_core:
+answers_bytecode answers_verifier answers_machine answers_core:
 	cd crates/$@ && rm -f out/$@ && { rt run > /dev/null 2>&1; test -x out/$@; }
 
-bench: svamon oracle_bytecode oracle_verifier oracle_machine
-	cd crates/bench_dumps && rt run > /dev/null
+bench: svamon answers_bytecode answers_verifier answers_machine
+	cd crates/bench_reader && rt run > /dev/null
 	bench/run $(DUMP) $(CLOCK)
 	bench/shapes
-	cd crates/oracle_texts && rt run > /dev/null || test -x out/oracle_texts
+	cd crates/answers_texts && rt run > /dev/null || test -x out/answers_texts
 	bench/texts
-	cd crates/oracle_suites && rt run > /dev/null || test -x out/oracle_suites
+	cd crates/answers_suites && rt run > /dev/null || test -x out/answers_suites
 	bench/suites
 	bench/bytecode
 	bench/verifier
@@ -87,7 +87,7 @@ bench: svamon oracle_bytecode oracle_verifier oracle_machine
 	bench/core
 	bench/threads
 
-allocations: svamon oracle_bytecode oracle_verifier oracle_core
+allocations: svamon answers_bytecode answers_verifier answers_core
 	scripts/tools/bytecode_memory.py $(BYTECODE)
 	scripts/tools/verifier_memory $(VERIFIER)
 	$(REFUSING) check $(call FILES,fails_at_its_tick) --workers 2
@@ -100,10 +100,10 @@ allocations: svamon oracle_bytecode oracle_verifier oracle_core
 	$(REFUSING) verify $(PROGRAM)
 	$(REFUSING) upgrade $(PROGRAM) --out /dev/null
 	$(REFUSING) run --vcd examples/fails_at_its_tick/dump.vcd --code $(PROGRAM)
-	awk 'BEGIN { RS = "\001"; ORS = "" } NR == 3' crates/oracle_core/stdin > $(CORE).case
+	awk 'BEGIN { RS = "\001"; ORS = "" } NR == 3' crates/answers_core/stdin > $(CORE).case
 	scripts/tools/fail_alloc -i $(CORE).case 1 $(CORE)
 
-random: svamon oracle_bytecode oracle_verifier oracle_machine
+random: svamon answers_bytecode answers_verifier answers_machine
 	scripts/random/random_bytecode.py $(BYTECODE) $(MUTANTS) $(SEED)
 	scripts/random/random_verifier.py $(VERIFIER) $(CASES) $(SEED)
 	scripts/random/random_machine.py $(MACHINE) $(PROGRAMS) 100 $(SEED)
@@ -119,4 +119,4 @@ soak: svamon
 	scripts/tools/soak crates/svamon/out/svamon $(SECONDS) $(SEED)
 
 .PHONY: help demo try test test-all edits install svamon bench allocations random soak
-.PHONY: oracle_bytecode oracle_verifier oracle_machine oracle_core
+.PHONY: answers_bytecode answers_verifier answers_machine answers_core

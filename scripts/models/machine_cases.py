@@ -1,5 +1,5 @@
 #!/usr/bin/env python3
-"""Makes cases for the program oracle_machine with the answers of an independent machine.
+"""Makes cases for the program answers_machine with the answers of an independent machine.
 
 `scripts/models/machine_cases.py FOLDER` writes FOLDER/stdin and FOLDER/stdout. A case in stdin is a line
 `case NAME`, a line `program HEX` of a file of bytecode, and for each clock a line `row V V ..` of

@@ -1,10 +1,10 @@
 #!/usr/bin/env python3
 """Counts what is in dumps, by the independent reader of reference_report.py: the paths that can be bound, the steps
 with the one at time 0, the changes, and the ticks of a clock; and says values of some paths at the first two ticks, the
-middle one and the last. It writes the stored output of crates/oracle_dumps, from the traces.txt there, whose lines are
+middle one and the last. It writes the stored output of crates/answers_dumps, from the traces.txt there, whose lines are
 DUMP CLOCK PATH...
 
-    cd crates/oracle_dumps/data && ../../../scripts/models/reference_counts.py traces.txt > ../stdout
+    cd crates/answers_dumps/data && ../../../scripts/models/reference_counts.py traces.txt > ../stdout
 """
 import re
 import sys

@@ -8,7 +8,7 @@ tick and 64, both modes, both cases, with and without watched IDs) it writes a d
 widths and twelve ticks of random values, runs `svamon check` and `svamon judge` with --axi on an empty text, and
 `svamon check` on what `svamon rules` prints: all must write one report, with a monitor for each rule of the table.
 
-With --write it writes what the gate runs instead: the ports of crates/oracle_reports, in which those ports that have
+With --write it writes what the gate runs instead: the ports of crates/answers_reports, in which those ports that have
 their signals in common stand in one port file, and what must be printed of each, by axi4_judge.py.
 """
 import itertools
@@ -24,7 +24,7 @@ sys.path.insert(0, f"{os.path.dirname(os.path.realpath(__file__))}/../models")
 import axi4_judge
 import axi4_rules
 
-CRATE = f"{os.path.dirname(os.path.abspath(__file__))}/../../crates/oracle_reports"
+CRATE = f"{os.path.dirname(os.path.abspath(__file__))}/../../crates/answers_reports"
 WIDTHS = {"len": 8, "size": 3, "burst": 2, "cache": 4, "prot": 3, "resp": 2}
 
 

@@ -1,8 +1,8 @@
 #!/usr/bin/env python3
-"""Compares oracle_bytecode with an independent reader on random mutants:
+"""Compares answers_bytecode with an independent reader on random mutants:
 scripts/random/random_bytecode.py PROGRAM [MUTANTS [SEED]]
 
-PROGRAM is oracle_bytecode. So many mutants are made of the smallest program, and as many of the
+PROGRAM is answers_bytecode. So many mutants are made of the smallest program, and as many of the
 one with each instruction, in version 1 and in version 2: bytes are replaced, removed and put in,
 and bits turned. The answers
 are those of bytecode_cases.py: all that a program holds, or its first fault. It stops at the
@@ -41,7 +41,7 @@ def first_difference(files, answers):
     for file, answer in zip(files, answers):
         wanted = cases.listed(file)
         if answer != wanted:
-            return f"{file.hex()}\n--- oracle_bytecode\n{answer}\n--- by the reader\n{wanted}", 0
+            return f"{file.hex()}\n--- answers_bytecode\n{answer}\n--- by the reader\n{wanted}", 0
         programs += wanted.startswith("Program")
     return None, programs
 

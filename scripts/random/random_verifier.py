@@ -1,8 +1,8 @@
 #!/usr/bin/env python3
-"""Compares oracle_verifier with an independent verifier on random programs:
+"""Compares answers_verifier with an independent verifier on random programs:
 scripts/random/random_verifier.py PROGRAM [CASES [SEED]]
 
-PROGRAM is oracle_verifier. So many programs are made that are accepted, in about half of them the
+PROGRAM is answers_verifier. So many programs are made that are accepted, in about half of them the
 antecedent may accept first, and four mutants of each,
 and where a changed byte still spells a program, that one too. The answers are those of
 verifier_model.py: least limits and lives, or the first fault. It stops at the first that differs,
@@ -56,7 +56,7 @@ def compare(oracle, programs, folder, named):
         wanted = verdict(program)
         if answer != wanted:
             spelled = encode(program).hex()
-            sys.exit(f"{spelled}\n--- oracle_verifier\n{answer}\n--- by the model\n{wanted}")
+            sys.exit(f"{spelled}\n--- answers_verifier\n{answer}\n--- by the model\n{wanted}")
     return collections.Counter(it.split()[0] for it in answers)
 
 

@@ -1,5 +1,5 @@
 #!/usr/bin/env python3
-"""Looks at what oracle_bytecode asks of memory: scripts/tools/bytecode_memory.py PROGRAM
+"""Looks at what answers_bytecode asks of memory: scripts/tools/bytecode_memory.py PROGRAM
 
 Each allocation is refused in turn while it reads, copies and writes a few programs, by
 scripts/tools/fail_alloc. And a file that declares as much as a count can is to take no more memory than

@@ -8,9 +8,9 @@ use Rattle.vcd_reader.specs.Dump.{Contents}
 use Rattle.vcd_reader.specs.Held.{HoldsContents, variables_of}
 use Rattle.cycle_window.specs.Bound.{IsClock}
 use Rattle.verdicts.specs.Lines.{ReportData}
-use Rattle.cli_suites.specs.declared.fault.LinesFault.{LinesFault}
-use Rattle.cli_suites.specs.Lines.{AreVariables, rows_at}
-use Rattle.cli_suites.specs.Faults.{WhyNoLines}
+use Rattle.compiled_reports.specs.declared.fault.LinesFault.{LinesFault}
+use Rattle.compiled_reports.specs.Lines.{AreVariables, rows_at}
+use Rattle.compiled_reports.specs.Faults.{WhyNoLines}
 use Rattle.judging_reports.specs.Reported.{OverRows}
 use Rattle.cli.specs.Programs.{lines_fault}
 use Rattle.cli.specs.Reported.{HasReport, SaysSuite}

@@ -34,7 +34,7 @@ use Rattle.vcd_reader.specs.Dump.{Contents}
 use Rattle.cycle_window.specs.Ticks.{ticks_of, row_of}
 use Rattle.verdicts.specs.Lines.{LineData, ReportData, report_of}
 use Rattle.compiler.specs.Conditions.{FitsSuite}
-use Rattle.cli_suites.specs.Lines.{IsWatched, AreVariables, rows_at, IsLineOf, IsReportOf}
+use Rattle.compiled_reports.specs.Lines.{IsWatched, AreVariables, rows_at, IsLineOf, IsReportOf}
 use Rattle.judging_reports.specs.Named.{AreNamed}
 use Rattle.judging_reports.specs.Judged.{AreLinesOver}
 use Rattle.judging_reports.specs.Reported.{OverRows, Reports}

@@ -46,11 +46,11 @@ use Rattle.types_suites.specs.declared.fault.TypeFault.TheVariants as types
 use Rattle.types_suites.specs.Faults as faults
 use Rattle.types_suites.specs.Faults.{IsFirst, IsFaultless}
 use Rattle.types_suites.specs.Suites.{AreSignals, IsSuite}
-use Rattle.cli_suites.specs.declared.fault.LinesFault.{LinesFault}
-use Rattle.cli_suites.specs.declared.fault.LinesFault.TheVariants.{Program}
-use Rattle.cli_suites.specs.declared.fault.LinesFault.TheVariants as lines
+use Rattle.compiled_reports.specs.declared.fault.LinesFault.{LinesFault}
+use Rattle.compiled_reports.specs.declared.fault.LinesFault.TheVariants.{Program}
+use Rattle.compiled_reports.specs.declared.fault.LinesFault.TheVariants as lines
 use Rattle.compiler.specs.declared.fault.CompileFault.TheVariants as compiles
-use Rattle.cli_suites.specs.Faults.{WhyNoLines}
+use Rattle.compiled_reports.specs.Faults.{WhyNoLines}
 use Rattle.vcd_reader.specs.Variables.{Declared, variable_named, size_of}
 use Rattle.vcd_reader.specs.Dump.{Contents}
 use Rattle.cycle_window.specs.declared.fault.WindowFault.{WindowFault}

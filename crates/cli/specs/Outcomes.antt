@@ -16,7 +16,7 @@ use Rattle.types_suites.specs.declared.fault.TypeFault.TheVariants as types
 use Rattle.types_suites.specs.Faults.{IsFirst}
 use Rattle.compiler.specs.declared.fault.CompileFault.{CompileFault}
 use Rattle.compiler.specs.declared.fault.CompileFault.TheVariants as compiles
-use Rattle.cli_suites.specs.Faults.{HasNoProgram, HasBadCount}
+use Rattle.compiled_reports.specs.Faults.{HasNoProgram, HasBadCount}
 use Rattle.vcd_reader.specs.declared.fault.VcdFault.TheVariants as dumps
 use Rattle.vcd_reader.specs.Dump.{Contents, Gave, GaveDump, dump_of}
 use Rattle.cycle_window.specs.declared.fault.WindowFault.{WindowFault}

@@ -10,7 +10,7 @@ ghost use Rattle.cli_faults.specs.Runs.{run_of};
 use crate::checked::{check_by_team, check_through};
 use crate::judged::run_through;
 use cli_faults::Fault;
-use cli_suites::Gate;
+use compiled_reports::Gate;
 use cycle_window::WindowSize;
 use signals::{Sink, Source};
 use std::alloc::Global;

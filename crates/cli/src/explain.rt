@@ -6,7 +6,7 @@ use crate::explanation::{Explanation, explanations_of};
 use crate::trace::{Trace, trace_of};
 use crate::wanted::Wanted;
 use cli_faults::Fault;
-use cli_texts::Part;
+use source_files::Part;
 use signals::{Sink, Source, write_all};
 use std::alloc::{AllocError, Global};
 use vcd_reader::read_dump;

@@ -3,7 +3,7 @@
 use crate::explanation::{Explanation, Reason};
 use crate::heads::place_in;
 use crate::trace::Trace;
-use cli_texts::{Part, spot_of};
+use source_files::{Part, spot_of};
 use explaining::{Sheet, push_sheet};
 use judging::Cause;
 use std::alloc::{AllocError, Global};

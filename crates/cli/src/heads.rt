@@ -1,7 +1,7 @@
 //! What explanations take from a text beside its suite: where assertions stand, and what counters
 //! are called.
 
-use cli_texts::{Part, Spot};
+use source_files::{Part, Spot};
 use lexer::Token;
 use parser::File;
 use parser_grammar::{AssertionTree, ItemTree};

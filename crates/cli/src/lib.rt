@@ -45,7 +45,7 @@ mod wanted;
 pub use build::build_one;
 pub use check::{check_all, check_one, judge_one};
 pub use cli_faults::{Fault, fault_line, status};
-pub use cli_suites::{Gate, NoGate};
+pub use compiled_reports::{Gate, NoGate};
 pub use cli_words::{Request, WordsFault, read_words};
 pub use explain::explain_one;
 pub use page::{Paths, page_one};

@@ -6,7 +6,7 @@ use crate::heads::place_in;
 use crate::trace::{Trace, trace_of};
 use crate::wanted::Wanted;
 use cli_faults::Fault;
-use cli_texts::{Origin, spot_in};
+use source_files::{Origin, spot_in};
 use report_forms::Provenance;
 use report_page::{Picture, page};
 use signals::Source;

@@ -7,14 +7,14 @@ ghost use Rattle.vcd_reader.specs.Held.{HoldsContents, variables_of};
 ghost use Rattle.cycle_window.specs.Held.{AreClocksOf, code_in};
 ghost use Rattle.verdicts.specs.Shown.{data_of};
 ghost use Rattle.compiler.specs.Conditions.{FitsSuite};
-ghost use Rattle.cli_suites.specs.Lines.{IsWatched, AreVariables, rows_at};
-ghost use Rattle.cli_suites.specs.Faults.{WhyNoLines};
+ghost use Rattle.compiled_reports.specs.Lines.{IsWatched, AreVariables, rows_at};
+ghost use Rattle.compiled_reports.specs.Faults.{WhyNoLines};
 ghost use Rattle.judging_reports.specs.Reported.{OverRows};
 ghost use Rattle.cli.specs.Programs.{lines_fault};
 
 use assertions::Suite;
 use cli_faults::Fault;
-use cli_suites::{LinesFault, lines_of};
+use compiled_reports::{LinesFault, lines_of};
 use cycle_window::{Clocks, WindowSize};
 use std::alloc::Global;
 use vcd_reader::Dump;

@@ -16,7 +16,7 @@ use crate::checked::{TimedSuite, timed_suite};
 use crate::programs::lines_fault;
 use crate::times::times_of;
 use cli_faults::Fault;
-use cli_suites::{Gate, suite_report};
+use compiled_reports::{Gate, suite_report};
 use cycle_window::WindowSize;
 use signals::Source;
 use std::alloc::Global;

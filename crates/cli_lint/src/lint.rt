@@ -11,7 +11,7 @@ ghost use Rattle.cli_lint.specs.Rests.{IsLeft, IsRest};
 use crate::dump_paths::names_of;
 use crate::fault::LintFault;
 use crate::front::DumpFront;
-use cli_texts::{Origin, Part, spot_in};
+use source_files::{Origin, Part, spot_in};
 use linting::{Linted, Refusal, item_ends, lint, push_refusal, push_total};
 use signals::{Sink, Source, write_all};
 use std::alloc::{AllocError, Global};

@@ -1,7 +1,7 @@
 //! What is told of texts over a small dump.
 
 use crate::lint_one;
-use cli_texts::{Part, joined};
+use source_files::{Part, joined};
 use signals::{Counted, CutWriter};
 use std::alloc::{AllocError, Global};
 use std::test::Fail;

@@ -8,8 +8,8 @@ use Rattle.types_suites.specs.declared.fault.TypeFault.{TypeFault}
 use Rattle.types_suites.specs.declared.fault.TypeFault.TheVariants as types
 use Rattle.cli_faults.specs.declared.fault.Fault.{Fault}
 use Rattle.cli_faults.specs.declared.fault.Fault.TheVariants.{Lex, Parse, Typing}
-use Rattle.cli_texts.specs.declared.added.Added.{Added}
-use Rattle.cli_texts.specs.Chosen.{place_before}
+use Rattle.source_files.specs.declared.added.Added.{Added}
+use Rattle.source_files.specs.Chosen.{place_before}
 
 abbrev pub moved_lex : List Added → LexFault → LexFault
 moved_lex added (lexing.BadCharacter at) = lexing.BadCharacter (place_before added at)

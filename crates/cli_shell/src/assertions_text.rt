@@ -4,7 +4,7 @@ use crate::files::{open, read_opened, read_text, text_of};
 use crate::words::slices_of;
 use axi4_rules::port_rules;
 use cli_faults::Fault;
-use cli_texts::{Added, Part, chosen, joined};
+use source_files::{Added, Part, chosen, joined};
 use std::alloc::{AllocError, Global};
 use std::fs::Files;
 

@@ -17,8 +17,8 @@
 //! can't be written.
 //!
 //! The definitions: statuses in `cli_faults/specs/Statuses.antt`, the rules of ports in
-//! `axi4_rules`, what words ask for in `cli_words`, joined and chosen texts in `cli_texts`, faults
-//! of these in `specs/Moved.antt`, the other forms of a report in `report_forms`.
+//! `axi4_rules`, what words ask for in `cli_words`, joined and chosen texts in `source_files`,
+//! faults of these in `specs/Moved.antt`, the other forms of a report in `report_forms`.
 //!
 //! Not promised: what a file holds, and that a line reaches anyone; these are tested
 //! (`docs/TESTED.md`).

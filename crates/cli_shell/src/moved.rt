@@ -4,7 +4,7 @@ ghost use Rattle.std.specs.Prelude.{◌≡◌};
 ghost use Rattle.cli_shell.specs.Moved.{moved_lex, moved_parse, moved_type, moved_fault};
 
 use cli_faults::Fault;
-use cli_texts::{Added, place_before};
+use source_files::{Added, place_before};
 use lexer::LexFault;
 use parser::ParseFault;
 use types_suites::TypeFault;

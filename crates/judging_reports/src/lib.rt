@@ -6,7 +6,8 @@
 //!
 //! It has a line for each assertion, with the verdicts of the definition on the attempts at all
 //! ticks, over the rows of the signals at the ticks of the clock and what the suite's counters
-//! count over these. A report by programs comes to the same, by its own contract (`cli_suites`).
+//! count over these. A report by programs comes to the same, by its own contract
+//! (`compiled_reports`).
 //!
 //! The definitions: which variables a suite's paths name, `specs/Named.antt`; the verdicts and
 //! lines of assertions over rows, `specs/Judged.antt`; the report, `specs/Reported.antt`.

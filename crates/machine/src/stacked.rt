@@ -5,12 +5,12 @@ ghost use Rattle.bytecode.specs.Programs.{data_of};
 ghost use Rattle.verifier.specs.Programs.{IsAccepted};
 ghost use Rattle.machine_definition.specs.Values.{AreValues};
 ghost use Rattle.machine_memory.specs.History.{pushed};
-ghost use Rattle.machine_samples.specs.Memory.{AreRows};
-ghost use Rattle.machine_samples.specs.Runs.{HasRun, longest_run};
+ghost use Rattle.machine_expressions.specs.Memory.{AreRows};
+ghost use Rattle.machine_expressions.specs.Runs.{HasRun, longest_run};
 
 use bytecode::Program;
 use machine_memory::Ring;
-use machine_samples::{Stack, fill_row, run};
+use machine_expressions::{Stack, fill_row, run};
 
 /// The stack, and where the row of a clock is made.
 #[derive(Drop)]

@@ -15,7 +15,7 @@
 //! be imported from here, too.
 //!
 //! Not promised: which of the faults comes, and at which of the tokens; the tests of
-//! `oracle_texts` show it.
+//! `answers_texts` show it.
 #![tactic(auto)]
 
 mod fault;

@@ -15,7 +15,7 @@
 //! The depth is how many more brackets and unfinished operators may open, from 0 to 64.
 //!
 //! Not promised: which of the reasons of `Stop` comes, and at which byte; the tests of
-//! `oracle_texts` show it.
+//! `answers_texts` show it.
 #![tactic(auto)]
 
 mod expression;

@@ -9,7 +9,7 @@ use cli_shell::{
     FormFiles, Provenance, Sources, moved_fault, open, print_report, read_chosen, shown_lines,
     shown_status, told_paths, write_bytes,
 };
-use cli_texts::{Added, Origin};
+use source_files::{Added, Origin};
 use cycle_window::WindowSize;
 use signals::Counted;
 use std::fs::Files;

@@ -1,6 +1,6 @@
 //! Tests of what expressions, sequences, sections and programs are made of, from `expressions` to
 //! `bytecode`, of causes and their sheets, and of reports in other forms, on happy paths: what no
-//! table of a program `oracle_*` reaches by itself.
+//! table of a program `answers_*` reaches by itself.
 //!
 //! They stand above those crates, so that the gate proves each of them once, and not once more
 //! beside its tests; and they are several crates, since one process that goes through the tests of

@@ -1,5 +1,5 @@
 //! What the smallest program is read as, worked out by hand from the table of fields. What each
-//! instruction is spelled as, and what becomes of mutants, is the table of `oracle_bytecode`;
+//! instruction is spelled as, and what becomes of mutants, is the table of `answers_bytecode`;
 //! faults of files are told in `trials_cli`, too.
 
 use bytecode::{BlockInstr, Flow, Limits, Program, SampleInstr, Section, Slot};

@@ -14,7 +14,7 @@
 //! `rt test` in this crate proves the tests and runs them. The definitions that the contracts cite
 //! stand in `bytecode_files` (what bytes spell), `verifier` (which programs may run) and
 //! `cli_bytecode`, each in its `specs/`. More files, with answers from outside, are in the tables
-//! of `oracle_bytecode` and `oracle_verifier`.
+//! of `answers_bytecode` and `answers_verifier`.
 //!
 //! Not promised: that each file that matters occurs here; `told` and `PROGRAM` are for tests alone.
 #![tactic(auto)]

@@ -1,5 +1,5 @@
 //! Tests of `cli`: devices that fail, words, and the lines of faults that no small text or dump
-//! brings. What reports say of dumps and texts is a table, that of `oracle_reports`; files of
+//! brings. What reports say of dumps and texts is a table, that of `answers_reports`; files of
 //! bytecode are tried in `trials_bytecode`. And tests of compiled assertions: refusals at their
 //! borders (128 booleans, 4,096 instructions, 256 slots, names of 65,535 bytes, 4,096 programs of a
 //! job), programs that are built and run over the same dump, which tell what `check` tells, and

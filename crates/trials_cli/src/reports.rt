@@ -1,5 +1,5 @@
 //! Devices that fail, the size of a window, and the lines of those faults that no small dump or
-//! text brings. What reports say of dumps and texts is the table of `oracle_reports`.
+//! text brings. What reports say of dumps and texts is the table of `answers_reports`.
 
 use axi4_rules::PortFault;
 use cli::{Fault, WordsFault, check_one, judge_one, status};

@@ -1,5 +1,5 @@
 //! Dumps, their paths, and rows by windows, with answers worked out by hand. Values and faults of
-//! dumps are the table of `oracle_reports`.
+//! dumps are the table of `answers_reports`.
 
 use cycle_window::{Clocks, Columns, WatchedSignal, Window, WindowFault, WindowSize};
 use signals::{Counted, CutReader, Source};

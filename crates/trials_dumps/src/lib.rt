@@ -1,5 +1,5 @@
 //! Tests of what reads dumps and writes reports, from `signals` to `cycle_window` and `verdicts`:
-//! happy paths that no table of a program `oracle_*` reaches by itself, and devices that fail or
+//! happy paths that no table of a program `answers_*` reaches by itself, and devices that fail or
 //! keep bytes back.
 //!
 //! A device is a `Source` or a `Sink`. One that fails after so many bytes is `CutReader` or

@@ -5,14 +5,14 @@ ghost use Rattle.std.specs.Prelude.{◌≡◌, ◌<◌, ◌∷◌, drop, length,
 ghost use Rattle.bytecode.specs.Instructions.{frame_of};
 ghost use Rattle.bytecode.specs.Programs.{data_of};
 ghost use Rattle.verifier.specs.Programs.{IsAccepted};
-ghost use Rattle.machine_samples.specs.Memory.{AreRows};
-ghost use Rattle.machine_samples.specs.Decoded.{IsNewest};
+ghost use Rattle.machine_expressions.specs.Memory.{AreRows};
+ghost use Rattle.machine_expressions.specs.Decoded.{IsNewest};
 ghost use Rattle.machine_definition.specs.Values.{AreValues};
 
 use bytecode::Program;
 use bytecode_files::decode;
 use machine_memory::Ring;
-use machine_samples::{Decoded, Stack, run};
+use machine_expressions::{Decoded, Stack, run};
 use signals::Bits;
 use std::alloc::{AllocError, Global};
 use verifier::{Frame, verify};

@@ -1,5 +1,5 @@
 //! Tests of what reads a text, from `lexer` to `types`, on happy paths: what no table of a program
-//! `oracle_*` reaches by itself.
+//! `answers_*` reaches by itself.
 //!
 //! Symbols, words and numbers are tried on their own: which terminal one is, how it may begin a
 //! primary, how loosely it joins, which operator or implication it is, and whether it is a bound.

@@ -1,5 +1,5 @@
 //! What the items of a file have, and lists of tokens that no text has. Where faults stand, and
-//! what stands at the roots of trees, are the tables of `oracle_texts`.
+//! what stands at the roots of trees, are the tables of `answers_texts`.
 
 use lexer::{Token, lex};
 use parser::{File, ItemTree, ParseFault, parse};

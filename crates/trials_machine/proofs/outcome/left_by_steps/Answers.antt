@@ -5,8 +5,8 @@ use Rattle.std.proofs.lemmas.List.{take_all, length-drop}
 use Rattle.bytecode.specs.Programs.{data_of}
 use Rattle.bytecode.specs.Instructions.{frame_of}
 use Rattle.machine_definition.specs.Values.{AreValues}
-use Rattle.machine_samples.specs.Memory.{AreRows}
-use Rattle.machine_samples.proofs.DecodedRowLaws.{read-rows, read-newest}
+use Rattle.machine_expressions.specs.Memory.{AreRows}
+use Rattle.machine_expressions.proofs.DecodedRowLaws.{read-rows, read-newest}
 use Rattle.trials_machine.proofs.outcome.left_by_steps.Goals as goal
 
 -- what is after the constant

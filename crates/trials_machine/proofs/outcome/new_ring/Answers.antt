@@ -3,8 +3,8 @@ use Rattle.std.proofs.lemmas.Result.{IfOk-weaker}
 use Rattle.bytecode.specs.Instructions.{frame_of}
 use Rattle.bytecode.specs.Programs.{data_of}
 use Rattle.machine_memory.specs.History.{History, cleared}
-use Rattle.machine_samples.specs.Memory.{AreRows}
-use Rattle.machine_samples.proofs.RowLaws.{AreRows-cleared}
+use Rattle.machine_expressions.specs.Memory.{AreRows}
+use Rattle.machine_expressions.proofs.RowLaws.{AreRows-cleared}
 use Rattle.trials_machine.proofs.outcome.new_ring.Goals as goal
 
 pub returns : goal.returns

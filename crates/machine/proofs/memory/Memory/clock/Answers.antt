@@ -2,9 +2,9 @@ use Rattle.std.proofs.Common.{◌≡◌, ◌-◌, ◌∷◌, ◌++◌, length, L
 use Rattle.bytecode.specs.Programs.{data_of}
 use Rattle.machine_definition.specs.Machine.{with_row}
 use Rattle.machine_memory.specs.History.{pushed}
-use Rattle.machine_samples.specs.Memory.{AreRows}
-use Rattle.machine_samples.specs.Runs.{HasRun}
-use Rattle.machine_samples.proofs.RowLaws.{AreRows-pushed}
+use Rattle.machine_expressions.specs.Memory.{AreRows}
+use Rattle.machine_expressions.specs.Runs.{HasRun}
+use Rattle.machine_expressions.proofs.RowLaws.{AreRows-pushed}
 use Rattle.machine.specs.Live.{standing_of, HasAdvanced}
 use Rattle.machine.specs.Memory.{state_of}
 use Rattle.machine.specs.SampleCode.{newest_rows}

@@ -8,9 +8,9 @@ use Rattle.machine_memory.specs.History.{cleared}
 use Rattle.machine_memory.specs.Pooled.{Pooled}
 use Rattle.machine_visits.specs.declared.attempt.AttemptRecord.{AttemptRecord}
 use Rattle.machine_visits.specs.declared.obligation.ObligationRecord.{ObligationRecord}
-use Rattle.machine_samples.specs.Memory.{AreRows}
+use Rattle.machine_expressions.specs.Memory.{AreRows}
 use Rattle.machine_definition.specs.Values.{AreValues}
-use Rattle.machine_samples.proofs.RowLaws.{AreRows-cleared}
+use Rattle.machine_expressions.proofs.RowLaws.{AreRows-cleared}
 use Rattle.machine_definition.specs.Bounds.{IsReached}
 use Rattle.machine.specs.SampleCode.{newest_rows}
 use Rattle.machine.specs.Live.{attempts_in, obligations_in}

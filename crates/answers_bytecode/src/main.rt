@@ -1,0 +1,162 @@
+//! Tells which files are programs, and writes programs again, against answers from outside.
+//!
+//! The file `data/cases.txt` has files, one a line in hexadecimal digits. Of each it prints whether
+//! it is a program, or else the fault; of one after the sign `=` also what the program holds. A
+//! program is written again, upgraded, by itself and by its copy; the bytes are to be the same each
+//! time, with the version made 2.
+//!
+//! ```text
+//! 5356414d01000000010001..    program
+//! 5356414d                   B3 Truncated 4
+//! ```
+//!
+//! The gate compares what it prints with `stdout`; `scripts/models/bytecode_cases.py` made files
+//! and answers, with a reader of its own, and `scripts/random/random_bytecode.py` compares random
+//! mutants in a `cases.txt` of theirs. With a file's name as its word it prints how long reading
+//! and writing that file took at best (`bench/bytecode`).
+//!
+//! What is answered is said by the contracts of `decode`, `encode` and `upgrade` of
+//! `bytecode_files`; the definitions stand in its `specs/Spelling.antt`, and in
+//! `bytecode/specs/Values.antt`.
+//!
+//! Not promised: that a program is accepted, which is `answers_verifier`'s.
+#![tactic(auto)]
+
+ghost use Rattle.std.specs.Prelude.{◌<◌};
+
+use anyhow::{Result, bail};
+use bytecode::Program;
+use bytecode_files::{decode, encode, upgrade};
+use std::alloc::Global;
+use std::time::Instant;
+use std::{env, fs};
+
+/// The value of a hexadecimal digit, 0 for other bytes.
+fn digit(byte: u8) -> u8
+    ensures { result < 16 }
+{
+    match byte {
+        b'0'..=b'9' => byte - b'0',
+        b'a'..=b'f' => byte - b'a' + 10,
+        _ => 0,
+    }
+}
+
+/// The bytes that pairs of hexadecimal digits spell.
+fn bytes_of(alloc: Global, line: &str) -> Result<Vec<u8>> {
+    let mut bytes = Vec::new(alloc);
+    for pair in line.as_bytes().chunks_exact(2) {
+        bytes.push(digit(pair[0]) * 16 + digit(pair[1]))?;
+    }
+    Ok(bytes)
+}
+
+/// Whether a program is written as these bytes.
+fn is_spelled(alloc: Global, program: &Program, bytes: &[u8]) -> Result<bool> {
+    let spelled = encode(alloc, program)?;
+    Ok(spelled.as_slice() == bytes)
+}
+
+/// Whether a program and its copy are written as these bytes.
+fn is_kept(alloc: Global, program: &Program, bytes: &[u8]) -> Result<bool> {
+    let copied = program.copy(alloc)?;
+    Ok(is_spelled(alloc, program, bytes)? && is_spelled(alloc, &copied, bytes)?)
+}
+
+/// Whether these are the bytes of a file, but for the version, which is 2.
+fn is_in_version_2(upgraded: &[u8], bytes: &[u8]) -> bool {
+    if upgraded.len() != bytes.len() || bytes.len() < 5 {
+        return false;
+    }
+    upgraded[4] == 2 && upgraded[..4] == bytes[..4] && upgraded[5..] == bytes[5..]
+}
+
+/// What the bytes of a program are, which are these when upgraded; with all that it holds where it
+/// is to be listed.
+fn answer_upgraded(
+    alloc: Global,
+    bytes: &[u8],
+    upgraded: &[u8],
+    is_listed: bool,
+) -> Result<String> {
+    let program = match decode(alloc, bytes) {
+        Ok(program) => program,
+        Err(fault) => return Ok(format!(in alloc; "{fault}")?),
+    };
+    if !is_in_version_2(upgraded, bytes) || !is_kept(alloc, &program, upgraded)? {
+        return Ok(String::from_str(alloc, "another spelling")?);
+    }
+    if is_listed {
+        return Ok(format!(in alloc; "{program:?}")?);
+    }
+    Ok(String::from_str(alloc, "program")?)
+}
+
+/// What the bytes are, with all that a program holds where it is to be listed.
+fn answer(alloc: Global, bytes: &[u8], is_listed: bool) -> Result<String> {
+    match upgrade(alloc, bytes) {
+        Ok(upgraded) => answer_upgraded(alloc, bytes, upgraded.as_slice(), is_listed),
+        Err(fault) => Ok(format!(in alloc; "{fault}")?),
+    }
+}
+
+/// What the file of a line is.
+fn answer_of_line(alloc: Global, line: &str) -> Result<String> {
+    match line.strip_prefix('=') {
+        Some(digits) => answer(alloc, bytes_of(alloc, digits)?.as_slice(), true),
+        None => answer(alloc, bytes_of(alloc, line)?.as_slice(), false),
+    }
+}
+
+/// What the files of all lines are, a line for each.
+fn answers_of(alloc: Global, lines: &str) -> Result<String> {
+    let mut answers = String::new(alloc);
+    for line in lines.lines() {
+        answers.push_str(answer_of_line(alloc, line)?.as_str())?;
+        answers.push('\n')?;
+    }
+    Ok(answers)
+}
+
+/// How many microseconds reading and writing a file took.
+fn time_once(rt: &HostRuntime, bytes: &[u8]) -> Result<(u128, u128)> {
+    let start = Instant::now(rt)?;
+    let decoded = decode(rt.alloc(), bytes);
+    let read = start.elapsed(rt)?.as_micros();
+    let program = match decoded {
+        Ok(program) => program,
+        Err(fault) => bail!("{fault}"),
+    };
+    let start = Instant::now(rt)?;
+    let spelled = encode(rt.alloc(), &program)?;
+    let written = start.elapsed(rt)?.as_micros();
+    if spelled.as_slice() != bytes {
+        bail!("another spelling");
+    }
+    Ok((read, written))
+}
+
+/// Prints the least times of a hundred rounds.
+fn time_file(rt: &HostRuntime, bytes: &[u8]) -> Result<()> {
+    let mut least = (u128::MAX, u128::MAX);
+    for _ in 0..100 {
+        let (read, written) = time_once(rt, bytes)?;
+        least = (least.0.min(read), least.1.min(written));
+    }
+    let (read, written) = least;
+    println!(rt; "decode {read} us encode {written} us")?;
+    Ok(())
+}
+
+fn main(rt: HostRuntime) -> Result<()> {
+    let mut args = env::args(&rt)?;
+    let _name = args.next();
+    if let Some(path) = args.next() {
+        let bytes = fs::read(&rt, path.as_str())?;
+        return time_file(&rt, bytes.as_slice());
+    }
+    let lines = fs::read_to_string(&rt, "cases.txt")?;
+    let answers = answers_of(rt.alloc(), lines.as_str())?;
+    print!(rt; "{answers}")?;
+    Ok(())
+}

@@ -1,5 +1,0 @@
-use Rattle.cycle_window.specs.Held.{IsWindowOf}
-use Rattle.bench_dumps.proofs.rows_of.Given as goal
-
-abbrev pub invariant-loop : goal.invariant-loop
-invariant-loop l = IsWindowOf l.window l.dump l.clocks

@@ -1,8 +1,0 @@
-use Rattle.std.proofs.Common.{◌≡◌, drop}
-use Rattle.cli_texts.specs.Chosen.{is_meant}
-use Rattle.cli_texts.proofs.choosing.is_meant.Given as goal
-
--- what the patterns so far leave to the others
-abbrev pub invariant-loop-pattern : goal.invariant-loop-pattern
-invariant-loop-pattern l =
-    is_meant l.patterns l.name ≡ is_meant (drop l.pattern-index l.patterns) l.name

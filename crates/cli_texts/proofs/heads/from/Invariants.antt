@@ -1,8 +1,0 @@
-use Rattle.std.proofs.Common.{◌≡◌, drop}
-use Rattle.cli_texts.specs.Heads.{from}
-use Rattle.cli_texts.proofs.heads.from.Given as goal
-
--- the tokens so far stand before the byte
-abbrev pub invariant-loop-place : goal.invariant-loop-place
-invariant-loop-place l =
-    from l.start l.tokens ≡ from l.start (drop l.place l.tokens)

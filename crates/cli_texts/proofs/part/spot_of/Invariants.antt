@@ -1,8 +1,0 @@
-use Rattle.std.proofs.Common.{◌≡◌, ◌+◌, take}
-use Rattle.cli_texts.specs.Parts.{size_of}
-use Rattle.cli_texts.proofs.part.spot_of.Given as goal
-
--- what is left of the byte after the texts so far
-abbrev pub invariant-loop-part : goal.invariant-loop-part
-invariant-loop-part l =
-    size_of (take l.part l.parts) + l.left ≡ l.at
