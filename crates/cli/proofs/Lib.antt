@@ -6,3 +6,5 @@ pub mod ProgramLaws
 pub mod BuildLaws
 pub mod CheckedLaws
 pub mod WrittenLaws
+pub mod TraceLaws
+pub mod ExplainedLaws

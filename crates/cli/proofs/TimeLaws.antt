@@ -41,7 +41,7 @@ times_same d c holds =
     sym (stored_times (high_of d) (steps_in d)) ∙ ap (map (λ (s : StoredStep). s.time)) holds.steps
     ∙ kept_times c.steps
 
-step_time : (d : Dump) (c : Contents) → HoldsContents d c → (o : Option ℕ)
+pub step_time : (d : Dump) (c : Contents) → HoldsContents d c → (o : Option ℕ)
     → time_of_step (steps_in d) o ≡ time_of (map (λ m. m.time) c.steps) o
 step_time d c holds None = refl
 step_time d c holds (Some k) =

@@ -5,3 +5,4 @@ pub mod Reported
 pub mod Timed
 pub mod Outcomes
 pub mod Builds
+pub mod Explained

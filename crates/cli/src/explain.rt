@@ -1,52 +1,109 @@
 //! The call of the command `explain`.
 
-use crate::choices::choices_of;
-use crate::explain_text::text_of;
-use crate::explanation::{Explanation, explanations_of};
-use crate::trace::{Trace, trace_of};
-use crate::wanted::Wanted;
-use cli_faults::Fault;
-use source_files::Part;
-use signals::{Sink, Source, write_all};
-use std::alloc::{AllocError, Global};
-use vcd_reader::read_dump;
-use verdicts::ReportFault;
+ghost use Rattle.std.specs.Prelude.{◌≡◌, OnOk, IfOk, IfErr, false, string_bytes};
+ghost use Rattle.std.specs.List.{AllByRecursion};
+ghost use Rattle.std.specs.Io.KnownBytes.{Appends};
+ghost use Rattle.vcd_reader.specs.Dump.{Contents};
+ghost use Rattle.vcd_reader.specs.Held.{HoldsContents};
+ghost use Rattle.explaining_reports.specs.Told.{HasLine};
+ghost use Rattle.cli_faults.specs.Runs.{run_of, WhyNotWritten};
+ghost use Rattle.cli.specs.Explained.{IsTextOf, TellsFailures, WhyNotExplained};
+ghost use Rattle.cli.specs.Explained.{IsExplanation, WhyExplainRefused};
 
-/// N1 where the one assertion that is wanted isn't there.
-fn find_wanted(
-    alloc: Global,
-    trace: &Trace<'_>,
-    wanted: &Wanted<'_>,
-) -> Result<(), Fault<'static>> {
-    if let Some(only) = wanted.only {
-        if !trace.has_assertion(only) {
-            return Err(Fault::NoAssertion(String::from_str(alloc, only)?));
-        }
-    }
-    Ok(())
+use crate::explained::{Explained, explained_over};
+use crate::heads::standings_of;
+use cli_faults::Fault;
+use compiled_reports::Gate;
+use cycle_window::WindowSize;
+use explaining_reports::{Wanted, explained_text, told_of};
+use report_forms::Provenance;
+use signals::{Sink, Source, write_all};
+use source_files::Origin;
+use std::alloc::{AllocError, Global};
+use std::sync::Wait;
+use std::thread::Threads;
+use vcd_reader::{Dump, read_dump};
+use verdicts::ReportFault;
+use workers_core::TeamSize;
+
+/// A text, and of how many failed attempts it tells.
+#[derive(Drop)]
+struct Told {
+    text: String,
+    count: u64,
 }
 
-/// The explanations of the failed attempts that are wanted.
-pub(crate) fn wanted_of(
+/// Explanations as text.
+fn text_of(
     alloc: Global,
-    trace: &Trace<'_>,
+    explained: &Explained<'_>,
+    origin: &Origin<'_>,
+) -> Result<Told, AllocError>
+    requires { AllByRecursion (HasLine explained.now.trace.report.lines.items)
+        explained.now.explanations.items }
+    ensures { IfOk result (λ told.
+        IsTextOf explained.now (string_bytes told.text) told.count) }
+{
+    let lines = explained.trace.report.lines.as_slice();
+    let explanations = explained.explanations.as_slice();
+    let standings = standings_of(alloc, &explained.heads, origin, explanations)?;
+    let told = told_of(alloc, lines, explanations, standings.as_slice())?;
+    let from = Provenance {
+        dump: "",
+        text: "",
+        times: explained.trace.times.as_slice(),
+    };
+    let text = explained_text(alloc, &from, told.as_slice())?;
+    Ok(Told {
+        text,
+        count: explanations.len() as u64,
+    })
+}
+
+/// The text that explains the failed attempts that are wanted.
+fn text_over<'a, G: Gate + Sync, R: Threads + Wait + Sync>(
+    rt: &R,
+    alloc: Global,
+    dump: Dump,
+    text: &'a str,
+    origin: &Origin<'_>,
     wanted: &Wanted<'_>,
-) -> Result<Vec<Explanation>, AllocError> {
-    let choices = choices_of(alloc, wanted, trace.report.lines.as_slice())?;
-    explanations_of(alloc, trace, choices.as_slice())
+    team: TeamSize,
+    gate: &G,
+) -> Result<Told, Fault<'a>>
+    requires held { (c : Contents) × HoldsContents dump c }
+    ensures ok { (c : Contents) → HoldsContents dump c → IfOk result (λ told.
+        TellsFailures c text.entry.now wanted.now (string_bytes told.text) told.count) }
+    ensures err { (c : Contents) → HoldsContents dump c
+        → IfErr result (WhyNotExplained c text.entry.now wanted.now) }
+{
+    let size = WindowSize::usual();
+    let explained = explained_over(rt, alloc, dump, text, wanted, team, size, gate)?;
+    Ok(text_of(alloc, &explained, origin)?)
 }
 
 /// Writes a text, and hands it on.
-fn write_text<W: Sink>(out: &mut W, text: &str) -> Result<(), Fault<'static>> {
-    if write_all(out, text.as_bytes()).is_err() || out.flush().is_err() {
+fn write_text<W: Sink>(out: &mut W, text: &str) -> Result<(), Fault<'static>>
+    ensures written { OnOk result
+        (Appends (W.state out.old).contents (W.state out.new).contents text.now) }
+    ensures counted { OnOk result ((W.state out.new).failures ≡ (W.state out.old).failures) }
+    ensures flushed { OnOk result ((W.state out.new).keeps_back ≡ false) }
+    ensures refused { IfErr result
+        (WhyNotWritten (W.state out.old) (W.state out.new) text.now) }
+{
+    if write_all(out, text.as_bytes()).is_err() {
         return Err(Fault::Report(ReportFault::Write));
     }
-    Ok(())
+    match out.flush() {
+        Ok(()) => Ok(()),
+        Err(_) => Err(Fault::Report(ReportFault::Write)),
+    }
 }
 
 /// Explains failed attempts of a text's assertions over the dump that a source gives: why each
-/// failed, with the values that it saw. The text is that of these files, joined; where an
-/// assertion's place is told, its file is named, and the line of that.
+/// failed, with the values that it saw. `origin` tells from which files the text was made; where an
+/// assertion's place is told, its file is named, and the line of that. The text is judged by a
+/// team, which does not change what is written.
 ///
 /// The answer is how many attempts were explained.
 ///
@@ -54,19 +111,26 @@ fn write_text<W: Sink>(out: &mut W, text: &str) -> Result<(), Fault<'static>> {
 ///
 /// Those of [`check_one`](crate::check_one), but for C3, and N1 where the text has no assertion of
 /// the name that is asked for, after the faults of the text; all before anything is written.
-pub fn explain_one<'a, S: Source, W: Sink>(
+pub fn explain_one<'a, S: Source, W: Sink, G: Gate + Sync, R: Threads + Wait + Sync>(
+    rt: &R,
     alloc: Global,
     source: &mut S,
     text: &'a str,
-    parts: &[Part],
+    origin: &Origin<'_>,
     wanted: &Wanted<'_>,
+    team: TeamSize,
+    gate: &G,
     out: &mut W,
-) -> Result<u64, Fault<'a>> {
+) -> Result<u64, Fault<'a>>
+    ensures answered { IfOk result (IsExplanation (run_of text.entry.now
+        (S.state source.old) (S.state source.new) (W.state out.old) (W.state out.new))
+        wanted.now) }
+    ensures refused { IfErr result (WhyExplainRefused (run_of text.entry.now
+        (S.state source.old) (S.state source.new) (W.state out.old) (W.state out.new))
+        wanted.now) }
+{
     let dump = read_dump(alloc, source)?;
-    let trace = trace_of(alloc, dump, text)?;
-    find_wanted(alloc, &trace, wanted)?;
-    let explanations = wanted_of(alloc, &trace, wanted)?;
-    let told = text_of(alloc, &trace, parts, explanations.as_slice())?;
-    write_text(out, told.as_str())?;
-    Ok(explanations.len() as u64)
+    let told = text_over(rt, alloc, dump, text, origin, wanted, team, gate)?;
+    write_text(out, told.text.as_str())?;
+    Ok(told.count)
 }

@@ -1,10 +1,14 @@
 //! What explanations take from a text beside its suite: where assertions stand, and what counters
 //! are called.
 
-use source_files::{Part, Spot};
+ghost use Rattle.std.specs.Prelude.{◌≡◌, IfOk, length};
+
+use explaining_reports::{Explanation, Standing};
 use lexer::Token;
+use linting::place_of;
 use parser::File;
 use parser_grammar::{AssertionTree, ItemTree};
+use source_files::{Origin, spot_in};
 use std::alloc::{AllocError, Global};
 
 /// Of each assertion the byte at which it begins, and of each counter its name, in the order of the
@@ -16,7 +20,7 @@ pub(crate) struct Heads<'a> {
 }
 
 /// The first byte of an assertion: that of its label, or of its verb.
-fn place_of(assertion: &AssertionTree) -> usize {
+fn place_of_head(assertion: &AssertionTree) -> usize {
     match &assertion.label {
         None => assertion.verb.at,
         Some(label) => label.at,
@@ -29,7 +33,7 @@ pub(crate) fn heads_of<'a>(alloc: Global, file: &File<'a>) -> Result<Heads<'a>, 
     let mut counters = Vec::new(alloc);
     for item in &file.items {
         match item {
-            ItemTree::Assertion(assertion) => places.push(place_of(assertion))?,
+            ItemTree::Assertion(assertion) => places.push(place_of_head(assertion))?,
             ItemTree::Counter(counter) => counters.push(counter.name.text)?,
             ItemTree::Declaration(_) => (),
         }
@@ -37,41 +41,39 @@ pub(crate) fn heads_of<'a>(alloc: Global, file: &File<'a>) -> Result<Heads<'a>, 
     Ok(Heads { places, counters })
 }
 
-/// Where a byte of joined texts stands: the file, and the line and the column there, from 1.
-#[derive(Clone, Copy)]
-pub(crate) struct Standing<'p> {
-    pub path: &'p str,
-    pub line: usize,
-    pub column: usize,
-}
-
-/// Where a spot of these files stands.
-pub(crate) fn place_in(parts: &[Part], spot: Spot) -> Standing<'_> {
-    match parts.get(spot.part) {
+/// Where a byte of a text stands in the files that the text was made of.
+fn standing_at<'p>(origin: &Origin<'p>, at: usize) -> Standing<'p> {
+    let spot = spot_in(origin, at);
+    match origin.parts.get(spot.part) {
         None => Standing {
             path: "",
             line: 1,
             column: 1,
         },
         Some(part) => {
-            let (line, column) = line_and_column(part.text.as_str(), spot.at);
-            let path = part.path.as_str();
-            Standing { path, line, column }
+            let place = place_of(part.text.as_str(), spot.at);
+            Standing {
+                path: part.path.as_str(),
+                line: place.line as u64,
+                column: place.column as u64,
+            }
         }
     }
 }
 
-/// The line and the column of a byte of a text, both counted from 1.
-fn line_and_column(text: &str, place: usize) -> (usize, usize) {
-    let mut line = 1usize;
-    let mut column = 1usize;
-    for byte in text.as_bytes().iter().take(place) {
-        if *byte == b'\n' {
-            line = line.saturating_add(1);
-            column = 1;
-        } else {
-            column = column.saturating_add(1);
-        }
+/// Where the assertions of explained attempts stand.
+pub(crate) fn standings_of<'p>(
+    alloc: Global,
+    heads: &Heads<'_>,
+    origin: &Origin<'p>,
+    explanations: &[Explanation],
+) -> Result<Vec<Standing<'p>>, AllocError>
+    ensures { IfOk result (λ standings. length standings.items ≡ length explanations.now) }
+{
+    let mut standings = Vec::with_capacity(alloc, explanations.len())?;
+    for explanation in explanations {
+        let at = heads.places.get(explanation.place).copied().unwrap_or(0);
+        standings.push(standing_at(origin, at))?;
     }
-    (line, column)
+    Ok(standings)
 }

@@ -7,8 +7,8 @@
 //! let timed = report_over(&rt, alloc, dump, text, team, size, &gate)?;   // over a dump in memory
 //! let totals = judge_one(alloc, &mut dump, text, &mut out)?;        // the same, by the slow judge
 //! let bytes = build_one(alloc, &mut dump, text, "grant")?;          // an assertion's program
-//! let count = explain_one(alloc, &mut dump, text, &parts, &wanted, &mut out)?;  // failures
-//! let bytes = page_one(alloc, &mut dump, text, paths, &origin, 3)?;  // the report as HTML
+//! let count = explain_one(&rt, alloc, &mut dump, text, &origin, &wanted, team, &gate, &mut out)?;
+//! let paged = page_over(&rt, alloc, dump, text, team, size, &gate, &paths, &origin, 3)?;
 //! ```
 //!
 //! Each call answers with the first fault of the first layer that has one, as one `Fault`. A call
@@ -17,21 +17,20 @@
 //!
 //! The definitions: what a report on bytes and a text is in `specs/Reported.antt`, what a run comes
 //! to in `specs/Outcomes.antt`, the times of clocks in `specs/Timed.antt`, what a build comes to
-//! in `specs/Builds.antt`; the report on a suite in `judging_reports`, a page in `report_page`;
-//! faults, their lines and statuses in `cli_faults`.
+//! in `specs/Builds.antt`, what explanations and a page come to in `specs/Explained.antt`; the
+//! report on a suite in `judging_reports`, an explanation in `explaining_reports`, a page in
+//! `report_page`; faults, their lines and statuses in `cli_faults`.
 //!
-//! Not promised: that memory suffices; of `check_all`, that it returns, and that two workers were
-//! at work at once.
+//! Not promised: that memory suffices; of calls that take a team, that they return, and that two
+//! workers were at work at once; at which place of its file an assertion is told to stand.
 #![tactic(auto)]
 
 mod build;
 mod check;
 mod checked;
-mod choices;
 mod dump_widths;
 mod explain;
-mod explain_text;
-mod explanation;
+mod explained;
 mod heads;
 mod judged;
 mod page;
@@ -40,14 +39,13 @@ mod text;
 mod timed;
 mod times;
 mod trace;
-mod wanted;
 
 pub use build::build_one;
 pub use check::{check_all, check_one, judge_one};
 pub use cli_faults::{Fault, fault_line, status};
-pub use compiled_reports::{Gate, NoGate};
 pub use cli_words::{Request, WordsFault, read_words};
+pub use compiled_reports::{Gate, NoGate};
 pub use explain::explain_one;
-pub use page::{Paths, page_one};
+pub use explaining_reports::Wanted;
+pub use page::{PagedReport, Paths, page_over};
 pub use timed::{TimedReport, report_all, report_over};
-pub use wanted::Wanted;

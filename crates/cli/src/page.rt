@@ -1,17 +1,31 @@
 //! The report on a text over a dump as a page.
 
-use crate::explain::wanted_of;
-use crate::explanation::Explanation;
-use crate::heads::place_in;
-use crate::trace::{Trace, trace_of};
-use crate::wanted::Wanted;
+ghost use Rattle.std.specs.Prelude.{IfOk, IfErr};
+ghost use Rattle.std.specs.List.{AllByRecursion};
+ghost use Rattle.vcd_reader.specs.Dump.{Contents};
+ghost use Rattle.vcd_reader.specs.Held.{HoldsContents};
+ghost use Rattle.explaining_reports.specs.Told.{HasLine};
+ghost use Rattle.verdicts.specs.Shown.{data_of};
+ghost use Rattle.cli.specs.Explained.{IsPageOf, IsPageOver, WhyNotExplained, first_ones};
+ghost use Rattle.cli.specs.Outcomes.{WhyNoneByPrograms};
+ghost use Rattle.cli.specs.Reported.{HasReport};
+ghost use Rattle.cli.specs.Timed.{TellsTimes};
+
+use crate::explained::{Explained, explained_over};
+use crate::heads::standings_of;
+use crate::timed::TimedReport;
 use cli_faults::Fault;
-use source_files::{Origin, spot_in};
+use compiled_reports::Gate;
+use cycle_window::WindowSize;
+use explaining_reports::{Wanted, told_of};
 use report_forms::Provenance;
-use report_page::{Picture, page};
-use signals::Source;
+use report_page::page;
+use source_files::Origin;
 use std::alloc::{AllocError, Global};
-use vcd_reader::read_dump;
+use std::sync::Wait;
+use std::thread::Threads;
+use vcd_reader::Dump;
+use workers_core::TeamSize;
 
 /// The paths of a dump and of an assertions' text, which a page names.
 #[derive(Clone, Copy)]
@@ -20,82 +34,79 @@ pub struct Paths<'p> {
     pub text: &'p str,
 }
 
-/// Adds what is shown of a failed attempt.
-fn push_picture<'p>(
-    pictures: &mut Vec<Picture<'p>>,
-    trace: &'p Trace<'_>,
-    origin: &'p Origin<'p>,
-    explanation: &'p Explanation,
-) -> Result<(), AllocError> {
-    let Some(line) = trace.report.lines.get(explanation.place) else {
-        return Ok(());
-    };
-    let Some(reason) = &explanation.reason else {
-        return Ok(());
-    };
-    let at = trace
-        .heads
-        .places
-        .get(explanation.place)
-        .copied()
-        .unwrap_or(0);
-    let stands = place_in(origin.parts, spot_in(origin, at));
-    pictures.push(Picture {
-        name: line.name.as_str(),
-        text: stands.path,
-        line: stands.line as u64,
-        column: stands.column as u64,
-        failed: line.counts.fails,
-        failure: explanation.failure,
-        ends: reason.cause.ends.as_slice(),
-        broken: reason.cause.broken,
-        sheet: &reason.sheet,
-    })?;
-    Ok(())
+/// A report, the times of its clocks, and the page of it.
+#[derive(Drop)]
+pub struct PagedReport {
+    pub timed: TimedReport,
+    /// The page, in HTML.
+    pub page: Vec<u8>,
 }
 
-/// The page of a trace, with these failed attempts.
-fn page_of<'p>(
+/// The page of a report, with the failed attempts that were explained.
+fn page_of(
     alloc: Global,
-    trace: &'p Trace<'_>,
-    paths: Paths<'p>,
-    origin: &'p Origin<'p>,
-    explanations: &'p [Explanation],
-) -> Result<Vec<u8>, AllocError> {
-    let mut pictures = Vec::new(alloc);
-    for explanation in explanations {
-        push_picture(&mut pictures, trace, origin, explanation)?;
-    }
+    explained: &Explained<'_>,
+    paths: &Paths<'_>,
+    origin: &Origin<'_>,
+) -> Result<Vec<u8>, AllocError>
+    requires { AllByRecursion (HasLine explained.now.trace.report.lines.items)
+        explained.now.explanations.items }
+    ensures { IfOk result (λ page. IsPageOf explained.now paths.now page.items) }
+{
+    let lines = explained.trace.report.lines.as_slice();
+    let explanations = explained.explanations.as_slice();
+    let standings = standings_of(alloc, &explained.heads, origin, explanations)?;
+    let told = told_of(alloc, lines, explanations, standings.as_slice())?;
     let from = Provenance {
         dump: paths.dump,
         text: paths.text,
-        times: trace.times.as_slice(),
+        times: explained.trace.times.as_slice(),
     };
-    page(alloc, &from, &trace.report, pictures.as_slice())
+    let bytes = page(alloc, &from, &explained.trace.report, told.as_slice())?;
+    Ok(bytes)
 }
 
-/// The report that [`check_one`](crate::check_one) writes, as a page of HTML; of each assertion as
-/// many failed attempts are shown as `most` says, the first ones. `origin` tells from which files
-/// the text was made.
+/// The report that [`report_over`](crate::report_over) makes, and the same as a page of HTML; of
+/// each assertion as many failed attempts are shown as `most` says, the first ones. `origin` tells
+/// from which files the text was made.
 ///
 /// # Errors
 ///
-/// Those of [`check_one`](crate::check_one), but for C3 and G1.
-pub fn page_one<'a, S: Source>(
+/// Those of [`report_over`](crate::report_over).
+pub fn page_over<'a, G: Gate + Sync, R: Threads + Wait + Sync>(
+    rt: &R,
     alloc: Global,
-    source: &mut S,
+    dump: Dump,
     text: &'a str,
-    paths: Paths<'_>,
+    team: TeamSize,
+    size: WindowSize,
+    gate: &G,
+    paths: &Paths<'_>,
     origin: &Origin<'_>,
     most: u64,
-) -> Result<Vec<u8>, Fault<'a>> {
-    let dump = read_dump(alloc, source)?;
-    let trace = trace_of(alloc, dump, text)?;
+) -> Result<PagedReport, Fault<'a>>
+    requires held { (c : Contents) × HoldsContents dump c }
+    ensures ok { (c : Contents) → HoldsContents dump c
+        → IfOk result (λ p. HasReport c text.entry.now (data_of p.timed.report)) }
+    ensures timed { (c : Contents) → HoldsContents dump c → IfOk result (λ p.
+        TellsTimes c text.entry.now p.timed.report.clocks p.timed.times.items) }
+    ensures page { (c : Contents) → HoldsContents dump c → IfOk result (λ p.
+        IsPageOver c text.entry.now (first_ones most) (data_of p.timed.report) paths.now
+        p.timed.times.items p.page.items) }
+    ensures err { (c : Contents) → HoldsContents dump c
+        → IfErr result (WhyNotExplained c text.entry.now (first_ones most)) }
+{
     let wanted = Wanted {
         only: None,
         start: None,
         most,
     };
-    let explanations = wanted_of(alloc, &trace, &wanted)?;
-    Ok(page_of(alloc, &trace, paths, origin, explanations.as_slice())?)
+    let explained = explained_over(rt, alloc, dump, text, &wanted, team, size, gate)?;
+    let page = page_of(alloc, &explained, paths, origin)?;
+    let Explained { trace, .. } = explained;
+    let timed = TimedReport {
+        report: trace.report,
+        times: trace.times,
+    };
+    Ok(PagedReport { timed, page })
 }

@@ -1,62 +1,65 @@
-//! What explanations are made of.
+//! A report, with the rows that it is on and the times of its clocks.
 
+ghost use Rattle.std.specs.Prelude.{IfOk, IfErr, map};
 ghost use Rattle.vcd_reader.specs.Dump.{Contents};
-ghost use Rattle.vcd_reader.specs.Held.{HoldsContents};
+ghost use Rattle.vcd_reader.specs.Held.{HoldsContents, variables_of};
+ghost use Rattle.expressions.specs.Rows.{HasCounts};
+ghost use Rattle.verdicts.specs.Lines.{line};
+ghost use Rattle.verdicts.specs.Shown.{data_of};
+ghost use Rattle.judging_reports.specs.Judged.{AreLinesOver};
+ghost use Rattle.cli.specs.Explained.{IsTraced};
+ghost use Rattle.cli.specs.Outcomes.{WhyNoneByPrograms};
 
 use crate::checked::{TimedSuite, timed_suite};
-use crate::heads::{Heads, heads_of};
-use crate::programs::{lines_fault, report_by_programs};
-use crate::text::file_of;
+use crate::programs::lines_fault;
 use crate::times::times_of;
 use assertions::Suite;
 use cli_faults::Fault;
+use compiled_reports::{Gate, suite_report};
 use cycle_window::WindowSize;
 use expressions::Rows;
 use judging_reports::suite_rows;
 use std::alloc::Global;
+use std::sync::Wait;
+use std::thread::Threads;
 use vcd_reader::Dump;
 use verdicts::Report;
+use workers_core::TeamSize;
 
-/// A suite with its text's heads, the rows and the times of its clocks, and the report.
+/// A suite, the rows and the times of its clocks, and the report on it.
 #[derive(Drop)]
-pub(crate) struct Trace<'a> {
-    pub heads: Heads<'a>,
+pub(crate) struct Trace {
     pub suite: Suite,
     pub rows: Rows,
     pub times: Vec<u64>,
     pub report: Report,
 }
 
-impl Trace<'_> {
-    /// The time of a clock.
-    pub fn time(&self, clock: usize) -> u64 {
-        self.times.get(clock).copied().unwrap_or(0)
-    }
-
-    /// Whether the text has an assertion of a name.
-    pub fn has_assertion(&self, name: &str) -> bool {
-        for assertion in &self.suite.assertions {
-            if assertion.name.as_str() == name {
-                return true;
-            }
-        }
-        false
-    }
-}
-
-/// What is explained of a text over a dump: the report is that of `check`, the rows are those that
-/// it is on.
-pub(crate) fn trace_of<'a>(alloc: Global, dump: Dump, text: &'a str) -> Result<Trace<'a>, Fault<'a>>
+/// The report on a text over a dump, by a team through windows of a size, with the rows that it is
+/// on and the times of its clocks.
+pub(crate) fn trace_of<'a, G: Gate + Sync, R: Threads + Wait + Sync>(
+    rt: &R,
+    alloc: Global,
+    dump: Dump,
+    text: &'a str,
+    team: TeamSize,
+    size: WindowSize,
+    gate: &G,
+) -> Result<Trace, Fault<'a>>
     requires held { (c : Contents) × HoldsContents dump c }
+    ensures ok { (c : Contents) → HoldsContents dump c → IfOk result (λ t.
+        IsTraced c text.entry.now t.suite t.rows (data_of t.report) t.times.items) }
+    ensures counted { IfOk result (λ t. HasCounts t.suite.counters.items t.rows) }
+    ensures judged { IfOk result (λ t. AreLinesOver t.suite t.rows.signals
+        t.suite.assertions.items (map line t.report.lines.items)) }
+    ensures err { (c : Contents) → HoldsContents dump c
+        → IfErr result (WhyNoneByPrograms c text.entry.now) }
 {
-    let file = file_of(alloc, text)?;
-    let heads = heads_of(alloc, &file)?;
     let TimedSuite { suite, clocks } = timed_suite(alloc, &dump, text)?;
-    let rows = suite_rows(alloc, &dump, &clocks, &suite, WindowSize::usual())?;
+    let rows = suite_rows(alloc, &dump, &clocks, &suite, size)?;
     let times = times_of(alloc, &dump, &clocks, rows.signals.len())?;
-    match report_by_programs(alloc, dump, clocks, &suite, WindowSize::usual()) {
+    match suite_report(rt, alloc, dump, clocks, &suite, team, size, gate) {
         Ok(report) => Ok(Trace {
-            heads,
             suite,
             rows,
             times,

@@ -1,8 +1,8 @@
 //! What is told of texts over a small dump.
 
 use crate::lint_one;
-use source_files::{Part, joined};
 use signals::{Counted, CutWriter};
+use source_files::{Part, joined};
 use std::alloc::{AllocError, Global};
 use std::test::Fail;
 

@@ -4,9 +4,9 @@ ghost use Rattle.std.specs.Prelude.{◌≡◌};
 ghost use Rattle.cli_shell.specs.Moved.{moved_lex, moved_parse, moved_type, moved_fault};
 
 use cli_faults::Fault;
-use source_files::{Added, place_before};
 use lexer::LexFault;
 use parser::ParseFault;
+use source_files::{Added, place_before};
 use types_suites::TypeFault;
 
 fn moved_lex(added: &[Added], fault: LexFault) -> LexFault

@@ -32,7 +32,7 @@ fn report_over(alloc: Global, suite: &Suite, signals: Table<u128>) -> Result<Rep
 }
 
 /// The signals of a suite, as they are bound.
-pub(crate) fn signals_of<'s>(
+fn signals_of<'s>(
     alloc: Global,
     names: &'s [assertions::Signal],
 ) -> Result<Vec<WatchedSignal<'s>>, AllocError>
@@ -59,7 +59,7 @@ fn want_of_memory(fault: WindowFault) -> AllocError
 }
 
 /// The rows of a suite's signals at the ticks of its clock.
-fn rows_of(
+pub(crate) fn rows_of(
     alloc: Global,
     dump: &Dump,
     clocks: &Clocks,

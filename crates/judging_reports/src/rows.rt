@@ -7,25 +7,29 @@ ghost use Rattle.vcd_reader.specs.Dump.{Contents};
 ghost use Rattle.vcd_reader.specs.Held.{HoldsContents, variables_of};
 ghost use Rattle.cycle_window.specs.Held.{AreClocksOf, code_in};
 ghost use Rattle.cycle_window.specs.Ticks.{ticks_of, row_of};
+ghost use Rattle.judging_reports.specs.Named.{AreNamed};
 
-use crate::report::signals_of;
-use crate::sampled::rows_through;
+use crate::report::rows_of;
 use assertions::Suite;
-use cycle_window::{Clocks, Columns, WindowFault, WindowSize};
+use cycle_window::{Clocks, WindowSize};
 use expressions::{Rows, count};
-use std::alloc::Global;
+use std::alloc::{AllocError, Global};
 use vcd_reader::Dump;
 
-/// The rows of a suite's signals at the ticks of its clock, and what its counters count over them;
-/// or why its signals name no variables of their widths.
+/// The rows of a suite's signals at the ticks of its clock, and what its counters count over them.
+///
+/// # Errors
+///
+/// Want of memory alone.
 pub fn suite_rows(
     alloc: Global,
     dump: &Dump,
     clocks: &Clocks,
     suite: &Suite,
     size: WindowSize,
-) -> Result<Rows, WindowFault>
-    requires { AreClocksOf dump.now clocks.now }
+) -> Result<Rows, AllocError>
+    requires clocks { AreClocksOf dump.now clocks.now }
+    requires named { AreNamed (variables_of dump.now) suite.now.names.items }
     ensures counted { IfOk result (HasCounts suite.now.counters.items) }
     ensures rows { (c : Contents) (signals : List ℕ) → HoldsContents dump.now c
         → map (λ s. variable_named (variables_of dump.now) (string_bytes s.path))
@@ -33,8 +37,6 @@ pub fn suite_rows(
         → IfOk result (λ rows.
         rows.signals ≡ map (row_of c signals) (ticks_of c (code_in clocks.now))) }
 {
-    let signals = signals_of(alloc, suite.names.as_slice())?;
-    let columns = Columns::bind(alloc, dump, clocks, signals.as_slice())?;
-    let signals = rows_through(alloc, dump, clocks, columns, size)?;
+    let signals = rows_of(alloc, dump, clocks, suite, size)?;
     Ok(count(alloc, signals, suite.counters.as_slice())?)
 }

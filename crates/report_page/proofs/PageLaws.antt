@@ -1,4 +1,4 @@
--- Lists in step, of which one is looked at by a view; and the pieces of a page.
+-- The pieces of a page.
 use Rattle.std.proofs.Common.{◌≡◌, ◌∙◌, ◌++◌, ℕ, List, [], ◌∷◌, map, string_bytes, sym, ap}
 use Rattle.std.proofs.Common.{String, Global}
 use Rattle.std.specs.Prelude.{flat_map}
@@ -7,20 +7,14 @@ use Rattle.verdicts.specs.Lines.{ReportData}
 use Rattle.report_forms.specs.Grown.{Grows}
 use Rattle.report_forms.specs.Provenances.{ProvenanceData}
 use Rattle.report_forms.proofs.PieceLaws.{and_then, flat_map-map}
-use Rattle.report_page.specs.declared.picture.Picture.{Picture}
+use Rattle.explaining_reports.specs.declared.failed_attempt.FailedAttempt.{FailedAttempt}
+use Rattle.explaining_reports.proofs.AllLaws.{zip_mapped}
 use Rattle.report_page.specs.PageForm.{head_of, intro_text, row_text, IsSection, IsSectionOf, IsPage}
-
-zip_mapped : {A B C : Type 0} (P : A → C → Type 0) (f : B → C) (xs : List A) (ys : List B)
-    → AllZip (λ x y. P x (f y)) xs ys → AllZip P xs (map f ys)
-zip_mapped P f [] [] h = tt
-zip_mapped P f [] (y ∷ ys) h = elim h [ ]
-zip_mapped P f (x ∷ xs) [] h = elim h [ ]
-zip_mapped P f (x ∷ xs) (y ∷ ys) h = (h.0, zip_mapped P f xs ys h.1)
 
 -- what was put together is a page
 pub paged :
     {front before after end t1 t2 t3 t4 t5 t6 t7 : List ℕ} (p : ProvenanceData) (r : ReportData)
-    (pictures : List Picture) (made : List (String Global)) (bytes : List ℕ) → bytes ≡ t7 →
+    (pictures : List FailedAttempt) (made : List (String Global)) (bytes : List ℕ) → bytes ≡ t7 →
     AllZip (IsSectionOf p) pictures made → Grows [] t1 front → Grows t1 t2 (intro_text p r) → Grows t2 t3 before →
     Grows t3 t4 (flat_map (row_text p) r.lines) → Grows t4 t5 after →
     Grows t5 t6 (flat_map (λ s. string_bytes s) made) → Grows t6 t7 end → IsPage p r pictures bytes
@@ -33,7 +27,7 @@ paged {front} {before} {after} {end} p r pictures made bytes same each g1 g2 g3 
       after = after;
       end = end;
       sections = map (λ (s : String Global). string_bytes s) made;
-      each = zip_mapped (λ (x : Picture) (l : List ℕ). IsSection p (head_of x) l)
+      each = zip_mapped (λ (x : FailedAttempt) (l : List ℕ). IsSection p (head_of x) l)
           (λ (s : String Global). string_bytes s) pictures made each;
       is = same ∙ all.is
           ∙ ap (λ (l : List ℕ). head ++ l ++ end)

@@ -11,7 +11,7 @@ use Rattle.report_forms.specs.Provenances.{ProvenanceData}
 use Rattle.report_forms.specs.Outcomes.{has_failed, is_untried}
 use Rattle.report_forms.specs.Escapes.{escaped}
 use Rattle.report_forms.specs.JunitForm.{number_text, clock_text}
-use Rattle.report_page.specs.declared.picture.Picture.{Picture}
+use Rattle.explaining_reports.specs.declared.failed_attempt.FailedAttempt.{FailedAttempt}
 
 -- where the report comes from, and its sums
 unfoldable pub intro_text : ProvenanceData → ReportData → List ℕ
@@ -66,12 +66,12 @@ pub record PictureHead : Type 0 where
   pub failed : ℕ
   pub failure : Failure
 
-abbrev pub head_of : Picture → PictureHead
+abbrev pub head_of : FailedAttempt → PictureHead
 head_of p = record {
   name = p.name.now;
-  text = p.text.now;
-  line = p.line;
-  column = p.column;
+  text = p.standing.path.now;
+  line = p.standing.line;
+  column = p.standing.column;
   failed = p.failed;
   failure = p.failure;
 }
@@ -94,12 +94,12 @@ pub record IsSection (p : ProvenanceData) (h : PictureHead) (section : List ℕ)
   pub is : section ≡ section_head p h ++ picture
 
 -- the section of a failed attempt in memory
-abbrev pub IsSectionOf : ProvenanceData → Picture → String Global → Type 0
+abbrev pub IsSectionOf : ProvenanceData → FailedAttempt → String Global → Type 0
 IsSectionOf p picture section = IsSection p (head_of picture) (string_bytes section)
 
 -- A page: between what all pages have, where the report comes from and its sums, a row for each
 -- assertion, and a section for each failed attempt that is shown, in their orders.
-pub record IsPage (p : ProvenanceData) (r : ReportData) (pictures : List Picture)
+pub record IsPage (p : ProvenanceData) (r : ReportData) (pictures : List FailedAttempt)
     (page : List ℕ) : Type 0 where
   pub front : List ℕ
   pub before : List ℕ

@@ -8,10 +8,11 @@ ghost use Rattle.report_forms.specs.Grown.{Grows};
 ghost use Rattle.report_forms.specs.Provenances.{provenance_of};
 ghost use Rattle.report_page.specs.PageForm.{intro_text, row_text, IsSectionOf, IsPage};
 
-use crate::picture::{Picture, section_of};
+use crate::picture::section_of;
 use crate::pieces::{push_number, push_text};
 use crate::style::{END, HEAD, STYLE, TABLE, TABLE_END};
 use crate::table::push_row;
+use explaining_reports::FailedAttempt;
 use report_forms::{Provenance, push_escaped};
 use std::alloc::{AllocError, Global};
 use verdicts::{Line, Report};
@@ -50,7 +51,7 @@ fn push_rows(text: &mut String, from: &Provenance<'_>, lines: &[Line]) -> Result
 fn sections_of(
     alloc: Global,
     from: &Provenance<'_>,
-    pictures: &[Picture<'_>],
+    pictures: &[FailedAttempt<'_>],
 ) -> Result<Vec<String>, AllocError>
     ensures { IfOk result (λ sections. AllZip
         (IsSectionOf (provenance_of from.now)) pictures.now sections.items) }
@@ -78,7 +79,7 @@ pub fn page(
     alloc: Global,
     from: &Provenance<'_>,
     report: &Report,
-    pictures: &[Picture<'_>],
+    pictures: &[FailedAttempt<'_>],
 ) -> Result<Vec<u8>, AllocError>
     ensures { IfOk result (λ bytes. IsPage (provenance_of from.now) (data_of report.now)
         pictures.now bytes.items) }

@@ -2,8 +2,8 @@
 //!
 //! ```text
 //! let from = Provenance { dump: "top.vcd", text: "rules.sva", times: times.as_slice() };
-//! let pictures = [Picture { name: "granted", text: "rules.sva", line: 2, column: 1, .. }];
-//! let bytes = page(alloc, &from, &report, &pictures)?;
+//! let told = told_of(alloc, lines, &explanations, &standings)?;      // of `explaining_reports`
+//! let bytes = page(alloc, &from, &report, told.as_slice())?;
 //! ```
 //!
 //! The page needs nothing from elsewhere. It has a table with a row for each assertion: how many
@@ -32,4 +32,3 @@ mod table;
 mod wave;
 
 pub use document::page;
-pub use picture::Picture;

@@ -11,30 +11,10 @@ use crate::grid::Grid;
 use crate::pieces::{push_number, push_text};
 use crate::wave::{BASE, push_row};
 use explaining::Sheet;
+use explaining_reports::FailedAttempt;
 use report_forms::{Provenance, push_escaped};
 use std::alloc::{AllocError, Global};
 use std::fmt::Write;
-use verdicts::Failure;
-
-/// A failed attempt, and what is shown of it.
-#[derive(Clone, Copy)]
-pub struct Picture<'a> {
-    /// The assertion's name.
-    pub name: &'a str,
-    /// The path of the text in which the assertion stands.
-    pub text: &'a str,
-    /// The line and the column at which it stands there, from 1.
-    pub line: u64,
-    pub column: u64,
-    /// How many attempts of the assertion failed.
-    pub failed: u64,
-    pub failure: Failure,
-    /// The clocks at which the antecedent ended, and the one from which the consequent is broken.
-    pub ends: &'a [usize],
-    pub broken: usize,
-    /// The values that the attempt saw.
-    pub sheet: &'a Sheet,
-}
 
 /// Adds a label, a clock and its time.
 pub(crate) fn push_clock(
@@ -58,7 +38,7 @@ pub(crate) fn push_clock(
 fn push_section_head(
     text: &mut String,
     from: &Provenance<'_>,
-    picture: &Picture<'_>,
+    picture: &FailedAttempt<'_>,
 ) -> Result<(), AllocError>
     ensures { OnOk result (Grows (string_bytes text.old) (string_bytes text.new)
         (section_head (provenance_of from.now) (head_of picture.now))) }
@@ -69,9 +49,9 @@ fn push_section_head(
     push_text(text, "\">\n<h2>")?;
     push_escaped(text, picture.name)?;
     push_text(text, "</h2>\n<p>")?;
-    push_escaped(text, picture.text)?;
-    push_number(text, ":", picture.line)?;
-    push_number(text, ":", picture.column)?;
+    push_escaped(text, picture.standing.path)?;
+    push_number(text, ":", picture.standing.line)?;
+    push_number(text, ":", picture.standing.column)?;
     push_clock(text, from, ": began at clock ", picture.failure.start)?;
     push_clock(text, from, ", decided at clock ", picture.failure.clock)?;
     push_number(text, "; failed attempts: ", picture.failed)?;
@@ -99,14 +79,22 @@ fn place_of(sheet: &Sheet, clock: usize) -> usize {
 }
 
 /// Adds the band over the clocks of the attempt.
-fn push_band(text: &mut String, picture: &Picture<'_>, grid: &Grid) -> Result<(), AllocError> {
+fn push_band(
+    text: &mut String,
+    picture: &FailedAttempt<'_>,
+    grid: &Grid,
+) -> Result<(), AllocError> {
     let left = grid.left(place_of(picture.sheet, picture.failure.start as usize));
     let width = grid.end().saturating_sub(left);
     push_box(text, "at", left, 0, width, grid.height())
 }
 
 /// Adds a line at each clock at which the antecedent ended.
-fn push_ends(text: &mut String, picture: &Picture<'_>, grid: &Grid) -> Result<(), AllocError> {
+fn push_ends(
+    text: &mut String,
+    picture: &FailedAttempt<'_>,
+    grid: &Grid,
+) -> Result<(), AllocError> {
     for end in picture.ends {
         let x = grid.right(place_of(picture.sheet, *end));
         push_upright(text, "end", x, 0, grid.height())?;
@@ -180,7 +168,7 @@ fn push_end_clocks(text: &mut String, ends: &[usize]) -> Result<(), AllocError> 
 }
 
 /// Adds why the attempt failed, in words.
-fn push_cause(text: &mut String, picture: &Picture<'_>) -> Result<(), AllocError> {
+fn push_cause(text: &mut String, picture: &FailedAttempt<'_>) -> Result<(), AllocError> {
     text.push_str("<p class=\"told\">The antecedent ended at clock")?;
     push_end_clocks(text, picture.ends)?;
     let broken = picture.broken;
@@ -196,7 +184,7 @@ fn push_cause(text: &mut String, picture: &Picture<'_>) -> Result<(), AllocError
 fn body_of(
     alloc: Global,
     from: &Provenance<'_>,
-    picture: &Picture<'_>,
+    picture: &FailedAttempt<'_>,
 ) -> Result<String, AllocError> {
     let times = times_of(alloc, from, picture.sheet)?;
     let grid = Grid::of(alloc, picture.sheet, times.as_slice())?;
@@ -216,7 +204,7 @@ fn body_of(
 pub(crate) fn section_of(
     alloc: Global,
     from: &Provenance<'_>,
-    picture: &Picture<'_>,
+    picture: &FailedAttempt<'_>,
 ) -> Result<String, AllocError>
     ensures { IfOk result (λ section.
         IsSection (provenance_of from.now) (head_of picture.now) (string_bytes section)) }

@@ -3,15 +3,15 @@
 ghost use Rattle.vcd_reader.specs.Dump.{Contents};
 ghost use Rattle.vcd_reader.specs.Held.{HoldsContents};
 
-use cli::{Fault, NoGate, Paths, check_all, page_one, report_all, report_over};
+use cli::{Fault, NoGate, PagedReport, Paths, check_all, page_over, report_over};
 use cli_lint::{Rest, rest_over};
 use cli_shell::{
     FormFiles, Provenance, Sources, moved_fault, open, print_report, read_chosen, shown_lines,
     shown_status, told_paths, write_bytes,
 };
-use source_files::{Added, Origin};
 use cycle_window::WindowSize;
 use signals::Counted;
+use source_files::{Added, Origin};
 use std::fs::Files;
 use std::io;
 use std::io::{Eprint, Print};
@@ -46,33 +46,42 @@ pub struct Asked<'a> {
 /// How many failed attempts of each assertion a page shows.
 const SHOWN: u64 = 3;
 
-/// The report on a text over the dump of a path, as a page; the dump is read once more for it.
-fn page_of<'a, R: Files + AllocGlobal>(
+/// The report on a text over a dump in memory; the page is made where it is asked for.
+fn paged_over<'a, R: Files + AllocGlobal + Threads + Wait + Sync>(
     rt: &R,
+    dump: Dump,
     text: &'a str,
     origin: &Origin<'_>,
     asked: &Asked<'_>,
-) -> Result<Vec<u8>, Fault<'a>> {
-    let mut dump = Counted::new(open(rt, asked.vcd)?);
+) -> Result<PagedReport, Fault<'a>>
+    requires held { (c : Contents) × HoldsContents dump c }
+{
+    let size = WindowSize::new(asked.team.window)?;
+    let Ok(team) = TeamSize::new(asked.team.workers) else {
+        return Err(Fault::BadWorkers);
+    };
+    if asked.html.is_none() {
+        let timed = report_over(rt, rt.alloc(), dump, text, team, size, &NoGate)?;
+        let page = Vec::new(rt.alloc());
+        return Ok(PagedReport { timed, page });
+    }
     let told = told_paths(rt.alloc(), asked.sva, asked.axi)?;
     let paths = Paths {
         dump: asked.vcd,
         text: told.as_str(),
     };
-    page_one(rt.alloc(), &mut dump, text, paths, origin, SHOWN)
-}
-
-/// The page, or no bytes where none is asked for.
-fn page_bytes<'a, R: Files + AllocGlobal>(
-    rt: &R,
-    text: &'a str,
-    origin: &Origin<'_>,
-    asked: &Asked<'_>,
-) -> Result<Vec<u8>, Fault<'a>> {
-    if asked.html.is_none() {
-        return Ok(Vec::new(rt.alloc()));
-    }
-    page_of(rt, text, origin, asked)
+    page_over(
+        rt,
+        rt.alloc(),
+        dump,
+        text,
+        team,
+        size,
+        &NoGate,
+        &paths,
+        origin,
+        SHOWN,
+    )
 }
 
 /// Makes the file of the page, if one is asked for.
@@ -108,31 +117,9 @@ fn judge_by_team<'a, R: Files + Print + AllocGlobal + Threads + Wait + Sync>(
     )
 }
 
-/// Judges a text over a dump by a team; the report goes to files in other forms, and to standard
-/// output.
-fn judge_into_forms<'a, R: Files + Print + AllocGlobal + Threads + Wait + Sync>(
-    rt: &R,
-    dump: R::File,
-    text: &'a str,
-    origin: &Origin<'_>,
-    asked: &Asked<'_>,
-) -> Result<[u64; 5], Fault<'a>> {
-    let page = page_bytes(rt, text, origin, asked)?;
-    let mut dump = Counted::new(dump);
-    let Team { workers, window } = asked.team;
-    let made = report_all(rt, rt.alloc(), &mut dump, text, workers, window, &NoGate)?;
-    let paths = told_paths(rt.alloc(), asked.sva, asked.axi)?;
-    let from = Provenance {
-        dump: asked.vcd,
-        text: paths.as_str(),
-        times: made.times.as_slice(),
-    };
-    write_page(rt, asked.html, page.as_slice())?;
-    print_report(rt, &asked.files, &from, &made.report)
-}
-
-/// Judges what is left of a text over a dump in memory, as [`judge_into_forms`] does.
-fn judge_rest<'a, R: Files + Print + AllocGlobal + Threads + Wait + Sync>(
+/// Judges a text over a dump in memory by a team; the report goes to files in other forms, and to
+/// standard output.
+fn judge_over<'a, R: Files + Print + AllocGlobal + Threads + Wait + Sync>(
     rt: &R,
     dump: Dump,
     text: &'a str,
@@ -141,20 +128,32 @@ fn judge_rest<'a, R: Files + Print + AllocGlobal + Threads + Wait + Sync>(
 ) -> Result<[u64; 5], Fault<'a>>
     requires held { (c : Contents) × HoldsContents dump c }
 {
-    let page = page_bytes(rt, text, origin, asked)?;
-    let size = WindowSize::new(asked.team.window)?;
-    let Ok(team) = TeamSize::new(asked.team.workers) else {
-        return Err(Fault::BadWorkers);
-    };
-    let made = report_over(rt, rt.alloc(), dump, text, team, size, &NoGate)?;
+    let made = paged_over(rt, dump, text, origin, asked)?;
     let paths = told_paths(rt.alloc(), asked.sva, asked.axi)?;
     let from = Provenance {
         dump: asked.vcd,
         text: paths.as_str(),
-        times: made.times.as_slice(),
+        times: made.timed.times.as_slice(),
     };
-    write_page(rt, asked.html, page.as_slice())?;
-    print_report(rt, &asked.files, &from, &made.report)
+    write_page(rt, asked.html, made.page.as_slice())?;
+    print_report(rt, &asked.files, &from, &made.timed.report)
+}
+
+/// Reads a dump, and judges a text over it, as [`judge_over`] does. Windows and workers out of
+/// their range are refused before anything is read.
+fn judge_into_forms<'a, R: Files + Print + AllocGlobal + Threads + Wait + Sync>(
+    rt: &R,
+    dump: R::File,
+    text: &'a str,
+    origin: &Origin<'_>,
+    asked: &Asked<'_>,
+) -> Result<[u64; 5], Fault<'a>> {
+    let _size = WindowSize::new(asked.team.window)?;
+    if TeamSize::new(asked.team.workers).is_err() {
+        return Err(Fault::BadWorkers);
+    }
+    let dump = read_dump(rt.alloc(), &mut Counted::new(dump))?;
+    judge_over(rt, dump, text, origin, asked)
 }
 
 /// The status of an outcome; the line of a fault goes to standard error, with the byte that it has
@@ -197,7 +196,7 @@ fn serve_rest<R: Files + Print + Eprint + AllocGlobal + Threads + Wait + Sync>(
         return 2;
     };
     let added = origin.added;
-    let outcome = judge_rest(rt, dump, text.as_str(), origin, asked);
+    let outcome = judge_over(rt, dump, text.as_str(), origin, asked);
     if rest.refused == 0 {
         return shown(rt, added, outcome);
     }

@@ -4,18 +4,20 @@ use crate::check::{Asked, Team, serve_check};
 use cli::{Fault, NoGate, Request, Wanted, build_one, explain_one, judge_one};
 use cli_bytecode::{run_code, upgrade_code, verify_code};
 use cli_lint::{LintFault, lint_one};
-use vcd_variables::{Filter, NamesFault, names_one};
 use cli_shell::{
     FormFiles, Sources, open, print_rules, read_bytes, read_sources, refuse_words, request_of,
     shown_status, shown_version, words_of, write_bytes,
 };
 use signals::Counted;
+use source_files::Origin;
 use std::env::Env;
 use std::fs::Files;
 use std::io;
 use std::io::{Eprint, Print};
 use std::sync::Wait;
 use std::thread::Threads;
+use vcd_variables::{Filter, NamesFault, names_one};
+use workers_core::TeamSize;
 
 /// Judges a text over a dump by the slow judge; the report goes to standard output.
 fn judge_text<'a, R: Files + Print + AllocGlobal>(
@@ -46,9 +48,12 @@ fn serve_judge<R: Files + Print + Eprint + AllocGlobal>(
     shown_status(rt, judge_text(rt, dump, sources.text.as_str()))
 }
 
+/// By how many workers a text is judged whose failures are explained.
+const WORKERS: u64 = 4;
+
 /// Explains failed attempts of a text's assertions over a dump; the text goes to standard output.
 /// The answer is as that of a report, of which the third number counts what was explained.
-fn explain_text<'a, R: Files + Print + AllocGlobal>(
+fn explain_text<'a, R: Files + Print + AllocGlobal + Threads + Wait + Sync>(
     rt: &R,
     dump: R::File,
     sources: &'a Sources,
@@ -57,14 +62,30 @@ fn explain_text<'a, R: Files + Print + AllocGlobal>(
     let mut dump = Counted::new(dump);
     let mut out = Counted::new(io::writer(rt));
     let text = sources.text.as_str();
-    let parts = sources.parts.as_slice();
-    let explained = explain_one(rt.alloc(), &mut dump, text, parts, wanted, &mut out)?;
+    let origin = Origin {
+        parts: sources.parts.as_slice(),
+        added: sources.added.as_slice(),
+    };
+    let Ok(team) = TeamSize::new(WORKERS) else {
+        return Err(Fault::BadWorkers);
+    };
+    let explained = explain_one(
+        rt,
+        rt.alloc(),
+        &mut dump,
+        text,
+        &origin,
+        wanted,
+        team,
+        &NoGate,
+        &mut out,
+    )?;
     Ok([0, 0, explained, 0, 0])
 }
 
 /// Opens the dump, then reads the text, and explains its failures: status 1 where one was
 /// explained, 0 where none was.
-fn serve_explain<R: Files + Print + Eprint + AllocGlobal>(
+fn serve_explain<R: Files + Print + Eprint + AllocGlobal + Threads + Wait + Sync>(
     rt: &R,
     vcd: &str,
     sva: &[String],

@@ -11,8 +11,8 @@ ghost use Rattle.machine_definition.specs.Values.{AreValues};
 
 use bytecode::Program;
 use bytecode_files::decode;
-use machine_memory::Ring;
 use machine_expressions::{Decoded, Stack, run};
+use machine_memory::Ring;
 use signals::Bits;
 use std::alloc::{AllocError, Global};
 use verifier::{Frame, verify};

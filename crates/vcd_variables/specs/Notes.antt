@@ -4,7 +4,13 @@ use Rattle.std.specs.Prelude.{if◌then◌else◌}
 use Rattle.std.specs.Str.{bytes_eq}
 use Rattle.vcd_variables.specs.declared.note.Note.{Note}
 use Rattle.vcd_variables.specs.declared.note.Note.TheVariants.{
-  Free, Real, Text, Event, NoBits, Wide}
+  Free,
+  Real,
+  Text,
+  Event,
+  NoBits,
+  Wide,
+}
 use Rattle.vcd_variables.specs.declared.note.Note.TheVariants.{NoWords, Reserved, Later}
 use Rattle.vcd_variables.specs.Spelled.{are_words, begins_with_name}
 

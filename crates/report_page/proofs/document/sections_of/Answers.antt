@@ -1,6 +1,6 @@
 use Rattle.std.proofs.Common.{subst}
 use Rattle.report_forms.specs.Provenances.{provenance_of}
-use Rattle.report_page.specs.declared.picture.Picture.{Picture}
+use Rattle.explaining_reports.specs.declared.failed_attempt.FailedAttempt.{FailedAttempt}
 use Rattle.report_page.specs.PageForm.{IsSectionOf}
 use Rattle.explaining.proofs.ZipLaws.{zip_more}
 use Rattle.report_page.proofs.document.sections_of.Goals as goal
@@ -11,5 +11,5 @@ loop-picture-preserved c =
     let made = c.in_ok-section_of.field-0 in
     zip_more (IsSectionOf p) c.args.pictures.now c.loop-picture.picture-index c.picture-item.result made
     c.loop-picture.sections.items c.push.new.self.items c.loop-picture-test.true c.in_ok-push.ensures.items
-    (subst (λ (x : Picture). IsSectionOf p x made) c.picture-item.is c.in_ok-section_of.ensures)
+    (subst (λ (x : FailedAttempt). IsSectionOf p x made) c.picture-item.is c.in_ok-section_of.ensures)
     c.loop-picture.invariant

@@ -3,7 +3,17 @@ use Rattle.std.specs.Prelude.{◌==◌}
 use Rattle.std.proofs.lemmas.List.{take_rest}
 use Rattle.source_files.specs.Globs.{means}
 use Rattle.source_files.proofs.GlobLaws.{
-  fits, other, of_star, of_fitting, of_other, of_none, found, passed, last, rest_of}
+  fits,
+  other,
+  of_star,
+  of_fitting,
+  of_other,
+  of_none,
+  found,
+  passed,
+  last,
+  rest_of,
+}
 use Rattle.source_files.proofs.globs.+means.Goals as goal
 use Rattle.source_files.proofs.globs.+means.Goals.{then-first-eq63, else-first-eq63}
 

@@ -2,7 +2,13 @@ use Rattle.std.proofs.Common.{◌∙◌, ◌+◌, Bool, drop, sym, ap}
 use Rattle.std.proofs.lemmas.Bool.{eq-eqb, ne_eqb}
 use Rattle.vcd_variables.specs.Spelled.{are_words}
 use Rattle.vcd_variables.proofs.WordLaws.{
-  words-letter, words-no_letter, words-dot, words-part, words-no_part, words-end}
+  words-letter,
+  words-no_letter,
+  words-dot,
+  words-part,
+  words-no_part,
+  words-end,
+}
 use Rattle.vcd_variables.proofs.spelled.is_of_words.Goals as goal
 
 pub returns-then-not-is_letter : goal.returns-then-not-is_letter

@@ -1,41 +1,41 @@
 //! Which failed attempts of a report are explained.
 
+ghost use Rattle.std.specs.Prelude.{◌≡◌, ◌++◌, IfOk, OnOk, filter, map, take};
+ghost use Rattle.explaining_reports.specs.Chosen.{begins_at, choice_at, chosen_in, chosen_from};
+
 use crate::wanted::Wanted;
 use std::alloc::{AllocError, Global};
 use verdicts::{Failure, Line};
 
 /// A failed attempt, and the place of its assertion in the report.
 #[derive(Clone, Copy)]
-pub(crate) struct Choice {
+pub struct Choice {
     pub place: usize,
     pub failure: Failure,
 }
 
-/// The failed attempts that began at a clock, or all.
-fn begun_at(
+/// The failed attempts that began when it is asked.
+fn begun_when(
     alloc: Global,
-    start: Option<u64>,
+    wanted: &Wanted<'_>,
     fails: &[Failure],
-) -> Result<Vec<Failure>, AllocError> {
+) -> Result<Vec<Failure>, AllocError>
+    ensures { IfOk result (λ begun.
+        begun.items ≡ filter (begins_at wanted.now.start) fails.now) }
+{
     let mut begun = Vec::new(alloc);
     for failure in fails {
-        if begins_at(start, failure) {
+        if wanted.has_start(failure) {
             begun.push(*failure)?;
         }
     }
     Ok(begun)
 }
 
-/// Whether an attempt began at a clock, if one is given.
-fn begins_at(start: Option<u64>, failure: &Failure) -> bool {
-    match start {
-        None => true,
-        Some(start) => failure.start == start,
-    }
-}
-
 /// At most so many.
-fn at_most(most: u64, fails: &[Failure]) -> &[Failure] {
+fn at_most(most: u64, fails: &[Failure]) -> &[Failure]
+    ensures { result.now ≡ take most fails.now }
+{
     if fails.len() as u64 <= most {
         fails
     } else {
@@ -48,7 +48,10 @@ fn push_choices(
     choices: &mut Vec<Choice>,
     place: usize,
     fails: &[Failure],
-) -> Result<(), AllocError> {
+) -> Result<(), AllocError>
+    ensures { OnOk result
+        (choices.new.items ≡ choices.old.items ++ map (choice_at place) fails.now) }
+{
     for failure in fails {
         choices.push(Choice {
             place,
@@ -58,27 +61,32 @@ fn push_choices(
     Ok(())
 }
 
-/// Adds those of an assertion that are wanted.
+/// Adds those of an assertion that are asked for.
 fn push_wanted(
     alloc: Global,
     choices: &mut Vec<Choice>,
     wanted: &Wanted<'_>,
     place: usize,
     of: &Line,
-) -> Result<(), AllocError> {
+) -> Result<(), AllocError>
+    ensures { OnOk result
+        (choices.new.items ≡ choices.old.items ++ chosen_in wanted.now place of.now) }
+{
     if !wanted.has_assertion(of.name.as_str()) {
         return Ok(());
     }
-    let begun = begun_at(alloc, wanted.start, of.fails.as_slice())?;
+    let begun = begun_when(alloc, wanted, of.fails.as_slice())?;
     push_choices(choices, place, at_most(wanted.most, begun.as_slice()))
 }
 
-/// The failed attempts that are wanted, by assertion, then by clock.
+/// The failed attempts that are asked for, by assertion, then in the report's order.
 pub(crate) fn choices_of(
     alloc: Global,
     wanted: &Wanted<'_>,
     lines: &[Line],
-) -> Result<Vec<Choice>, AllocError> {
+) -> Result<Vec<Choice>, AllocError>
+    ensures { IfOk result (λ choices. choices.items ≡ chosen_from wanted.now 0 lines.now) }
+{
     let mut choices = Vec::new(alloc);
     for place in 0..lines.len() {
         push_wanted(alloc, &mut choices, wanted, place, &lines[place])?;

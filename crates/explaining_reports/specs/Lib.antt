@@ -1,0 +1,5 @@
+pub mod Chosen
+pub mod Explained
+pub mod Failed
+pub mod Told
+pub mod ExplainedText
