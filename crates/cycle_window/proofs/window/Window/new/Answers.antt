@@ -21,6 +21,8 @@ invariant_of-result c =
       rows = λ c' h. c.in_ok-values.ensures.items;
       full = omega (arith, ap length c.in_ok-values.ensures.items);
       room = omega (arith, sizes, c.in_ok-values.ensures.capacity);
+      notes = omega (arith, sizes, c.in_ok-stays.ensures.len, c.in_ok-stays.stays.ok.0);
+      stay = λ i n le lt. absurd (omega (arith, ap length c.in_ok-values.ensures.items));
     }
 
 pub returns-clause-of : goal.returns-clause-of
