@@ -27,9 +27,9 @@
 //! `specs/Rows.antt`, `specs/Stays.antt`, `specs/Cursors.antt`, `specs/Changes.antt`,
 //! `specs/Picks.antt`.
 //!
-//! Not promised: a memory of earlier rows, or a way back; or that rows differ after those that
-//! `same_after` counts. `slide` asks for ticks that are left, and for the dump and clocks of the
-//! window's columns; `put_row` and `put_part` for a tick in the window, and for room.
+//! Not promised: a memory of earlier rows, or a way back; or whether a row stays past the window's
+//! end. `slide` asks for ticks that are left, and for the dump and clocks of the window's columns;
+//! `put_row`, `put_part` and `same_after` for a tick in the window, and the first two for room.
 #![tactic(auto)]
 
 mod clocks;

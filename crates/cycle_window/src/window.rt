@@ -31,11 +31,12 @@ pub struct Window<'d> {
     pub(crate) cursor: Cursor,
     /// Rows of the columns' variables, one after the other.
     pub(crate) values: Vec<u128>,
-    /// For how many rows after its own each value stays, at least.
+    /// For how many rows after its own each value stays.
     pub(crate) stays: Vec<u16>,
     ghost ordered: { first ≤ end },
     ghost inside: { end ≤ columns.count },
     ghost few: { end - first ≤ size },
+    ghost small: { size ≤ 65536 },
     ghost rows: { AreRowsOf columns.dump.now columns.code (places columns.shared.variables.items)
         first end values.items },
     ghost full: { length values.items ≡ (end - first) * length columns.shared.variables.items },
@@ -132,7 +133,7 @@ impl<'d> Window<'d> {
         &self.values[start..start + width]
     }
 
-    /// For how many rows after its own each value at a tick of the window stays, at least.
+    /// For how many rows after its own each value at a tick of the window stays.
     fn stays_at(&self, tick: u64) -> &[u16]
         requires low { first_in self.now ≤ tick }
         requires high { tick < end_in self.now }
@@ -165,8 +166,8 @@ impl<'d> Window<'d> {
     }
 
     /// At how many ticks of the window that follow a tick a part of the row is what it is there:
-    /// the values of the signals from one up to another, which is not among them. It may be so at
-    /// more of them.
+    /// the values of the signals from one up to another, which is not among them. At the next tick
+    /// it is another, or the window ends.
     pub fn same_after(&self, tick: u64, from: usize, to: usize) -> u64
         requires low { first_in self.now ≤ tick }
         requires high { tick < end_in self.now }
@@ -176,6 +177,9 @@ impl<'d> Window<'d> {
         ensures same { (c : Contents) → IsOver self.now c
             → RowStays c (clock_in (columns_in self.now))
             (slice_range (places_in (columns_in self.now)) from to) tick result }
+        ensures longest { (c : Contents) (n : ℕ) → IsOver self.now c → tick + n < end_in self.now
+            → RowStays c (clock_in (columns_in self.now))
+            (slice_range (places_in (columns_in self.now)) from to) tick n → n ≤ result }
     {
         let picks = &self.columns.shared.picks[from..to];
         let rest = (self.end - 1) as u64 - tick;

@@ -9,8 +9,8 @@ ghost use Rattle.machine_expressions.specs.Memory.{AreRows};
 ghost use Rattle.machine_expressions.specs.Runs.{HasRun, longest_run};
 
 use bytecode::Program;
-use machine_memory::Ring;
 use machine_expressions::{Stack, fill_row, run};
+use machine_memory::Ring;
 
 /// The stack, and where the row of a clock is made.
 #[derive(Drop)]

@@ -8,10 +8,10 @@ loop-place-preserved c =
     let old = c.loop-place.invariant in
     let p = c.loop-place.place - 1 in
     let stays = c.loop-place.stays in
-    let room : p < length stays = omega (arith, old.inside, old.long, c.requires) in
+    let room : p < length stays = omega (arith, old.inside, old.long, c.requires.room) in
     record {
       inside = omega (arith, old.inside);
       long = omega (arith, length-set stays p c.stay_at-stay.result, old.long);
       noted = noted-more c.args.width c.args.values.now stays p c.stay_at-stay.result room
-          (λ i lt. old.noted i (omega arith)) c.stay_at-stay.ensures;
+          (λ i lt inside. old.noted i (omega arith) inside) c.stay_at-stay.ensures;
     }

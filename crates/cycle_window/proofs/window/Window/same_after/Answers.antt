@@ -3,7 +3,7 @@ use Rattle.std.specs.Prelude.{slice_range}
 use Rattle.cycle_window.specs.Picks.{AreBelow}
 use Rattle.cycle_window.specs.Held.{first_in, end_in}
 use Rattle.cycle_window.proofs.WindowLaws.{below-part}
-use Rattle.cycle_window.proofs.StayLaws.{picks-long, row-stays}
+use Rattle.cycle_window.proofs.StayLaws.{picks-long, row-stays, row-noted}
 use Rattle.cycle_window.proofs.window.Window.same_after.Goals as goal
 
 pub slice_bounds-picks-end : goal.slice_bounds-picks-end
@@ -70,3 +70,27 @@ returns-clause-same c = λ c' over.
     let note = c.stays_at.ensures.stays (get_or picks i 0) (below i lt) in
     let few = least i lt in
     omega (arith, note, few))
+
+pub returns-clause-longest : goal.returns-clause-longest
+unfolding first_in end_in
+returns-clause-longest c = λ c' n over high stays.
+    let w = c.args.self.now in
+    let shared = w.columns.shared in
+    let width = length shared.variables.items in
+    let picks = slice_range shared.picks.items c.args.from c.args.to in
+    let inside : c.args.to ≤ length shared.picks.items =
+    omega (arith, picks-long w, c.requires.inside) in
+    let below = below-part width c.args.from c.args.to shared.picks.items c.requires.order inside shared.below in
+    let lent : slice_range c.deref.result.now c.args.from c.args.to ≡ picks =
+    ap (λ (xs : List ℕ). slice_range xs c.args.from c.args.to) c.deref.ensures.value in
+    let greatest =
+    subst (λ (ps : List ℕ). n ≤ (w.end - 1) - c.args.tick
+    → ((i : ℕ) → i < length ps → n ≤ get_or c.stays_at.result.now (get_or ps i 0) 0)
+    → n ≤ c.least_stay.result) lent (c.least_stay.ensures.greatest n) in
+    greatest (omega (arith, high))
+    (λ i lt.
+    let note = c.stays_at.ensures.stays (get_or picks i 0) (below i lt) in
+    let most =
+    row-noted w c' c.args.tick c.args.from c.args.to n i over c.requires.low high c.requires.order inside lt
+    stays in
+    omega (arith, note, most))

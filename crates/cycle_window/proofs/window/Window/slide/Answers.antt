@@ -52,7 +52,7 @@ use Rattle.cycle_window.specs.Held.{
 }
 use Rattle.cycle_window.proofs.HeldLaws.{held-length}
 use Rattle.cycle_window.proofs.WindowLaws.{ticks-ahead, ticks-behind, slice-long}
-use Rattle.cycle_window.proofs.StayLaws.{wide}
+use Rattle.cycle_window.proofs.StayLaws.{wide, few-values}
 use Rattle.cycle_window.proofs.window.Window.slide.Goals as goal
 
 -- the clocks' ticks are as many as the columns say
@@ -179,20 +179,17 @@ fill_rows-requires-clause-of c =
     subst (λ (vs : List VarId). IsCursorOf c.args.dump.now vs w.cursor)
     (sym c.as_slice.ensures.value) c.requires.same.cursor
 
-pub note_stays-requires : goal.note_stays-requires
+pub note_stays-requires-clause-room : goal.note_stays-requires-clause-room
 unfolding end_in ticks_in
-note_stays-requires c =
+note_stays-requires-clause-room c =
     let w = c.args.self.now in
     let k = c.args.clocks.now in
     let n = c.min.result in
-    let width = length w.columns.shared.variables.items in
     let long : vec_len k.ticks ≡ length k.ticks.items = k.ticks.ok.0 in
     let many = many-rows c.args.dump.now k w c.requires.same in
-    let inside : w.end + n ≤ length k.ticks.items =
-    omega (arith, long, c.len.ensures, c.min.ensures, c.requires.remain) in
     let size =
     slice-long c.deref.result.now w.end (w.end + n) (omega arith)
-    (omega (arith, ap length c.deref.ensures.value, inside)) in
+    (omega (arith, ap length c.deref.ensures.value, long, c.len.ensures, c.min.ensures, c.requires.remain)) in
     let all : length (slice_range c.deref.result.now w.end (w.end + n)) ≡ n = omega (arith, size) in
     let full = c.fill_rows.ensures.len
     ∙ ap (λ (m : ℕ). m * length c.as_slice.result.now) all
@@ -201,6 +198,23 @@ note_stays-requires c =
     fits-notes w n (omega (arith, c.min.ensures))
     (omega (arith, many, c.len.ensures, c.min.ensures, c.requires.remain)) in
     omega (arith, full, fits, ap length c.deref-2.ensures.value, ap length c.deref_mut.ensures.value)
+
+pub note_stays-requires-clause-few : goal.note_stays-requires-clause-few
+unfolding end_in ticks_in
+note_stays-requires-clause-few c =
+    let w = c.args.self.now in
+    let k = c.args.clocks.now in
+    let n = c.min.result in
+    let long : vec_len k.ticks ≡ length k.ticks.items = k.ticks.ok.0 in
+    let size =
+    slice-long c.deref.result.now w.end (w.end + n) (omega arith)
+    (omega (arith, ap length c.deref.ensures.value, long, c.len.ensures, c.min.ensures, c.requires.remain)) in
+    let all : length (slice_range c.deref.result.now w.end (w.end + n)) ≡ n = omega (arith, size) in
+    let full = c.fill_rows.ensures.len
+    ∙ ap (λ (m : ℕ). m * length c.as_slice.result.now) all
+    ∙ ap (λ (vs : List VarId). n * length vs) c.as_slice.ensures.value in
+    let few = few-values w n (omega (arith, c.min.ensures)) in
+    omega (arith, full, few, wide w c.len-width.result c.len-width.ensures, ap length c.deref-2.ensures.value)
 
 pub invariant_of-self : goal.invariant_of-self
 unfolding end_in ticks_in
@@ -233,6 +247,7 @@ invariant_of-self c =
           ∙ ap (λ (m : ℕ). m * length c.as_slice.result.now) same
           ∙ ap (λ (vs : List VarId). ((w.end + n) - w.end) * length vs) c.as_slice.ensures.value;
       room = omega (arith, w.room, c.fill_rows.ensures.capacity);
+      small = w.small;
       notes = omega (arith, w.notes, c.note_stays.ensures.long, ap length c.deref_mut.ensures.value, ap length kept);
       stay =
           subst (λ (m : ℕ). AreStays m c.fill_rows.new.values.items (with_items w.stays stays).items)
