@@ -4,3 +4,4 @@ pub mod HeldLaws
 pub mod BoundLaws
 pub mod PickLaws
 pub mod WindowLaws
+pub mod StayLaws

@@ -3,6 +3,7 @@ pub mod Picks
 pub mod Variables
 pub mod Changes
 pub mod Rows
+pub mod Stays
 pub mod Cursors
 pub mod Held
 pub mod Bound

@@ -4,8 +4,9 @@
 //! which it is 0 and has had a value. The row of a tick has a value for each of some signals, as it
 //! stood before the step of the edge. A window holds the rows of a run of ticks and no others; it
 //! reads the dump on from where it stands. A variable that several signals name stands in a row
-//! once, but for each time that another name of its code comes between. All memory of a window is
-//! taken when it is made.
+//! once, but for each time that another name of its code comes between. A window notes of each
+//! value for how many rows it stays the same, so that its users can pass over rows that are equal.
+//! All memory of a window is taken when it is made.
 //!
 //! ```text
 //! let clocks = Clocks::of(alloc, &dump, "top.clk")?;          // C1, C2
@@ -17,16 +18,18 @@
 //! let time = time_of_tick(&dump, &clocks, first as usize);  // in the dump's unit
 //! window.put_row(&mut row, first);                            // all signals, in the room of row
 //! window.put_part(&mut part, first, 2, 5);                    // signals 2, 3 and 4, in its room
+//! let same = window.same_after(first, 2, 5);                  // they stay at so many ticks more
 //! ```
 //!
 //! The definitions: `specs/Ticks.antt` (ticks and rows of what a dump says; `ticks_law` has that
 //! these are all the rising edges, in order), `specs/Held.antt` (what clocks, columns and windows
 //! hold), `specs/Bound.antt` (what is wrong with a path, a width or a size). Below them:
-//! `specs/Rows.antt`, `specs/Cursors.antt`, `specs/Changes.antt`, `specs/Picks.antt`.
+//! `specs/Rows.antt`, `specs/Stays.antt`, `specs/Cursors.antt`, `specs/Changes.antt`,
+//! `specs/Picks.antt`.
 //!
-//! Not promised: a memory of earlier rows, or a way back. `slide` asks for ticks that are left, and
-//! for the dump and clocks of the window's columns; `put_row` and `put_part` for a tick in the
-//! window, and for room.
+//! Not promised: a memory of earlier rows, or a way back; or whether a row stays past the window's
+//! end. `slide` asks for ticks that are left, and for the dump and clocks of the window's columns;
+//! `put_row`, `put_part` and `same_after` for a tick in the window, and the first two for room.
 #![tactic(auto)]
 
 mod clocks;
@@ -40,6 +43,7 @@ mod rows;
 mod sampling;
 mod shared;
 mod size;
+mod stays;
 mod times;
 mod window;
 mod window_rows;

@@ -1,6 +1,6 @@
 //! A run of clocks with their rows.
 
-ghost use Rattle.std.specs.Prelude.{◌≡◌, ◌+◌, ◌-◌, ◌*◌, ◌<◌, ◌≤◌, IfOk, length, min};
+ghost use Rattle.std.specs.Prelude.{◌≡◌, ℕ, ◌+◌, ◌-◌, ◌*◌, ◌<◌, ◌≤◌, IfOk, length, min, get_or};
 ghost use Rattle.std.specs.Prelude.{slice_index, slice_range, vec_capacity};
 ghost use Rattle.vcd_reader.specs.Dump.{Contents};
 ghost use Rattle.vcd_reader.specs.declared.dump.Dump.{Dump};
@@ -8,12 +8,14 @@ ghost use Rattle.vcd_reader.specs.Held.{HoldsContents};
 ghost use Rattle.cycle_window.specs.Ticks.{ticks_of, row_of};
 ghost use Rattle.cycle_window.specs.Variables.{places};
 ghost use Rattle.cycle_window.specs.Rows.{AreRowsOf};
+ghost use Rattle.cycle_window.specs.Stays.{AreStays, RowStays};
 
 use crate::clocks::Clocks;
 use crate::columns::Columns;
 use crate::cursor::Cursor;
 use crate::picks::push_picked;
 use crate::size::WindowSize;
+use crate::stays::{least_stay, note_stays};
 use crate::window_rows::fill_rows;
 use std::alloc::{AllocError, Global};
 use vcd_reader::Dump;
@@ -29,14 +31,20 @@ pub struct Window<'d> {
     pub(crate) cursor: Cursor,
     /// Rows of the columns' variables, one after the other.
     pub(crate) values: Vec<u128>,
+    /// For how many rows after its own each value stays.
+    pub(crate) stays: Vec<u16>,
     ghost ordered: { first ≤ end },
     ghost inside: { end ≤ columns.count },
     ghost few: { end - first ≤ size },
+    ghost small: { size ≤ 65536 },
     ghost rows: { AreRowsOf columns.dump.now columns.code (places columns.shared.variables.items)
         first end values.items },
     ghost full: { length values.items ≡ (end - first) * length columns.shared.variables.items },
     ghost room: { min size columns.count * length columns.shared.variables.items
         ≤ vec_capacity values },
+    ghost notes: { min size columns.count * length columns.shared.variables.items
+        ≤ length stays.items },
+    ghost stay: { AreStays (length columns.shared.variables.items) values.items stays.items },
 }
 
 impl<'d> Window<'d> {
@@ -70,6 +78,7 @@ impl<'d> Window<'d> {
         };
         let cursor = Cursor::new(alloc, columns.dump, variables)?;
         let values = Vec::with_capacity(alloc, room)?;
+        let stays = Vec::from_elem(alloc, 0u16, room)?;
         Ok(Window {
             columns,
             size,
@@ -77,6 +86,7 @@ impl<'d> Window<'d> {
             end: 0,
             cursor,
             values,
+            stays,
         })
     }
 
@@ -103,6 +113,8 @@ impl<'d> Window<'d> {
             columns.shared.variables.as_slice(),
             ticks,
         );
+        let width = columns.shared.variables.len();
+        note_stays(&mut self.stays, &self.values, width);
         self.first = first;
         self.end = end;
     }
@@ -121,6 +133,20 @@ impl<'d> Window<'d> {
         &self.values[start..start + width]
     }
 
+    /// For how many rows after its own each value at a tick of the window stays.
+    fn stays_at(&self, tick: u64) -> &[u16]
+        requires low { first_in self.now ≤ tick }
+        requires high { tick < end_in self.now }
+        ensures len { length result.now ≡ length self.now.columns.shared.variables.items }
+        ensures stays { (i : ℕ) → i < length self.now.columns.shared.variables.items
+            → get_or result.now i 0 ≡ get_or self.now.stays.items ((tick - first_in self.now)
+            * length self.now.columns.shared.variables.items + i) 0 }
+    {
+        let width = self.columns.shared.variables.len();
+        let start = (tick as usize - self.first) * width;
+        &self.stays[start..start + width]
+    }
+
     /// A part of the row at a tick of the window, in the place of what stood there: the values of
     /// the signals from one up to another, which is not among them. There is room for it.
     pub fn put_part(&self, part: &mut Vec<u128>, tick: u64, from: usize, to: usize)
@@ -137,6 +163,27 @@ impl<'d> Window<'d> {
         let picks = &self.columns.shared.picks[from..to];
         part.clear();
         push_picked(part, self.values_at(tick), picks);
+    }
+
+    /// At how many ticks of the window that follow a tick a part of the row is what it is there:
+    /// the values of the signals from one up to another, which is not among them. At the next tick
+    /// it is another, or the window ends.
+    pub fn same_after(&self, tick: u64, from: usize, to: usize) -> u64
+        requires low { first_in self.now ≤ tick }
+        requires high { tick < end_in self.now }
+        requires order { from ≤ to }
+        requires inside { to ≤ length (places_in (columns_in self.now)) }
+        ensures inside { tick + result < end_in self.now }
+        ensures same { (c : Contents) → IsOver self.now c
+            → RowStays c (clock_in (columns_in self.now))
+            (slice_range (places_in (columns_in self.now)) from to) tick result }
+        ensures longest { (c : Contents) (n : ℕ) → IsOver self.now c → tick + n < end_in self.now
+            → RowStays c (clock_in (columns_in self.now))
+            (slice_range (places_in (columns_in self.now)) from to) tick n → n ≤ result }
+    {
+        let picks = &self.columns.shared.picks[from..to];
+        let rest = (self.end - 1) as u64 - tick;
+        least_stay(self.stays_at(tick), picks, rest)
     }
 
     /// The row at a tick of the window, in the place of what stood there: a value for each signal.

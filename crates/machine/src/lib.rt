@@ -10,13 +10,15 @@
 //! visited and settled alone, and a pool is touched only by what stays live. Where nothing is live
 //! after it either, all rows that the program keeps are equal, and the next clock has the same row
 //! and the same counters, that clock comes to the same verdict at the same cost: it runs no code,
-//! and only the clock's number moves.
+//! and only the clock's number moves. Many such clocks, one after another, are passed over at once
+//! by `repeat`.
 //!
 //! ```text
 //! let mut machine = Machine::new(alloc, verify(alloc, program)?)?;
 //! let mut decided = ArrayVec::new();
 //! machine.clock(&row, &mut decided);
 //! let cost = machine.spent();
+//! let first = machine.repeat(&row, 9);    // nine clocks more, or none; what the first decides
 //! machine.open_starts(&mut decided);
 //! ```
 //!
@@ -25,7 +27,8 @@
 //! clock stand in `machine_definition`: `clock` there says what a clock comes to, with every test
 //! that it could fail.
 //!
-//! Not promised: that memory suffices for a machine, or that a foreign program means anything.
+//! Not promised: that memory suffices for a machine, that a foreign program means anything, or
+//! which clocks `repeat` passes over: it may run none.
 #![tactic(auto)]
 
 mod attempts;

@@ -28,7 +28,9 @@ impl Model for Machine {
 
 impl Machine {
     ghost use Rattle.std.specs.Prelude.{◌≡◌, ◌+◌, ◌^◌, ◌<◌, ◌≤◌, ◌++◌, length, IfOk, IfErr};
+    ghost use Rattle.std.specs.Prelude.{IfSome, IfNone};
     ghost use Rattle.machine.specs.Running.{opened_on, IsOneClock, IsRowOf};
+    ghost use Rattle.machine.specs.Again.{AreAgain};
     ghost use Rattle.machine_definition.specs.Runs.{open_ones};
 
     /// A machine before its first clock, or the program again where memory is refused. No other
@@ -53,6 +55,19 @@ impl Machine {
         ensures budget { self.new.spent ≤ self.new.program.header.limits.budget }
     {
         self.progress.clock(self.verified.program(), row, out);
+    }
+
+    /// So many clocks over a row, where the machine knows that each comes to what the last one came
+    /// to: what the first of them decides. Else it answers nothing, and runs none. It takes no
+    /// memory, and no longer for many clocks than for one.
+    pub fn repeat(&mut self, row: &[u128], clocks: u64) -> Option<Decided>
+        requires row { IsRowOf self.old.program row.now }
+        requires more { self.old.state.standing.now + clocks < 2 ^ 64 }
+        ensures again { IfSome result (λ first.
+            AreAgain self.old row.now clocks first self.new) }
+        ensures none { IfNone result (self.new ≡ self.old) }
+    {
+        self.progress.repeat(self.verified.program(), row, clocks)
     }
 
     /// How many clocks were run.

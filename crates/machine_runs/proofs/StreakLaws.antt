@@ -39,7 +39,7 @@ use Rattle.signals.specs.declared.verdict.Decided.{Decided}
 use Rattle.signals.specs.declared.verdict.Verdict.TheVariants as outcome
 use Rattle.verdicts.specs.Tallies.{is_holds, is_vacuous, is_fails, is_disabled, is_open}
 use Rattle.machine_runs.specs.declared.streak.Streak.{Streak}
-use Rattle.machine_runs.specs.Ages.{verdict_moved, nth}
+use Rattle.machine_runs.specs.Ages.{verdict_moved, deciding_clock, nth}
 use Rattle.machine_runs.specs.Streaks.{streak_attempts, attempts_in_all}
 
 -- a list whose last item gives more than before
@@ -54,29 +54,69 @@ set-last f (x ∷ xs) (suc n) y d more h is =
     ap (λ zs. f x ++ zs) (set-last f xs n y d more (omega (arith, h)) is)
     ∙ sym (append_assoc (f x) (flat_map f xs) more)
 
--- one attempt more
-pub grown : (d one : Decided) (n m : ℕ) → m ≡ n + 1 → one.start ≡ d.start + n →
-    one.verdict ≡ verdict_moved n d.verdict →
-    map (nth d) (range_with_len 0 m) ≡ map (nth d) (range_with_len 0 n) ++ one ∷ []
-grown d one n m h start verdict =
-    ap (λ (k : ℕ). map (nth d) (range_with_len 0 k)) h
-    ∙ map-range_with_len_more (nth d) 0 n n (omega arith)
-    ∙ ap (λ (x : Decided). map (nth d) (range_with_len 0 n) ++ x ∷ [])
-    (ap (λ (k : ℕ). record { start = k; verdict = verdict_moved n d.verdict }) (sym start)
-    ∙ ap (λ (v : Verdict). record { start = one.start; verdict = v }) (sym verdict))
+-- moved on twice
+moved-twice : (n i : ℕ) (v : Verdict) → verdict_moved i (verdict_moved n v) ≡ verdict_moved (n + i) v
+moved-twice n i (outcome.Holds t) =
+    let sum : (t + n) + i ≡ t + (n + i) = omega arith in ap outcome.Holds sum
+moved-twice n i (outcome.Vacuous t) =
+    let sum : (t + n) + i ≡ t + (n + i) = omega arith in ap outcome.Vacuous sum
+moved-twice n i (outcome.Fails t) =
+    let sum : (t + n) + i ≡ t + (n + i) = omega arith in ap outcome.Fails sum
+moved-twice n i (outcome.Disabled t) =
+    let sum : (t + n) + i ≡ t + (n + i) = omega arith in ap outcome.Disabled sum
+moved-twice n i outcome.Open = refl
 
--- the last streak with one attempt more
-pub last-grown : (xs : List Streak) (last : ℕ) (x : Streak) (one : Decided) (r : Option Streak) →
+-- a verdict so many clocks later is known so many clocks later, at most
+pub later-clock : (n : ℕ) (v : Verdict) (most count : ℕ) → n + count ≤ most
+    → deciding_clock (verdict_moved n v) + count ≤ most → deciding_clock v + (n + count) ≤ most
+later-clock n (outcome.Holds t) most count few le = omega (arith, le)
+later-clock n (outcome.Vacuous t) most count few le = omega (arith, le)
+later-clock n (outcome.Fails t) most count few le = omega (arith, le)
+later-clock n (outcome.Disabled t) most count few le = omega (arith, le)
+later-clock n outcome.Open most count few le = omega (arith, few)
+
+-- the attempt after so many, and those after it
+nth-after : (d one : Decided) (n i : ℕ) → one.start ≡ d.start + n → one.verdict ≡ verdict_moved n d.verdict
+    → nth one i ≡ nth d (n + i)
+nth-after d one n i start verdict =
+    let later : one.start + i ≡ d.start + (n + i) = omega (arith, start) in
+    let moved = ap (verdict_moved i) verdict ∙ moved-twice n i d.verdict in
+    λ j. record { start = later j; verdict = moved j }
+
+-- attempts that go on with others
+pub grown : (d one : Decided) (n m : ℕ) → one.start ≡ d.start + n → one.verdict ≡ verdict_moved n d.verdict →
+    map (nth d) (range_with_len 0 (n + m))
+    ≡ map (nth d) (range_with_len 0 n) ++ map (nth one) (range_with_len 0 m)
+grown d one n zero start verdict =
+    let none : n + 0 ≡ n = omega arith in
+    ap (λ (k : ℕ). map (nth d) (range_with_len 0 k)) none
+    ∙ sym (append-nil (map (nth d) (range_with_len 0 n)))
+grown d one n (suc m) start verdict =
+    let more : n + suc m ≡ (n + m) + 1 = omega arith in
+    let next : suc m ≡ m + 1 = omega arith in
+    let front = map (nth d) (range_with_len 0 n) in
+    ap (λ (k : ℕ). map (nth d) (range_with_len 0 k)) more
+    ∙ map-range_with_len_more (nth d) 0 (n + m) (n + m) (omega arith)
+    ∙ ap (λ (xs : List Decided). xs ++ nth d (n + m) ∷ []) (grown d one n m start verdict)
+    ∙ append_assoc front (map (nth one) (range_with_len 0 m)) (nth d (n + m) ∷ [])
+    ∙ ap (λ (x : Decided). front ++ (map (nth one) (range_with_len 0 m) ++ x ∷ []))
+    (sym (nth-after d one n m start verdict))
+    ∙ ap (λ (xs : List Decided). front ++ xs)
+    (sym (map-range_with_len_more (nth one) 0 m m (omega arith)))
+    ∙ ap (λ (k : ℕ). front ++ map (nth one) (range_with_len 0 k)) (sym next)
+
+-- the last streak with another one after it
+pub last-grown : (xs : List Streak) (last : ℕ) (x more : Streak) (r : Option Streak) →
     last + 1 ≡ length xs → x ≡ get_or xs last x →
-    IfSome r (λ s. streak_attempts s ≡ streak_attempts x ++ one ∷ []) →
+    IfSome r (λ s. streak_attempts s ≡ streak_attempts x ++ streak_attempts more) →
     IfSome r (λ s. attempts_in_all (slice_set xs (length xs - 1) s)
-    ≡ attempts_in_all xs ++ one ∷ [])
-last-grown xs last x one None h is e = tt
-last-grown xs last x one (Some s) h is e =
+    ≡ attempts_in_all xs ++ streak_attempts more)
+last-grown xs last x more None h is e = tt
+last-grown xs last x more (Some s) h is e =
     let n : length xs - 1 ≡ last = omega (arith, h) in
     ap (λ (k : ℕ). attempts_in_all (slice_set xs k s)) n
-    ∙ set-last streak_attempts xs last s x (one ∷ []) h
-    (e ∙ ap (λ (z : Streak). streak_attempts z ++ one ∷ []) is)
+    ∙ set-last streak_attempts xs last s x (streak_attempts more) h
+    (e ∙ ap (λ (z : Streak). streak_attempts z ++ streak_attempts more) is)
 
 -- one streak more
 pub streak-more : (xs : List Streak) (i : ℕ) (s : Streak) → i < length xs → s ≡ get_or xs i s →

@@ -17,6 +17,8 @@
 //! let mut decided = Streaks::new(alloc);
 //! decided.reserve(10)?;                 // for ten attempts in any case
 //! decided.push(Decided { start: 0, verdict: Verdict::Holds(1) });
+//! let next = Decided { start: 1, verdict: Verdict::Holds(2) };
+//! decided.push_streak(Streak::from_first(next, 7));   // it, and six more alike
 //! let batch = Batch { monitor: 0, first: 0, end: 10, decided };
 //! batches_law();     // does nothing; what it ensures holds of all programs and rows
 //! batches_join();    // so does this: batches that meet, joined, are the batch of all their clocks

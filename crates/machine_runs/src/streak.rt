@@ -31,8 +31,9 @@ fn verdict_later(verdict: Verdict, clocks: u64) -> Verdict
 }
 
 impl Streak {
-    ghost use Rattle.std.specs.Prelude.{◌≡◌, ◌<◌, ◌∷◌, ◌++◌, [], IfSome};
-    ghost use Rattle.machine_runs.specs.Ages.{nth};
+    ghost use Rattle.std.specs.Prelude.{◌≡◌, ◌+◌, ◌^◌, ◌<◌, ◌≤◌, ◌∷◌, ◌++◌, [], IfSome, map};
+    ghost use Rattle.std.specs.List.{range_with_len};
+    ghost use Rattle.machine_runs.specs.Ages.{nth, deciding_clock};
     ghost use Rattle.machine_runs.specs.Streaks.{streak_attempts};
 
     /// Of one attempt.
@@ -43,6 +44,18 @@ impl Streak {
         Streak {
             first: one,
             count: 1,
+        }
+    }
+
+    /// Of so many attempts, of which this is the first.
+    pub fn from_first(first: Decided, attempts: u64) -> Streak
+        requires starts { first.start + attempts ≤ 2 ^ 64 }
+        requires clocks { deciding_clock first.verdict + attempts ≤ 2 ^ 64 }
+        ensures { streak_attempts result ≡ map (nth first) (range_with_len 0 attempts) }
+    {
+        Streak {
+            first,
+            count: attempts,
         }
     }
 
@@ -58,13 +71,15 @@ impl Streak {
         }
     }
 
-    /// The streak with one more attempt, where that goes on with it.
+    /// The streak with another one after it, where that goes on with it.
     #[inline]
-    pub(crate) fn with(&self, one: Decided) -> Option<Streak>
-        ensures { IfSome result (λ s. streak_attempts s ≡ streak_attempts self.now ++ one ∷ []) }
+    pub(crate) fn with(&self, more: Streak) -> Option<Streak>
+        ensures { IfSome result (λ s.
+            streak_attempts s ≡ streak_attempts self.now ++ streak_attempts more) }
     {
         let first = self.first;
-        let count = self.count.checked_add(1)?;
+        let one = more.first;
+        let count = self.count.checked_add(more.count)?;
         if one.start.checked_sub(first.start)? != self.count
             || clocks_between(first.verdict, one.verdict)? != self.count
         {

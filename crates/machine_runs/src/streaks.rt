@@ -2,7 +2,7 @@
 
 ghost use Rattle.std.specs.Prelude.{◌≡◌, ◌+◌, ◌-◌, ◌<◌, ◌≤◌, ◌∷◌, ◌++◌, [], OnOk, IfSome, length};
 ghost use Rattle.std.specs.Prelude.{slice_set};
-ghost use Rattle.machine_runs.specs.Streaks.{attempts_in_all};
+ghost use Rattle.machine_runs.specs.Streaks.{attempts_in_all, streak_attempts};
 
 use crate::streak::Streak;
 use signals::Decided;
@@ -24,16 +24,16 @@ impl Model for Streaks {
     ghost view = { λ s. attempts_kept s.streaks };
 }
 
-/// The last streak with one more attempt, where that goes on with it.
+/// The last streak with another one after it, where that goes on with it.
 #[inline]
-fn last_with(streaks: &[Streak], one: Decided) -> Option<Streak>
+fn last_with(streaks: &[Streak], more: Streak) -> Option<Streak>
     ensures some { IfSome result (λ _. 0 < length streaks.now) }
     ensures longer { IfSome result (λ s.
         attempts_in_all (slice_set streaks.now (length streaks.now - 1) s)
-        ≡ attempts_in_all streaks.now ++ one ∷ []) }
+        ≡ attempts_in_all streaks.now ++ streak_attempts more) }
 {
     let last = streaks.len().checked_sub(1)?;
-    streaks[last].with(one)
+    streaks[last].with(more)
 }
 
 impl Streaks {
@@ -54,6 +54,21 @@ impl Streaks {
         self.streaks.reserve(attempts)
     }
 
+    /// Adds the attempts of a streak, which take the room of one at most. Takes no memory.
+    #[inline]
+    pub fn push_streak(&mut self, more: Streak)
+        requires { 0 < self.old.room }
+        ensures items { self.new.items ≡ self.old.items ++ streak_attempts more }
+        ensures room { self.old.room ≤ self.new.room + 1 }
+    {
+        if let Some(longer) = last_with(self.streaks.as_slice(), more) {
+            let last = self.streaks.len() - 1;
+            self.streaks[last] = longer;
+        } else {
+            self.streaks.push_reserved(more);
+        }
+    }
+
     /// Adds an attempt. Takes no memory.
     #[inline]
     pub fn push(&mut self, one: Decided)
@@ -61,12 +76,7 @@ impl Streaks {
         ensures items { self.new.items ≡ self.old.items ++ one ∷ [] }
         ensures room { self.old.room ≤ self.new.room + 1 }
     {
-        if let Some(longer) = last_with(self.streaks.as_slice(), one) {
-            let last = self.streaks.len() - 1;
-            self.streaks[last] = longer;
-        } else {
-            self.streaks.push_reserved(Streak::of(one));
-        }
+        self.push_streak(Streak::of(one));
     }
 
     /// Adds attempts in their order. Takes no memory.

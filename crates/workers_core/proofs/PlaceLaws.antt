@@ -16,6 +16,7 @@ use Rattle.std.proofs.Common.{
   take,
   drop,
   map,
+  replicate,
   refl,
   sym,
   ap,
@@ -25,15 +26,20 @@ use Rattle.std.proofs.Common.{
   append_assoc,
 }
 use Rattle.std.specs.Prelude.{slice_index, slice_range}
-use Rattle.std.proofs.lemmas.List.{append-nil}
+use Rattle.std.specs.List.{range_with_len}
+use Rattle.std.proofs.lemmas.List.{append-nil, replicate_more, replicate-append-replicate}
 use Rattle.vcd_reader.specs.Variables.{size_of}
 use Rattle.machine.specs.Running.{Running, IsOneClock}
+use Rattle.machine.specs.Again.{AreAgain, verdict_at, told_at, told_from}
 use Rattle.machine_runs.proofs.CountLaws.{CountsAll, clock-counts}
+use Rattle.signals.specs.declared.verdict.Verdict.{Verdict}
+use Rattle.signals.specs.declared.verdict.Verdict.TheVariants.{Holds, Vacuous, Fails, Disabled, Open}
 use Rattle.signals.specs.declared.verdict.Decided.{Decided}
 use Rattle.bytecode.specs.Values.{ProgramData}
 use Rattle.vcd_reader.specs.Dump.{Contents}
 use Rattle.cycle_window.specs.declared.window.Window.{Window}
 use Rattle.cycle_window.specs.Ticks.{ticks_of, row_of}
+use Rattle.cycle_window.specs.Stays.{RowStays}
 use Rattle.cycle_window.specs.Held.{
   columns_in,
   places_in,
@@ -46,15 +52,18 @@ use Rattle.cycle_window.specs.Held.{
 use Rattle.cycle_window.specs.declared.columns.Columns.{Columns}
 use Rattle.machine_runs.specs.declared.batch.Batch.{Batch}
 use Rattle.workers_core.specs.Parts.{IsRight}
-use Rattle.machine_definition.specs.Outcomes.{done}
-use Rattle.machine_definition.specs.Machine.{State, Outcome, clock}
+use Rattle.machine_definition.specs.Outcomes.{Ran, done, and_then}
+use Rattle.machine_definition.specs.Machine.{State, Outcome}
 use Rattle.machine_definition.specs.Runs.{run_from}
-use Rattle.machine_runs.proofs.BatchLaws.{run-more}
+use Rattle.machine_runs.proofs.BatchLaws.{joined, later}
+use Rattle.machine_runs.proofs.CutLaws.{cuts}
+use Rattle.machine_runs.specs.Ages.{nth, verdict_moved, deciding_clock}
+use Rattle.machine_runs.specs.Streaks.{Attempts}
 use Rattle.machine_runs.specs.Batches.{rows_between, batch_of, HasCome}
 use Rattle.verifier.specs.Programs.{IsAccepted, least_attempts, least_obligations}
 use Rattle.machine_definition.specs.Outcomes.{Meets}
 use Rattle.machine_definition.proofs.Machine.{never-count}
-use Rattle.std.proofs.Math.Logic.{∥∥₁_elim}
+use Rattle.std.proofs.Math.Logic.{∥∥₁_elim, ∥∥₁_map}
 use Rattle.std.proofs.Math.Bridge.{le_prop}
 use Rattle.machine_runs.proofs.JoinLaws.{between-joins, come-on, ends-in}
 use Rattle.workers_core.specs.declared.monitor.Monitor.{Monitor}
@@ -64,9 +73,11 @@ use Rattle.workers_core.specs.Standing.{
   part,
   variables_in,
   seen,
+  AreSampled,
   IsSame,
   MonitorStands,
   IsOneMore,
+  AreMore,
   HasGone,
   IsUnmoved,
 }
@@ -164,27 +175,155 @@ gone-none rows a m = record {
   told = sym (append-nil m.decided.items);
 }
 
--- a clock more
-pub gone-more : (f : ℕ → List ℕ) (ticks : List ℕ) (a b : ℕ) (row : List ℕ) (old mid new : Monitor) →
-    a ≤ b → b < length ticks → row ≡ f (slice_index ticks b) →
-    IsSame old mid → HasGone (rows_between (map f ticks) a b) old mid → IsOneMore mid row new →
-    HasGone (rows_between (map f ticks) a (b + 1)) old new
-gone-more f ticks a b row old mid new h k is same gone step =
+-- rows that are all this one
+equal-rows : (f : ℕ → List ℕ) (ticks : List ℕ) (b n : ℕ) (row : List ℕ) → b + n ≤ length ticks
+    → ((i : ℕ) → i < n → f (slice_index ticks (b + i)) ≡ row)
+    → rows_between (map f ticks) b (b + n) ≡ replicate n row
+equal-rows f ticks b zero row inside all =
+    let none : b + 0 ≡ b = omega arith in
+    ap (rows_between (map f ticks) b) none ∙ none-between b (map f ticks)
+equal-rows f ticks b (suc n) row inside all =
+    let last : b + suc n ≡ (b + n) + 1 = omega arith in
+    let more : n + 1 ≡ suc n = omega arith in
+    ap (rows_between (map f ticks) b) last
+    ∙ sym (between-more f b (b + n) ticks (omega arith) (omega (arith, inside)))
+    ∙ ap (λ (rs : List (List ℕ)). rs ++ f (slice_index ticks (b + n)) ∷ [])
+    (equal-rows f ticks b n row (omega (arith, inside)) (λ i lt. all i (omega arith)))
+    ∙ ap (λ (r : List ℕ). replicate n row ++ r ∷ []) (all n (omega arith))
+    ∙ replicate_more n row
+    ∙ ap (λ (k : ℕ). replicate k row) more
+
+-- so many clocks more, over rows that are all this one
+pub gone-on : (f : ℕ → List ℕ) (ticks : List ℕ) (a b n : ℕ) (row : List ℕ) (old mid new : Monitor) →
+    a ≤ b → b + n ≤ length ticks → ((i : ℕ) → i < n → f (slice_index ticks (b + i)) ≡ row) →
+    IsSame old mid → HasGone (rows_between (map f ticks) a b) old mid → AreMore mid row n new →
+    HasGone (rows_between (map f ticks) a (b + n)) old new
+gone-on f ticks a b n row old mid new h inside all same gone step =
     let p = old.machine.program in
+    let xs = rows_between (map f ticks) a b in
+    let ys = replicate n row in
     let o : Outcome = record { state = mid.machine.state; decided = gone.decided } in
     let after : Outcome = record { state = new.machine.state; decided = step.decided } in
-    let ran : clock p mid.machine.state row ≡ done after step.left =
-    ap (λ (q : ProgramData). clock q mid.machine.state row) (sym same.program) ∙ step.ran in
+    let ran : run_from p mid.machine.state ys ≡ done after 0 =
+    ap (λ (q : ProgramData). run_from q mid.machine.state ys) (sym same.program) ∙ step.ran in
     record {
       decided = gone.decided ++ step.decided;
       ran =
           ap (run_from p old.machine.state)
-          (sym (between-more f a b ticks h k)
-          ∙ ap (λ (r : List ℕ). rows_between (map f ticks) a b ++ r ∷ []) (sym is))
-          ∙ run-more p old.machine.state (rows_between (map f ticks) a b) row o after step.left
-          gone.ran ran;
+          (sym (between-joins a b (b + n) (map f ticks) h (omega arith))
+          ∙ ap (λ (rs : List (List ℕ)). xs ++ rs) (equal-rows f ticks b n row inside all))
+          ∙ cuts p old.machine.state xs ys
+          ∙ ap (λ (r : Ran Outcome). and_then r (later p ys)) gone.ran
+          ∙ ap (λ (r : Ran Outcome). and_then r (joined gone.decided)) ran;
       told = step.told ∙ ap (λ (ds : List Decided). ds ++ step.decided) gone.told
           ∙ append_assoc old.decided.items gone.decided step.decided;
+    }
+
+-- a clock is one of many
+pub more-one : (old new : Monitor) (row : List ℕ) → IsOneMore old row new → AreMore old row 1 new
+more-one old new row h = record {
+  same = h.same;
+  decided = h.decided;
+  ran =
+      ap (λ (r : Ran Outcome). and_then r (later old.machine.program [])) h.ran
+      ∙ ap (λ (ds : List Decided). done (record { state = new.machine.state; decided = ds }) 0)
+      (append-nil h.decided);
+  told = h.told;
+  now = h.now;
+  room = h.room;
+}
+
+-- clocks over one row, and then more over it
+pub more-joined : (old mid new : Monitor) (row : List ℕ) (a b : ℕ) → AreMore old row a mid → AreMore mid row b new
+    → AreMore old row (a + b) new
+more-joined old mid new row a b h k =
+    let p = old.machine.program in
+    let xs = replicate a row in
+    let ys = replicate b row in
+    let after : Outcome = record { state = new.machine.state; decided = k.decided } in
+    let ran : run_from p mid.machine.state ys ≡ done after 0 =
+    ap (λ (q : ProgramData). run_from q mid.machine.state ys) (sym h.same.program) ∙ k.ran in
+    record {
+      same = same-all old mid new h.same k.same;
+      decided = h.decided ++ k.decided;
+      ran =
+          ap (run_from p old.machine.state) (sym (replicate-append-replicate a b row))
+          ∙ cuts p old.machine.state xs ys
+          ∙ ap (λ (r : Ran Outcome). and_then r (later p ys)) h.ran
+          ∙ ap (λ (r : Ran Outcome). and_then r (joined h.decided)) ran;
+      told = k.told ∙ ap (λ (ds : List Decided). ds ++ k.decided) h.told
+          ∙ append_assoc old.decided.items h.decided k.decided;
+      now = omega (arith, h.now, k.now);
+      room = omega (arith, h.room, k.room);
+    }
+
+-- no clock more
+pub more-none : (old new : Monitor) (row : List ℕ) → IsSame old new → new.machine ≡ old.machine
+    → new.decided ≡ old.decided → AreMore old row 0 new
+more-none old new row same is told = record {
+  same = same;
+  decided = [];
+  ran = ap (λ (m : Running). done (record { state = m.state; decided = [] }) 0) (sym is);
+  told = ap (λ (ds : Attempts). ds.items) told ∙ sym (append-nil old.decided.items);
+  now = omega (arith, ap (λ (m : Running). m.state.standing.now) is);
+  room = omega (
+    arith,
+    ap (λ (m : Running). length m.state.standing.attempts) is,
+    ap (λ (ds : Attempts). ds.room) told,
+  );
+}
+
+-- the verdict of one clock, so many clocks later
+moved-to : (now n : ℕ) (v : Verdict) → verdict_moved n (verdict_at now v) ≡ verdict_at (now + n) v
+moved-to now n (Holds t) = refl
+moved-to now n (Vacuous t) = refl
+moved-to now n (Fails t) = refl
+moved-to now n (Disabled t) = refl
+moved-to now n Open = refl
+
+clock-at : (now : ℕ) (v : Verdict) → deciding_clock (verdict_at now v) ≤ now
+clock-at now (Holds t) = omega arith
+clock-at now (Vacuous t) = omega arith
+clock-at now (Fails t) = omega arith
+clock-at now (Disabled t) = omega arith
+clock-at now Open = omega arith
+
+-- the attempts of clocks that decide their own, as a streak has them
+streak-told : (now : ℕ) (v : Verdict) (first : Decided) → first ≡ told_at now v → (i n : ℕ) →
+    map (nth first) (range_with_len i n) ≡ told_from (now + i) n v
+streak-told now v first is i zero = refl
+streak-told now v first is i (suc n) =
+    let next : now + (i + 1) ≡ (now + i) + 1 = omega arith in
+    let rest = streak-told now v first is (i + 1) n ∙ ap (λ (k : ℕ). told_from k n v) next in
+    ap (λ (d : Decided). nth d i ∷ map (nth first) (range_with_len (i + 1) n)) is
+    ∙ ap (λ (w : Verdict).
+    record { start = now + i; verdict = w } ∷ map (nth first) (range_with_len (i + 1) n))
+    (moved-to now i v)
+    ∙ ap (λ (ds : List Decided). told_at (now + i) v ∷ ds) rest
+
+-- what is decided at its own clock is decided by then
+pub own-clock : (now : ℕ) (first : Decided) → first ≡ told_at now first.verdict
+    → deciding_clock first.verdict ≤ now
+own-clock now first is =
+    subst (λ (d : Decided). deciding_clock d.verdict ≤ now) (sym is) (clock-at now first.verdict)
+
+-- clocks that a machine passed over
+pub passed-over : (old new : Monitor) (row : List ℕ) (clocks : ℕ) (first : Decided) →
+    AreAgain old.machine row clocks first new.machine → IsSame old new → 1 ≤ clocks →
+    new.decided.items ≡ old.decided.items ++ map (nth first) (range_with_len 0 clocks) →
+    old.decided.room ≤ new.decided.room + 1 → AreMore old row clocks new
+passed-over old new row clocks first h same some told room =
+    let now = old.machine.state.standing.now in
+    let none : now + 0 ≡ now = omega arith in
+    record {
+      same = same;
+      decided = told_from now clocks first.verdict;
+      ran = h.ran;
+      told = told ∙ ap (λ (ds : List Decided). old.decided.items ++ ds)
+          (streak-told now first.verdict first h.own 0 clocks
+          ∙ ap (λ (k : ℕ). told_from k clocks first.verdict) none);
+      now = ap (λ (s : State). s.standing.now) h.state;
+      room = omega (arith, ap (λ (s : State). length s.standing.attempts) h.state, room);
     }
 
 abbrev some : ProgramData → State → ℕ → List Decided → MonitorState
@@ -251,6 +390,35 @@ pub row-seen : (w : Window) (c : Contents) (old mid : Monitor) (row : List ℕ) 
     → IsSame old mid → row ≡ row_of c (variables_in w mid) k → row ≡ row_of c (variables_in w old) k
 row-seen w c old mid row k same is =
     is ∙ ap (λ (vs : List ℕ). row_of c vs k) (same-part (places_in (columns_in w)) old mid same)
+
+-- the row is of variables that have the widths of the program's signals
+pub row-sampled : (w : Window) (old mid : Monitor) (row : List ℕ) (tick : ℕ) → MonitorStands w old → IsSame old mid
+    → ((c : Contents) → IsOver w c
+    → row ≡ row_of c (variables_in w mid) (slice_index (ticks_of c (clock_in (columns_in w))) tick))
+    → AreSampled mid.machine.program row
+row-sampled w old mid row tick h same is =
+    subst (λ (p : ProgramData). AreSampled p row) (sym same.program)
+    (∥∥₁_map h.fits (λ f.
+    let at = slice_index (ticks_of f.0 (clock_in (columns_in w))) tick in (
+      f.0,
+      variables_in w old,
+      at,
+      row-seen w f.0 old mid row at same (is f.0 f.1),
+      f.2,
+    )))
+
+-- where the part of a row stays, the rows from a clock on are that clock's
+pub stays-seen : (w : Window) (c : Contents) (old mid : Monitor) (row : List ℕ) (tick ticks : ℕ) → IsSame old mid
+    → RowStays c (clock_in (columns_in w)) (variables_in w mid) tick ticks
+    → row ≡ row_of c (variables_in w mid) (slice_index (ticks_of c (clock_in (columns_in w))) tick)
+    → (i : ℕ) → i < 1 + ticks
+    → row_of c (variables_in w old) (slice_index (ticks_of c (clock_in (columns_in w))) (tick + i)) ≡ row
+stays-seen w c old mid row tick ticks same stays is i lt =
+    let all = ticks_of c (clock_in (columns_in w)) in
+    let parts = same-part (places_in (columns_in w)) old mid same in
+    ap (λ (vs : List ℕ). row_of c vs (slice_index all (tick + i))) (sym parts)
+    ∙ stays i (omega arith)
+    ∙ sym is
 
 -- a monitor that went on stands where it came to
 pub stands-on : (w : Window) (old new : Monitor) (to : ℕ) → MonitorStands w old → IsSame old new →

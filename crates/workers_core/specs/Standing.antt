@@ -1,5 +1,5 @@
 -- Where a monitor stands in a window.
-use Rattle.std.specs.Prelude.{◌≡◌, ℕ, ◌+◌, ◌≤◌, List, [], ◌++◌, length, map, slice_range}
+use Rattle.std.specs.Prelude.{◌≡◌, ℕ, ◌+◌, ◌≤◌, List, [], ◌++◌, length, map, replicate, slice_range}
 use Rattle.signals.specs.declared.verdict.Decided.{Decided}
 use Rattle.bytecode.specs.Values.{ProgramData}
 use Rattle.vcd_reader.specs.Variables.{size_of}
@@ -79,6 +79,17 @@ pub record IsOneMore (old : Monitor) (row : List ℕ) (new : Monitor) : Type 0 w
   pub now : new.machine.state.standing.now ≡ old.machine.state.standing.now + 1
   pub room : length new.machine.state.standing.attempts + old.decided.room
       ≤ length old.machine.state.standing.attempts + new.decided.room + 1
+
+-- so many clocks more, each over this row
+pub record AreMore (old : Monitor) (row : List ℕ) (clocks : ℕ) (new : Monitor) : Type 0 where
+  pub same : IsSame old new
+  pub decided : List Decided
+  pub ran : run_from old.machine.program old.machine.state (replicate clocks row)
+      ≡ done (record { state = new.machine.state; decided = decided }) 0
+  pub told : new.decided.items ≡ old.decided.items ++ decided
+  pub now : new.machine.state.standing.now ≡ old.machine.state.standing.now + clocks
+  pub room : length new.machine.state.standing.attempts + old.decided.room
+      ≤ length old.machine.state.standing.attempts + new.decided.room + clocks
 
 -- over these rows it went on from one state to the other
 pub record HasGone (rows : List (List ℕ)) (old new : Monitor) : Type 0 where

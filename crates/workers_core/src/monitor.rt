@@ -11,7 +11,7 @@ ghost use Rattle.machine_definition.specs.Runs.{open_ones};
 use arrayvec::ArrayVec;
 use cycle_window::Window;
 use machine::Machine;
-use machine_runs::{Batch, Streaks};
+use machine_runs::{Batch, Streak, Streaks};
 use signals::Decided;
 use std::alloc::{AllocError, Global};
 use std::mem;
@@ -41,7 +41,7 @@ pub struct Monitor {
 impl Monitor {
     ghost use Rattle.workers_core.specs.Standing.{monitor_state, seen, AreSampled, IsSame};
     ghost use Rattle.workers_core.specs.Standing.{MonitorStands};
-    ghost use Rattle.workers_core.specs.Standing.{IsOneMore, IsUnmoved, IsCleared};
+    ghost use Rattle.workers_core.specs.Standing.{IsOneMore, AreMore, IsUnmoved, IsCleared};
     ghost use Rattle.workers_core.specs.Parts.{batch_state};
     ghost use Rattle.workers_core.specs.States.{batch};
     ghost use Rattle.workers_core.specs.Opening.{IsNew, monitor_part, part_at, opened_monitor};
@@ -85,12 +85,54 @@ impl Monitor {
         requires spare { length self.old.machine.state.standing.attempts + 1
             ≤ self.old.decided.room }
         requires more { self.old.machine.state.standing.now + 1 < 2 ^ 64 }
-        ensures { IsOneMore self.old self.old.row.items self.new }
+        ensures clock { IsOneMore self.old self.old.row.items self.new }
+        ensures row { self.new.row ≡ self.old.row }
     {
         decided.clear();
         let row = self.row.as_slice();
         self.machine.clock(row, decided);
         self.decided.extend(decided.as_slice());
+    }
+
+    /// So many clocks over its part of the row, where the machine passes over them at once: how
+    /// many it ran, these or none. There is room for what they decide.
+    fn repeat(&mut self, clocks: u64) -> u64
+        requires row { AreSampled self.old.machine.program self.old.row.items }
+        requires spare { clocks ≤ self.old.decided.room }
+        requires more { self.old.machine.state.standing.now + clocks < 2 ^ 64 }
+        ensures few { result ≤ clocks }
+        ensures clocks { AreMore self.old self.old.row.items result self.new }
+        ensures row { self.new.row ≡ self.old.row }
+    {
+        if clocks == 0 {
+            return 0;
+        }
+        let row = self.row.as_slice();
+        match self.machine.repeat(row, clocks) {
+            None => 0,
+            Some(first) => {
+                self.decided.push_streak(Streak::from_first(first, clocks));
+                clocks
+            }
+        }
+    }
+
+    /// So many clocks over its part of the row. There is room for what they decide.
+    fn run(&mut self, clocks: u64, decided: &mut ArrayVec<Decided, 1024>)
+        requires row { AreSampled self.old.machine.program self.old.row.items }
+        requires room { self.old.machine.program.header.limits.attempts ≤ 1024 }
+        requires spare { length self.old.machine.state.standing.attempts + clocks
+            ≤ self.old.decided.room }
+        requires more { self.old.machine.state.standing.now + clocks < 2 ^ 64 }
+        ensures { AreMore self.old self.old.row.items clocks self.new }
+    {
+        let mut left = clocks;
+        while left > 0 {
+            self.clock(decided);
+            left -= 1;
+            let passed = self.repeat(left);
+            left -= passed;
+        }
     }
 
     /// Makes room for what so many clocks decide: an attempt each, and those that are live.
@@ -105,7 +147,8 @@ impl Monitor {
     }
 
     /// The clocks up to one of the window's. There is room for what they decide. What the buffer
-    /// holds is lost: each clock's verdicts go through it.
+    /// holds is lost: each clock's verdicts go through it. Where its part of the row stays, it is
+    /// put once, and clocks that the machine passes over at once take no time of their own.
     pub fn advance(&mut self, window: &Window<'_>, to: u64, decided: &mut ArrayVec<Decided, 1024>)
         requires stands { MonitorStands window.now self.old }
         requires ahead { self.old.machine.state.standing.now ≤ to }
@@ -120,9 +163,13 @@ impl Monitor {
             (monitor_state self.old)
             ≡ monitor_state self.new }
     {
-        for clock in self.machine.now()..to {
+        let mut clock = self.machine.now();
+        while clock < to {
             window.put_part(&mut self.row, clock, self.from, self.to);
-            self.clock(decided);
+            let same = window.same_after(clock, self.from, self.to);
+            let clocks = 1 + same.min(to - 1 - clock);
+            self.run(clocks, decided);
+            clock += clocks;
         }
     }
 

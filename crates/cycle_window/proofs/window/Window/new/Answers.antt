@@ -21,6 +21,9 @@ invariant_of-result c =
       rows = λ c' h. c.in_ok-values.ensures.items;
       full = omega (arith, ap length c.in_ok-values.ensures.items);
       room = omega (arith, sizes, c.in_ok-values.ensures.capacity);
+      small = omega (arith, c.clocks-size.ensures.same, c.clocks-size.ensures.most);
+      notes = omega (arith, sizes, c.in_ok-stays.ensures.len, c.in_ok-stays.stays.ok.0);
+      stay = λ i lt. absurd (omega (arith, lt, ap length c.in_ok-values.ensures.items));
     }
 
 pub returns-clause-of : goal.returns-clause-of

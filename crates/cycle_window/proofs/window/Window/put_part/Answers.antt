@@ -8,15 +8,10 @@ use Rattle.cycle_window.specs.Picks.{picked, AreBelow}
 use Rattle.cycle_window.specs.Variables.{places}
 use Rattle.cycle_window.specs.Ticks.{ticks_of, row_of}
 use Rattle.cycle_window.specs.Held.{columns_in, places_in, clock_in}
-use Rattle.cycle_window.proofs.PickLaws.{picked-row, picked-long}
+use Rattle.cycle_window.proofs.PickLaws.{picked-row}
 use Rattle.cycle_window.proofs.WindowLaws.{slice-long, picked-part, below-part}
+use Rattle.cycle_window.proofs.StayLaws.{picks-long}
 use Rattle.cycle_window.proofs.window.Window.put_part.Goals as goal
-
--- there are as many picks as signals
-picks-long : (w : Window) → length (places_in (columns_in w)) ≡ length w.columns.shared.picks.items
-unfolding columns_in places_in
-picks-long w =
-    picked-long (places w.columns.shared.variables.items) w.columns.shared.picks.items
 
 pub slice_bounds-picks-end : goal.slice_bounds-picks-end
 slice_bounds-picks-end c =

@@ -21,6 +21,8 @@ use Rattle.std.proofs.Common.{
   slice_range,
 }
 use Rattle.std.specs.List.{flat_map}
+use Rattle.std.specs.Vec.{with_items}
+use Rattle.std.proofs.lemmas.List.{with_items_is}
 use Rattle.std.proofs.Math.Logic.{∥∥₁_elim}
 use Rattle.std.proofs.Math.Bridge.{le_prop}
 use Rattle.std.proofs.Math.Nat.{mul-le-mul_right}
@@ -34,6 +36,7 @@ use Rattle.cycle_window.specs.declared.window.Window.{Window}
 use Rattle.cycle_window.specs.Ticks.{ticks_of, row_of}
 use Rattle.cycle_window.specs.Variables.{places, AreOf}
 use Rattle.cycle_window.specs.Rows.{AreAhead, AreRowsOf, IsBefore}
+use Rattle.cycle_window.specs.Stays.{AreStays}
 use Rattle.cycle_window.specs.Cursors.{IsCursorOf}
 use Rattle.cycle_window.specs.Held.{
   ticks_in,
@@ -49,6 +52,7 @@ use Rattle.cycle_window.specs.Held.{
 }
 use Rattle.cycle_window.proofs.HeldLaws.{held-length}
 use Rattle.cycle_window.proofs.WindowLaws.{ticks-ahead, ticks-behind, slice-long}
+use Rattle.cycle_window.proofs.StayLaws.{wide, few-values}
 use Rattle.cycle_window.proofs.window.Window.slide.Goals as goal
 
 -- the clocks' ticks are as many as the columns say
@@ -64,16 +68,21 @@ many-rows d k w same =
     (same.clocks says.0 says.1 ∙ ap (ticks_of says.0) same.same_clock) in
     omega (arith, rows, clocks))
 
--- there is room for the rows of so many ticks
+-- there is room for the rows of so many ticks, and for notes of them
+fits-all : (w : Window) (n : ℕ) → n ≤ w.size → n ≤ w.columns.count
+    → n * length w.columns.shared.variables.items
+    ≤ min w.size w.columns.count * length w.columns.shared.variables.items
+fits-all w n few inside =
+    let le : n ≤ min w.size w.columns.count = omega arith in
+    mul-le-mul_right (length w.columns.shared.variables.items) le
+
 fits : (w : Window) (n : ℕ) → n ≤ w.size → n ≤ w.columns.count
     → n * length w.columns.shared.variables.items ≤ vec_capacity w.values
-fits w n few inside =
-    omega (
-      arith,
-      w.room,
-      mul-le-mul_right (length w.columns.shared.variables.items)
-          (let le : n ≤ min w.size w.columns.count = omega arith in le),
-    )
+fits w n few inside = omega (arith, w.room, fits-all w n few inside)
+
+fits-notes : (w : Window) (n : ℕ) → n ≤ w.size → n ≤ w.columns.count
+    → n * length w.columns.shared.variables.items ≤ length w.stays.items
+fits-notes w n few inside = omega (arith, w.notes, fits-all w n few inside)
 
 -- the ticks of the next clocks lie ahead
 slid-ahead : (d : Dump) (k : Clocks) (w : Window) → IsWindowOf w d k → (c : Contents)
@@ -170,6 +179,43 @@ fill_rows-requires-clause-of c =
     subst (λ (vs : List VarId). IsCursorOf c.args.dump.now vs w.cursor)
     (sym c.as_slice.ensures.value) c.requires.same.cursor
 
+pub note_stays-requires-clause-room : goal.note_stays-requires-clause-room
+unfolding end_in ticks_in
+note_stays-requires-clause-room c =
+    let w = c.args.self.now in
+    let k = c.args.clocks.now in
+    let n = c.min.result in
+    let long : vec_len k.ticks ≡ length k.ticks.items = k.ticks.ok.0 in
+    let many = many-rows c.args.dump.now k w c.requires.same in
+    let size =
+    slice-long c.deref.result.now w.end (w.end + n) (omega arith)
+    (omega (arith, ap length c.deref.ensures.value, long, c.len.ensures, c.min.ensures, c.requires.remain)) in
+    let all : length (slice_range c.deref.result.now w.end (w.end + n)) ≡ n = omega (arith, size) in
+    let full = c.fill_rows.ensures.len
+    ∙ ap (λ (m : ℕ). m * length c.as_slice.result.now) all
+    ∙ ap (λ (vs : List VarId). n * length vs) c.as_slice.ensures.value in
+    let fits =
+    fits-notes w n (omega (arith, c.min.ensures))
+    (omega (arith, many, c.len.ensures, c.min.ensures, c.requires.remain)) in
+    omega (arith, full, fits, ap length c.deref-2.ensures.value, ap length c.deref_mut.ensures.value)
+
+pub note_stays-requires-clause-few : goal.note_stays-requires-clause-few
+unfolding end_in ticks_in
+note_stays-requires-clause-few c =
+    let w = c.args.self.now in
+    let k = c.args.clocks.now in
+    let n = c.min.result in
+    let long : vec_len k.ticks ≡ length k.ticks.items = k.ticks.ok.0 in
+    let size =
+    slice-long c.deref.result.now w.end (w.end + n) (omega arith)
+    (omega (arith, ap length c.deref.ensures.value, long, c.len.ensures, c.min.ensures, c.requires.remain)) in
+    let all : length (slice_range c.deref.result.now w.end (w.end + n)) ≡ n = omega (arith, size) in
+    let full = c.fill_rows.ensures.len
+    ∙ ap (λ (m : ℕ). m * length c.as_slice.result.now) all
+    ∙ ap (λ (vs : List VarId). n * length vs) c.as_slice.ensures.value in
+    let few = few-values w n (omega (arith, c.min.ensures)) in
+    omega (arith, full, few, wide w c.len-width.result c.len-width.ensures, ap length c.deref-2.ensures.value)
+
 pub invariant_of-self : goal.invariant_of-self
 unfolding end_in ticks_in
 invariant_of-self c =
@@ -186,6 +232,10 @@ invariant_of-self c =
     (omega (arith, ap length value, inside)) in
     let same : length (slice_range c.deref.result.now w.end (w.end + n)) ≡ (w.end + n) - w.end =
     size in
+    let stays = c.note_stays.new.stays in
+    let kept : (with_items w.stays stays).items ≡ stays =
+    with_items_is w.stays stays
+    (c.note_stays.ensures.long ∙ ap length c.deref_mut.ensures.value ∙ sym w.stays.ok.0) in
     record {
       ordered = omega arith;
       inside = omega (arith, inside, many);
@@ -197,6 +247,15 @@ invariant_of-self c =
           ∙ ap (λ (m : ℕ). m * length c.as_slice.result.now) same
           ∙ ap (λ (vs : List VarId). ((w.end + n) - w.end) * length vs) c.as_slice.ensures.value;
       room = omega (arith, w.room, c.fill_rows.ensures.capacity);
+      small = w.small;
+      notes = omega (arith, w.notes, c.note_stays.ensures.long, ap length c.deref_mut.ensures.value, ap length kept);
+      stay =
+          subst (λ (m : ℕ). AreStays m c.fill_rows.new.values.items (with_items w.stays stays).items)
+          (wide w c.len-width.result c.len-width.ensures)
+          (subst (λ (xs : List ℕ). AreStays c.len-width.result xs (with_items w.stays stays).items)
+          c.deref-2.ensures.value
+          (subst (λ (zs : List ℕ). AreStays c.len-width.result c.deref-2.result.now zs) (sym kept)
+          c.note_stays.ensures.stays));
     }
 
 pub returns-clause-same : goal.returns-clause-same

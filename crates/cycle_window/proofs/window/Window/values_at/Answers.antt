@@ -5,11 +5,9 @@ use Rattle.std.proofs.Common.{
   ◌*◌,
   ◌-◌,
   ◌≤◌,
-  ◌<◌,
   ℕ,
   List,
   length,
-  vec_len,
   take,
   drop,
   ap,
@@ -18,7 +16,6 @@ use Rattle.std.proofs.Common.{
 }
 use Rattle.std.proofs.lemmas.List.{length-map}
 use Rattle.vcd_reader.specs.declared.variable.VarId.{VarId}
-use Rattle.cycle_window.specs.declared.window.Window.{Window}
 use Rattle.cycle_window.specs.Ticks.{ticks_of, row_of}
 use Rattle.cycle_window.specs.Variables.{places}
 use Rattle.cycle_window.specs.Held.{
@@ -29,22 +26,10 @@ use Rattle.cycle_window.specs.Held.{
   end_in,
   IsOver,
 }
-use Rattle.cycle_window.proofs.HeldLaws.{row-long, row-inside}
+use Rattle.cycle_window.proofs.HeldLaws.{row-long}
 use Rattle.cycle_window.proofs.WindowLaws.{row-among}
+use Rattle.cycle_window.proofs.StayLaws.{wide, within}
 use Rattle.cycle_window.proofs.window.Window.values_at.Goals as goal
-
-wide : (w : Window) (width : ℕ) → width ≡ vec_len w.columns.shared.variables
-    → width ≡ length w.columns.shared.variables.items
-wide w width is = is ∙ w.columns.shared.variables.ok.0
-
--- the row of a tick lies within the values
-within : (w : Window) (tick width : ℕ) → first_in w ≤ tick → tick < end_in w
-    → width ≡ vec_len w.columns.shared.variables
-    → (tick - w.first) * width + width ≤ length w.values.items
-unfolding first_in end_in
-within w tick width low high is =
-    row-inside (tick - w.first) (w.end - w.first) width (length w.values.items) (omega arith)
-    (w.full ∙ ap (λ (n : ℕ). (w.end - w.first) * n) (sym (wide w width is)))
 
 pub overflow_sub-start : goal.overflow_sub-start
 unfolding first_in

@@ -1,7 +1,4 @@
 use Rattle.std.proofs.Common.{◌≡◌, ◌+◌, ◌-◌, ℕ, List, refl, sym, ap, ◌∙◌, subst, arith}
-use Rattle.std.proofs.Math.Logic.{∥∥₁_map}
-use Rattle.std.specs.Prelude.{slice_index}
-use Rattle.bytecode.specs.Values.{ProgramData}
 use Rattle.cycle_window.specs.Ticks.{ticks_of, row_of}
 use Rattle.cycle_window.specs.Held.{columns_in, clock_in}
 use Rattle.machine_runs.specs.Batches.{rows_between}
@@ -10,26 +7,14 @@ use Rattle.workers_core.specs.declared.monitor.Monitor.{Monitor}
 use Rattle.machine_definition.specs.Outcomes.{done}
 use Rattle.workers_core.specs.States.{MonitorState}
 use Rattle.workers_core.specs.Standing.{monitor_state, variables_in, seen}
-use Rattle.workers_core.specs.Standing.{AreSampled, IsSame, HasGone}
+use Rattle.workers_core.specs.Standing.{IsSame, HasGone}
 use Rattle.workers_core.proofs.PlaceLaws as laws
 use Rattle.workers_core.proofs.monitor.Monitor.advance.Goals as goal
 
-pub clock-requires-clause-row : goal.clock-requires-clause-row
-clock-requires-clause-row c =
-    let w = c.args.window.now in
-    let old = c.args.self.now in
-    let mid = c.loop-clock.self in
-    let row = c.put_part.new.part.items in
-    let same = c.loop-clock.invariant.same in
-    subst (λ (p : ProgramData). AreSampled p row) (sym same.program)
-    (∥∥₁_map c.requires.stands.fits (λ f.
-    let tick = slice_index (ticks_of f.0 (clock_in (columns_in w))) c.loop-clock.clock in (
-      f.0,
-      variables_in w old,
-      tick,
-      laws.row-seen w f.0 old mid row tick same (c.put_part.ensures.part f.0 f.1),
-      f.2,
-    )))
+pub run-requires-clause-row : goal.run-requires-clause-row
+run-requires-clause-row c =
+    laws.row-sampled c.args.window.now c.args.self.now c.loop-clock.self c.put_part.new.part.items
+    c.loop-clock.clock c.requires.stands c.loop-clock.invariant.same c.put_part.ensures.part
 
 pub loop-clock-init : goal.loop-clock-init
 loop-clock-init c =
@@ -62,7 +47,7 @@ loop-clock-preserved c =
     let old = c.args.self.now in
     let mid = c.loop-clock.self in
     let inv = c.loop-clock.invariant in
-    let step = c.clock.ensures in
+    let clock = c.loop-clock.clock in
     let row = c.put_part.new.part in
     let lent : Monitor =
     record {
@@ -83,21 +68,31 @@ loop-clock-preserved c =
       attempts = inv.same.attempts;
       since = inv.same.since;
     } in
+    let more = c.run.ensures in
+    let last = c.run.new.self in
     record {
-      same = laws.same-all old lent c.clock.new.self same step.same;
-      now = omega (arith, step.now, inv.now);
+      same = laws.same-all old lent last same more.same;
+      now = omega (arith, more.now, inv.now);
       ahead = omega (arith, inv.ahead);
-      most = omega (arith, c.loop-clock-test.true);
-      spare = omega (arith, step.room, inv.spare, c.loop-clock-test.true);
+      most = omega (arith, c.min-clocks.ensures, c.loop-clock-test.true);
+      spare = omega (arith, more.room, inv.spare, c.min-clocks.ensures, c.loop-clock-test.true);
       gone = λ k over.
           let ticks = ticks_of k (clock_in (columns_in w)) in
-          laws.gone-more (row_of k (variables_in w old)) ticks old.machine.state.standing.now
-          c.loop-clock.clock row.items old lent c.clock.new.self
-          inv.ahead (omega (arith, over-end w k over, c.requires.inside, c.loop-clock-test.true))
-          (laws.row-seen w k old lent row.items (slice_index ticks c.loop-clock.clock) same
-          (c.put_part.ensures.part k over))
-          same (gone-same (rows_between (seen w k old) old.machine.state.standing.now c.loop-clock.clock)
-          old mid lent refl (inv.gone k over)) step;
+          let start = old.machine.state.standing.now in
+          laws.gone-on (row_of k (variables_in w old)) ticks start clock (1 + c.min-clocks.result) row.items old lent
+          last inv.ahead
+          (omega (
+            arith,
+            over-end w k over,
+            c.requires.inside,
+            c.min-clocks.ensures,
+            c.loop-clock-test.true,
+          ))
+          (λ i lt. laws.stays-seen w k old lent row.items clock c.same_after-same.result same
+          (c.same_after-same.ensures.same k over) (c.put_part.ensures.part k over) i
+          (omega (arith, c.min-clocks.ensures)))
+          same
+          (gone-same (rows_between (seen w k old) start clock) old mid lent refl (inv.gone k over)) more;
     }
 
 pub returns-clause-stands : goal.returns-clause-stands

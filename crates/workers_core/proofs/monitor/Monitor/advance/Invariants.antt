@@ -18,3 +18,6 @@ invariant-loop-clock l = record {
       l.clock)
       l.fn.self l.self;
 }
+
+abbrev pub decreases-loop-clock : goal.decreases-loop-clock
+decreases-loop-clock l = l.to - l.clock

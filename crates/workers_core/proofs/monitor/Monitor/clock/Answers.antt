@@ -1,4 +1,4 @@
-use Rattle.std.proofs.Common.{◌≡◌, ◌++◌, Bool, List, cond, sym, refl, ap, ◌∙◌, length, arith}
+use Rattle.std.proofs.Common.{◌≡◌, ◌++◌, List, refl, ap, ◌∙◌, length, arith}
 use Rattle.std.proofs.Common.{ℕ, map, subst}
 use Rattle.std.proofs.Math.Logic.{∥∥₁_elim}
 use Rattle.std.specs.Prelude.{◌+◌, ◌≤◌}
@@ -27,8 +27,8 @@ extend-requires c =
     ap length c.as_slice.ensures.value in
     omega (arith, few, same, c.requires.spare)
 
-pub returns : goal.returns
-returns c =
+pub returns-clause-clock : goal.returns-clause-clock
+returns-clause-clock c =
     let old = c.args.self.now in
     let kept = c.extend in
     let row = old.row.items in
