@@ -1,0 +1,3 @@
+pub mod LetterLaws
+pub mod OutcomeLaws
+pub mod FormLaws

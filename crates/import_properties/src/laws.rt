@@ -1,0 +1,10 @@
+//! Laws of the definitions, proved.
+
+ghost use Rattle.import_properties.specs.Laws.{NegatesTwice, StaysDecided, FailsForGood};
+
+/// Two negations are none; what is decided stays so, and is one outcome.
+pub fn outcome_law()
+    ensures twice { NegatesTwice }
+    ensures stays { StaysDecided }
+    ensures one { FailsForGood }
+{}
