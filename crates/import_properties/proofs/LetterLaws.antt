@@ -32,7 +32,7 @@ module _ (B : Type 0) (value : B → ℕ → Bool) (n : ℕ) where
   pub unsat-sat : (b : B) (k : ℕ) → IsTrue (unsat value n b k) → IsTrue (sat value n b k)
   unsat-sat b k t = or_right (nat_le n k) (value b k) (and_parts (nat_lt k n) (value b k) t).1
 
-  sat-unsat : (b : B) (k : ℕ) → k < n → IsTrue (sat value n b k) → IsTrue (unsat value n b k)
+  pub sat-unsat : (b : B) (k : ℕ) → k < n → IsTrue (sat value n b k) → IsTrue (unsat value n b k)
   sat-unsat b k below t = elim (or_cases (nat_le n k) (value b k) t) [
     | inl late ↦ absurd (omega (arith, below, leb-true n k late))
     | inr here ↦ and_from (nat_lt k n) (value b k) (lt-ltb k n below) here

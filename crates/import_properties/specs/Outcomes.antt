@@ -5,6 +5,8 @@ use Rattle.import_properties.specs.Conditions.{value_of, unsat}
 use Rattle.import_properties.specs.Properties.{Form, sequence, negated, either, both, implied}
 use Rattle.import_properties.specs.Properties.{next, until}
 use Rattle.assertions.specs.Segments.{Seq, sat, Matches}
+use Rattle.assertions.specs.Attempts.{every, IsDecided}
+use Rattle.assertions.specs.declared.decision.Decision.TheVariants.{Held, Vacuously, Failed}
 
 -- It has failed: were every boolean true from now on, it still wouldn't be satisfied. It is good:
 -- were every boolean false from now on, it would be satisfied.
@@ -43,3 +45,17 @@ abbrev pub ComesToSame : Form Condition → Form Condition → Type 0
 ComesToSame p q =
     (leaves : ℕ → ℕ → Bool) (n : ℕ) (o : Outcome) (c : ℕ)
     → ComesTo (value_of leaves) n p o c ↔ ComesTo (value_of leaves) n q o c
+
+-- The same, so long as no more than so many ticks were seen from where they begin.
+abbrev pub ComesToSameWithin : ℕ → Form Condition → Form Condition → Type 0
+ComesToSameWithin bound p q =
+    (leaves : ℕ → ℕ → Bool) (n : ℕ) (o : Outcome) (c : ℕ) → n ≤ c + bound
+    → ComesTo (value_of leaves) n p o c ↔ ComesTo (value_of leaves) n q o c
+
+-- What an attempt of `r |-> s` in the profile has come to: it has failed; or it holds, vacuously or
+-- not (16.14.8).
+abbrev pub IsDecidedSo :
+    {B : Type 0} → (B → ℕ → Bool) → Seq B → Seq B → ℕ → Outcome → ℕ → Type 0
+IsDecidedSo value r s n failed c = IsDecided value (every r) s n c Failed
+IsDecidedSo value r s n good c =
+    IsDecided value (every r) s n c Held ⊎ IsDecided value (every r) s n c Vacuously

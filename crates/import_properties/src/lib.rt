@@ -9,6 +9,6 @@ mod property;
 mod sequence;
 
 pub use condition::Condition;
-pub use laws::outcome_law;
+pub use laws::{outcome_law, profile_law};
 pub use property::Property;
 pub use sequence::Sequence;

@@ -1,0 +1,3 @@
+pub mod SaysLaws
+pub mod Sizes
+pub mod EndsLaws

@@ -1,0 +1,43 @@
+-- When an assertion of the profile is the rewriting of a property.
+use Rattle.std.specs.Prelude.{◌⊎◌, ℕ, ◌+◌, ◌<◌, ◌≤◌, Bool, ◌↔◌}
+use Rattle.import_properties.specs.declared.condition.Condition.{Condition}
+use Rattle.import_properties.specs.declared.condition.Condition.TheVariants.{One}
+use Rattle.import_properties.specs.declared.property.Property.{Property}
+use Rattle.import_properties.specs.declared.property.Property.TheVariants as tree
+use Rattle.import_properties.specs.Conditions.{value_of}
+use Rattle.import_properties.specs.Properties.{Form}
+use Rattle.import_properties.specs.Outcomes.{ComesTo, Outcome, IsDecidedSo}
+use Rattle.import_rewriting.specs.Sides.{IsAntecedent, IsConsequent}
+use Rattle.assertions.specs.Written.{Written, kernel}
+
+-- It has a form with no last tick of its own: `until`.
+abbrev pub IsOpen : Property → Type 0
+IsOpen (tree.Sequence s) = ⊥
+IsOpen (tree.Not' x p) = IsOpen p
+IsOpen (tree.And' x p y q) = IsOpen p ⊎ IsOpen q
+IsOpen (tree.Or' x p y q) = IsOpen p ⊎ IsOpen q
+IsOpen (tree.Implication' r x p) = IsOpen p
+IsOpen (tree.NextImplication' r x p) = IsOpen p
+IsOpen (tree.FollowedBy' r x p) = IsOpen p
+IsOpen (tree.NextFollowedBy' r x p) = IsOpen p
+IsOpen (tree.If' b x p) = IsOpen p
+IsOpen (tree.IfElse' b x p y q) = IsOpen p ⊎ IsOpen q
+IsOpen (tree.Implies' x p y q) = IsOpen p ⊎ IsOpen q
+IsOpen (tree.Iff' x p y q) = IsOpen p ⊎ IsOpen q
+IsOpen (tree.Next' n x p) = IsOpen p
+IsOpen (tree.Always' least most x p) = IsOpen p
+IsOpen (tree.Eventually' least most x p) = IsOpen p
+IsOpen (tree.Until' x p y q) = Unit {0}
+IsOpen (tree.UntilWith' x p y q) = Unit {0}
+
+-- As many ticks are seen from the first one as an open property waits, or as one likes.
+abbrev pub IsWithin : ℕ → Property → ℕ → Type 0
+IsWithin bound property ticks = IsOpen property → ticks ≤ bound
+
+-- a |-> s in the profile fails where p does, and holds, vacuously or not, where p is good: after
+-- the same numbers of ticks, so long as no more than so many are seen.
+abbrev pub Rewrites : ℕ → Form Condition → Written Condition → Written Condition → Type 0
+Rewrites ticks p a s =
+    (leaves : ℕ → ℕ → Bool) (n : ℕ) (o : Outcome) (c : ℕ) → c < n → n ≤ c + ticks
+    → ComesTo (value_of leaves) n p o c
+    ↔ IsDecidedSo (value_of leaves) (kernel One a) (kernel One s) n o c

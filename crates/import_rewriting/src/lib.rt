@@ -1,0 +1,13 @@
+//! Properties of the standard rewritten into the profile.
+//!
+//! To be written.
+#![tactic(auto)]
+
+mod ends;
+mod make;
+mod measure;
+mod refusal;
+mod sense;
+
+pub use ends::after_each_end;
+pub use refusal::Refusal;
