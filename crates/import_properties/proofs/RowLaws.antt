@@ -14,7 +14,7 @@ use Rattle.import_properties.specs.Properties.{Form, sequence, negated, either, 
 use Rattle.import_properties.specs.Properties.{followed, chosen, later, strong_later, each_later, some_later}
 use Rattle.import_properties.specs.Outcomes.{ComesTo, ComesToSame, ComesToSameWithin, Outcome, failed, good}
 use Rattle.import_properties.proofs.LetterLaws.{match_or_none, unsat-ends, unsat-sat, sat-unsat}
-use Rattle.import_properties.proofs.FormLaws.{same-next, same-either, same-negated, sequence-later}
+use Rattle.import_properties.proofs.FormLaws.{within, same-next, same-both, same-either, same-negated, same-implied, sequence-later}
 use Rattle.import_properties.proofs.FormLaws.{sequence-either, TakesTicks, takes, each_later-found, found-each_later}
 use Rattle.import_properties.proofs.FormLaws.{each_later-each, each-each_later, later-at, at-later, seen_or_free, seen_not_free}
 use Rattle.import_properties.proofs.FormLaws.{free_or_seen, free_not_seen}
@@ -623,5 +623,121 @@ implied-times-later r least most p some_r low leaves n good c = (
   λ x e from match. elim (times-split r some_r (sat (value_of leaves) n) least most c e from match) [
     | inl a ↦ absurd (omega (arith, low, a.0))
     | inr a ↦ x a.0 a.1 a.3 e a.2 a.4
+  ],
+)
+
+-- b and s is b ##0 s
+pub sequence-guard : (b : Condition) (s : Seq Condition) → TakesTicks s
+    → ComesToSame (both (sequence (one b)) (sequence s)) (sequence (fuse (one b) s))
+sequence-guard b s some_s leaves n failed c = (
+  λ x j some match.
+      let at : match.0 ≡ c = omega (arith, match.3.0) in
+      elim x [
+        | inl a ↦ a (match.0 + 1) (omega (arith, match.1)) match.3
+        | inr a ↦ a j some (subst (λ m. Matches (sat (value_of leaves) n) s m j) at match.4)
+      ],
+  λ x. elim (cases_Bool (sat (value_of leaves) n b c)) [
+    | inl on ↦ inr (λ j some match. x j some (c, omega arith, some, (refl, on), match))
+    | inr off ↦ inl (λ j some match. both_ways (sat (value_of leaves) n b c) off match.1)
+  ],
+)
+sequence-guard b s some_s leaves n good c = (
+  λ x. (x.1.0, x.1.1, (c, omega arith, x.1.1, (refl, x.0.2.1), x.1.2)),
+  λ x.
+      let at : x.2.0 ≡ c = omega (arith, x.2.3.0) in (
+        (c + 1, omega arith, (refl, x.2.3.1)),
+        (x.0, x.1, subst (λ m. Matches (unsat (value_of leaves) n) s m x.0) at x.2.4),
+      ),
+)
+
+pub both-swap : (p q : Form Condition) → ComesToSame (both p q) (both q p)
+both-swap p q leaves n failed c =
+    (λ x. elim x [ inl a ↦ inr a | inr a ↦ inl a ], λ x. elim x [ inl a ↦ inr a | inr a ↦ inl a ])
+both-swap p q leaves n good c = (λ x. (x.1, x.0), λ x. (x.1, x.0))
+
+-- if (b) p else q, negated: one arm's negation at the tick of its guard
+pub negated-chosen : (b : Condition) (p q : Form Condition)
+    → ComesToSame (negated (chosen b p q))
+    (either (both (sequence (one b)) (negated p)) (both (sequence (one (negation b))) (negated q)))
+negated-chosen b p q leaves n failed c = (
+  λ x. (arm b p leaves n c x.0, arm (negation b) q leaves n c x.1),
+  λ x. (each b p leaves n c x.0, each (negation b) q leaves n c x.1),
+)
+  where
+    arm : (b : Condition) (p : Form Condition) (leaves : ℕ → ℕ → Bool) (n c : ℕ)
+        → ComesTo (value_of leaves) n (implied (one b) p) good c
+        → ComesTo (value_of leaves) n (both (sequence (one b)) (negated p)) failed c
+    arm b p leaves n c x = elim (cases_Bool (sat (value_of leaves) n b c)) [
+      | inl on ↦ inr (x c (omega arith) (refl, on))
+      | inr off ↦ inl (λ j some match. both_ways (sat (value_of leaves) n b c) off match.1)
+    ]
+    each : (b : Condition) (p : Form Condition) (leaves : ℕ → ℕ → Bool) (n c : ℕ)
+        → ComesTo (value_of leaves) n (both (sequence (one b)) (negated p)) failed c
+        → ComesTo (value_of leaves) n (implied (one b) p) good c
+    each b p leaves n c x e from match =
+        let here : c ≡ e = omega (arith, match.0) in
+        elim x [
+          | inl a ↦ absurd (a (e + 1) (omega (arith, from)) match)
+          | inr a ↦ subst (λ m. ComesTo (value_of leaves) n p good m) here a
+        ]
+negated-chosen b p q leaves n good c = (
+  λ x. elim x [ inl a ↦ inl (arm b p leaves n c a) | inr a ↦ inr (arm (negation b) q leaves n c a) ],
+  λ x. elim x [ inl a ↦ inl (each b p leaves n c a) | inr a ↦ inr (each (negation b) q leaves n c a) ],
+)
+  where
+    arm : (b : Condition) (p : Form Condition) (leaves : ℕ → ℕ → Bool) (n c : ℕ)
+        → ComesTo (value_of leaves) n (implied (one b) p) failed c
+        → ComesTo (value_of leaves) n (both (sequence (one b)) (negated p)) good c
+    arm b p leaves n c x =
+        let here : x.0 ≡ c = omega (arith, x.2.0) in
+        ((c + 1, omega arith, (refl, x.2.1)), subst (λ m. ComesTo (value_of leaves) n p failed m) here x.3)
+    each : (b : Condition) (p : Form Condition) (leaves : ℕ → ℕ → Bool) (n c : ℕ)
+        → ComesTo (value_of leaves) n (both (sequence (one b)) (negated p)) good c
+        → ComesTo (value_of leaves) n (implied (one b) p) failed c
+    each b p leaves n c x = (c, omega arith, (refl, x.0.2.1), x.1)
+
+-- if (b) p else q, for sequences: one arm at the tick of its guard
+pub chosen-arms : (b : Condition) (s t : Seq Condition) → TakesTicks s → TakesTicks t → GoesOn s → GoesOn t
+    → ComesToSame (chosen b (sequence s) (sequence t))
+    (either (both (sequence (one b)) (sequence s)) (both (sequence (one (negation b))) (sequence t)))
+chosen-arms b s t some_s some_t free_s free_t leaves n o c =
+    let sequences = chosen-sequences b s t some_s some_t free_s free_t leaves n o c in
+    let joined = sequence-either (fuse (one b) s) (fuse (one (negation b)) t) leaves n o c in
+    let parts : ComesToSameWithin n (either (both (sequence (one b)) (sequence s))
+        (both (sequence (one (negation b))) (sequence t)))
+        (either (sequence (fuse (one b) s)) (sequence (fuse (one (negation b)) t))) =
+    same-either n (both (sequence (one b)) (sequence s)) (both (sequence (one (negation b))) (sequence t))
+    (sequence (fuse (one b) s)) (sequence (fuse (one (negation b)) t))
+    (within n (both (sequence (one b)) (sequence s)) (sequence (fuse (one b) s)) (sequence-guard b s some_s))
+    (within n (both (sequence (one (negation b))) (sequence t)) (sequence (fuse (one (negation b)) t))
+    (sequence-guard (negation b) t some_t)) in
+    let at = parts leaves n o c (omega arith) in
+    (λ x. at.1 (joined.1 (sequences.0 x)), λ x. sequences.1 (joined.0 (at.0 x)))
+
+-- parts that come to the same
+pub same-chosen : (bound : ℕ) (b : Condition) (p q r s : Form Condition) → ComesToSameWithin bound p r
+    → ComesToSameWithin bound q s → ComesToSameWithin bound (chosen b p q) (chosen b r s)
+same-chosen bound b p q r s g h =
+    same-both bound (implied (one b) p) (implied (one (negation b)) q) (implied (one b) r)
+    (implied (one (negation b)) s) (same-implied bound (one b) p r g) (same-implied bound (one (negation b)) q s h)
+
+pub same-until : (bound : ℕ) (p q r s : Form Condition) → ComesToSameWithin bound p r → ComesToSameWithin bound q s
+    → ComesToSameWithin bound (until p q) (until r s)
+same-until bound p q r s g h leaves n failed c le = (
+  λ x. (x.0, x.1, (g leaves n failed x.0 (omega (arith, le, x.1))).0 x.2,
+    λ k from to. (h leaves n failed k (omega (arith, le, from))).0 (x.3 k from to)),
+  λ x. (x.0, x.1, (g leaves n failed x.0 (omega (arith, le, x.1))).1 x.2,
+    λ k from to. (h leaves n failed k (omega (arith, le, from))).1 (x.3 k from to)),
+)
+same-until bound p q r s g h leaves n good c le = (
+  λ x. elim x [
+    | inl a ↦ inl (a.0, a.1, (h leaves n good a.0 (omega (arith, le, a.1))).0 a.2,
+        λ k from below. (g leaves n good k (omega (arith, le, from))).0 (a.3 k from below))
+    | inr a ↦ inr (λ k from. (g leaves n good k (omega (arith, le, from))).0 (a k from))
+  ],
+  λ x. elim x [
+    | inl a ↦ inl (a.0, a.1, (h leaves n good a.0 (omega (arith, le, a.1))).1 a.2,
+        λ k from below. (g leaves n good k (omega (arith, le, from))).1 (a.3 k from below))
+    | inr a ↦ inr (λ k from. (g leaves n good k (omega (arith, le, from))).1 (a k from))
   ],
 )

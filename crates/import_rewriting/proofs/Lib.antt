@@ -1,3 +1,6 @@
 pub mod SaysLaws
 pub mod Sizes
 pub mod EndsLaws
+pub mod JoinLaws
+pub mod MatchLaws
+pub mod ConsequentLaws

@@ -21,6 +21,7 @@ use Rattle.import_properties.proofs.FormLaws.{same-negated, same-implied, same-l
 use Rattle.import_properties.proofs.FormLaws.{sequence-both, sequence-either, sequence-later, implied-one}
 use Rattle.import_properties.proofs.FormLaws.{followed-sequence}
 use Rattle.import_properties.proofs.RowLaws.{some_later-sequence, same-some_later, each_later-one, implied-one-zero}
+use Rattle.import_properties.proofs.RowLaws.{sequence-guard, both-swap}
 use Rattle.import_rewriting.specs.Sides.{IsConsequent, Says}
 
 -- what admits no empty match takes a tick
@@ -231,3 +232,23 @@ pub says_each_more : (bound least most : ℕ) (p : Form Condition) (w : Written 
 says_each_more bound least most p w lt sw =
     let more : suc (most - (least + 1)) ≡ most - least = omega arith in
     subst (λ more. Says bound (each_later least more p) w) more sw
+
+-- a boolean and a sequence
+pub says_guard : (bound : ℕ) (b : Condition) (p q : Form Condition) (v w : Written Condition) → v ≡ boolean b
+    → weight (delay v 0 0 w) ≤ 127 → Says bound p (boolean b) → Says bound q w → Says bound (both p q) (delay v 0 0 w)
+says_guard bound b p q v w e light sb sw =
+    let P : Written Condition → Type 0 = λ u. weight (delay u 0 0 w) ≤ 127 → Says bound (both p q) (delay u 0 0 w) in
+    subst P (sym e) (λ light. record {
+      fit = record { ordered = (omega arith, tt, sw.fit.ordered); light = light; some = refl };
+      same =
+          same-then bound (both p q) (both (sequence (kernel.one b)) (sequence (written.kernel One w)))
+          (sequence (kernel.fuse (kernel.one b) (written.kernel One w)))
+          (same-both bound p q (sequence (kernel.one b)) (sequence (written.kernel One w)) sb.same sw.same)
+          (within bound (both (sequence (kernel.one b)) (sequence (written.kernel One w)))
+          (sequence (kernel.fuse (kernel.one b) (written.kernel One w)))
+          (sequence-guard b (written.kernel One w) (takes-tick w sw.fit)));
+    }) light
+
+pub says_swap : (bound : ℕ) (p q : Form Condition) (w : Written Condition) → Says bound (both p q) w
+    → Says bound (both q p) w
+says_swap bound p q w sw = says_same bound (both p q) (both q p) w (both-swap p q) sw

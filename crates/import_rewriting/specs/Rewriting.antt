@@ -5,9 +5,11 @@ use Rattle.import_properties.specs.declared.condition.Condition.TheVariants.{One
 use Rattle.import_properties.specs.declared.property.Property.{Property}
 use Rattle.import_properties.specs.declared.property.Property.TheVariants as tree
 use Rattle.import_properties.specs.Conditions.{value_of}
-use Rattle.import_properties.specs.Properties.{Form}
+use Rattle.import_properties.specs.Properties.{Form, form_of, negated, either}
 use Rattle.import_properties.specs.Outcomes.{ComesTo, Outcome, IsDecidedSo}
-use Rattle.import_rewriting.specs.Sides.{IsAntecedent, IsConsequent}
+use Rattle.import_rewriting.specs.declared.sense.Sense.{Sense}
+use Rattle.import_rewriting.specs.Sides.{Says}
+use Rattle.import_rewriting.specs.Senses.{in_sense}
 use Rattle.assertions.specs.Written.{Written, kernel}
 
 -- It has a form with no last tick of its own: `until`.
@@ -41,3 +43,15 @@ Rewrites ticks p a s =
     (leaves : ℕ → ℕ → Bool) (n : ℕ) (o : Outcome) (c : ℕ) → c < n → n ≤ c + ticks
     → ComesTo (value_of leaves) n p o c
     ↔ IsDecidedSo (value_of leaves) (kernel One a) (kernel One s) n o c
+
+-- A sequence says the property in a sense.
+abbrev pub SaysIn : Sense → ℕ → Property → Written Condition → Type 0
+SaysIn sense bound property w =
+    (ticks : ℕ) → IsWithin bound property ticks
+    → Says ticks (in_sense sense (form_of property)) w
+
+-- It says in a sense that the first property implies the second.
+abbrev pub SaysImplies : Sense → ℕ → Property → Property → Written Condition → Type 0
+SaysImplies sense bound first second w =
+    (ticks : ℕ) → IsWithin bound first ticks → IsWithin bound second ticks
+    → Says ticks (in_sense sense (either (negated (form_of first)) (form_of second))) w

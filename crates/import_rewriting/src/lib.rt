@@ -3,7 +3,9 @@
 //! To be written.
 #![tactic(auto)]
 
+mod consequent;
 mod ends;
+mod join;
 mod make;
 mod measure;
 mod refusal;

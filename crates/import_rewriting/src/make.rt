@@ -14,7 +14,7 @@ ghost use Rattle.import_rewriting.specs.declared.refusal.Refusal.{Refusal};
 ghost use Rattle.import_rewriting.specs.declared.refusal.Refusal.TheVariants.{TooHeavy};
 ghost use Rattle.import_rewriting.specs.Sides.{Says};
 
-use crate::measure::{HEAVIEST, capped_weight};
+use crate::measure::{HEAVIEST, boolean_of, capped_weight};
 use crate::refusal::Refusal;
 use import_properties::{Condition, Sequence};
 use std::alloc::{AllocError, Global};
@@ -92,6 +92,20 @@ pub(crate) fn either(
     made(alloc, Sequence::Or(first, second))
 }
 
+/// The boolean at the tick at which the body begins.
+pub(crate) fn guarded(
+    alloc: Global,
+    boolean: Condition,
+    body: Box<Sequence>,
+) -> Result<Box<Sequence>, Refusal>
+    ensures { IfOk result (λ b. (bound : ℕ) (p q : Form Condition)
+        → Says bound p (boolean_form boolean) → Says bound q (written_form body.value)
+        → Says bound (both p q) (written_form b.value)) }
+{
+    let first = boxed(alloc, Sequence::Boolean(boolean))?;
+    made(alloc, Sequence::Delay(first, 0, 0, body))
+}
+
 /// Both of the two; where one is a boolean, at its tick.
 pub(crate) fn both(
     alloc: Global,
@@ -102,6 +116,12 @@ pub(crate) fn both(
         → Says bound p (written_form first.value) → Says bound q (written_form second.value)
         → Says bound (both p q) (written_form b.value)) }
 {
+    if let Some(boolean) = boolean_of(&first) {
+        return guarded(alloc, boolean, second);
+    }
+    if let Some(boolean) = boolean_of(&second) {
+        return guarded(alloc, boolean, first);
+    }
     made(alloc, Sequence::And(first, second))
 }
 
