@@ -13,10 +13,10 @@ use Rattle.assertions.proofs.LengthLaws.{Matches-back}
 use Rattle.import_properties.specs.declared.condition.Condition.{Condition}
 use Rattle.import_properties.specs.declared.condition.Condition.TheVariants.{One}
 use Rattle.import_properties.specs.Conditions.{value_of, unsat}
-use Rattle.import_properties.specs.Properties.{Form, sequence, implied}
-use Rattle.import_properties.specs.Outcomes.{ComesTo, Outcome, failed, good, IsDecidedSo}
+use Rattle.import_properties.specs.Properties.{Form, sequence, implied, each_later}
+use Rattle.import_properties.specs.Outcomes.{ComesTo, ComesToSame, Outcome, failed, good, IsDecidedSo}
 use Rattle.import_properties.proofs.LetterLaws.{Matches-unsat-sat, Matches-sat-unsat, unsat-ends, sat-unsat, unsat-sat}
-use Rattle.import_properties.proofs.FormLaws.{TakesTicks, takes, sat-one}
+use Rattle.import_properties.proofs.FormLaws.{TakesTicks, takes, sat-one, each_later-found}
 
 -- what admits no empty match takes a tick
 pub not_empty-takes : (s : Seq Condition) → (AdmitsEmpty s → ⊥) → TakesTicks s
@@ -124,4 +124,30 @@ implied-always p leaves n good c begun = (
       let here : c ≡ e = omega (arith, match.0) in
       subst (λ m. ComesTo (value_of leaves) n p good m) here x,
   λ x. x c (omega arith) (refl, sat-one leaves n c),
+)
+
+-- what has failed at a tick shows that the tick was seen
+abbrev pub FailsSeen : Form Condition → Type 0
+FailsSeen p = (leaves : ℕ → ℕ → Bool) (n c : ℕ) → ComesTo (value_of leaves) n p failed c → c < n
+
+pub implied-seen : (t : Seq Condition) (p : Form Condition) → FailsSeen (implied t p)
+implied-seen t p leaves n c x =
+    omega (arith, x.1, unsat-ends Condition (value_of leaves) n t c (x.0 + 1) (omega (arith, x.1)) x.2)
+
+pub each_later-seen : (first more : ℕ) (p : Form Condition) → FailsSeen p → FailsSeen (each_later first more p)
+each_later-seen first more p seen leaves n c x =
+    let f = each_later-found (value_of leaves) n p first more c x in
+    omega (arith, seen leaves n (c + f.0) f.3)
+
+-- so 1 |-> p is p
+pub one-implied : (p : Form Condition) → FailsSeen p → ComesToSame (implied (kernel.one One) p) p
+one-implied p seen leaves n failed c = (
+  λ x. let here : x.0 ≡ c = omega (arith, x.2.0) in subst (λ m. ComesTo (value_of leaves) n p failed m) here x.3,
+  λ x. (implied-always p leaves n failed c (seen leaves n c x)).0 x,
+)
+one-implied p seen leaves n good c = (
+  λ x. x c (omega arith) (refl, sat-one leaves n c),
+  λ x e from match.
+      let here : c ≡ e = omega (arith, match.0) in
+      subst (λ m. ComesTo (value_of leaves) n p good m) here x,
 )

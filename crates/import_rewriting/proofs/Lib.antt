@@ -4,3 +4,4 @@ pub mod EndsLaws
 pub mod JoinLaws
 pub mod MatchLaws
 pub mod ConsequentLaws
+pub mod SideLaws

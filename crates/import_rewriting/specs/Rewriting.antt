@@ -1,14 +1,16 @@
 -- When an assertion of the profile is the rewriting of a property.
-use Rattle.std.specs.Prelude.{◌⊎◌, ℕ, ◌+◌, ◌<◌, ◌≤◌, Bool, ◌↔◌}
+use Rattle.std.specs.Prelude.{◌⊎◌, ℕ, ◌+◌, ◌-◌, ◌<◌, ◌≤◌, Bool, ◌↔◌}
 use Rattle.import_properties.specs.declared.condition.Condition.{Condition}
 use Rattle.import_properties.specs.declared.condition.Condition.TheVariants.{One}
 use Rattle.import_properties.specs.declared.property.Property.{Property}
 use Rattle.import_properties.specs.declared.property.Property.TheVariants as tree
 use Rattle.import_properties.specs.Conditions.{value_of}
-use Rattle.import_properties.specs.Properties.{Form, form_of, negated, either}
-use Rattle.import_properties.specs.Outcomes.{ComesTo, Outcome, IsDecidedSo}
+use Rattle.import_properties.specs.Properties.{Form, form_of, negated, either, sequence, implied}
+use Rattle.import_properties.specs.Properties.{each_later}
+use Rattle.import_properties.specs.Outcomes.{ComesTo, ComesToSame, ComesToSameWithin, Outcome}
+use Rattle.import_properties.specs.Outcomes.{IsDecidedSo}
 use Rattle.import_rewriting.specs.declared.sense.Sense.{Sense}
-use Rattle.import_rewriting.specs.Sides.{Says}
+use Rattle.import_rewriting.specs.Sides.{Says, IsAntecedent, IsConsequent}
 use Rattle.import_rewriting.specs.Senses.{in_sense}
 use Rattle.assertions.specs.Written.{Written, kernel}
 
@@ -55,3 +57,41 @@ abbrev pub SaysImplies : Sense → ℕ → Property → Property → Written Con
 SaysImplies sense bound first second w =
     (ticks : ℕ) → IsWithin bound first ticks → IsWithin bound second ticks
     → Says ticks (in_sense sense (either (negated (form_of first)) (form_of second))) w
+
+-- Its ends are those of t, so many ticks after one of r: whatever then must be.
+abbrev pub EndsLater :
+    Written Condition → ℕ → ℕ → Written Condition → Written Condition → Type 0
+EndsLater r least most t a =
+    (p : Form Condition)
+    → ComesToSame (implied (kernel One r) (each_later least (most - least) (implied (kernel One t) p)))
+    (implied (kernel One a) p)
+
+-- a |-> s in the profile says what r |-> p does.
+abbrev pub SaysAfter :
+    ℕ → Written Condition → Form Condition → Written Condition → Written Condition → Type 0
+SaysAfter ticks r p a s =
+    ComesToSameWithin ticks (implied (kernel One r) p)
+    (implied (kernel One a) (sequence (kernel One s)))
+
+-- The two sides can be sides of an assertion, and say what is meant after another antecedent.
+pub record AreSides (bound : ℕ) (r : Written Condition) (property : Property)
+    (a s : Written Condition) : Type 0 where
+  pub antecedent : IsAntecedent a
+  pub consequent : IsConsequent s
+  pub same : (ticks : ℕ) → IsWithin bound property ticks → SaysAfter ticks r (form_of property) a s
+
+-- The same of: so many ticks after each end of r, t |-> property.
+pub record AreSidesLater (bound : ℕ) (r : Written Condition) (least most : ℕ) (t : Written Condition)
+    (property : Property) (a s : Written Condition) : Type 0 where
+  pub antecedent : IsAntecedent a
+  pub consequent : IsConsequent s
+  pub same :
+    (ticks : ℕ) → IsWithin bound property ticks
+    → SaysAfter ticks r (each_later least (most - least) (implied (kernel One t) (form_of property)))
+    a s
+
+-- The two sides can be sides of an assertion, which is the rewriting of the property.
+pub record IsRewriting (bound : ℕ) (property : Property) (a s : Written Condition) : Type 0 where
+  pub antecedent : IsAntecedent a
+  pub consequent : IsConsequent s
+  pub exact : (ticks : ℕ) → IsWithin bound property ticks → Rewrites ticks (form_of property) a s

@@ -9,7 +9,9 @@ mod join;
 mod make;
 mod measure;
 mod refusal;
+mod rewriting;
 mod sense;
 
 pub use ends::after_each_end;
 pub use refusal::Refusal;
+pub use rewriting::{Rewriting, rewritten};
