@@ -1,22 +1,20 @@
 -- Properties that come to the same.
-use Rattle.std.proofs.Common.{◌≡◌, inl, inr, ◌⊎◌, ℕ, zero, suc, ◌+◌, ◌-◌, ◌<◌, ◌≤◌, Bool, true, false, not, ◌&&◌}
-use Rattle.std.proofs.Common.{◌||◌, nat_le, max, refl, sym, ◌∙◌, ap, subst, arith}
+use Rattle.std.proofs.Common.{◌≡◌, inl, inr, ◌⊎◌, ℕ, zero, suc, ◌+◌, ◌-◌, ◌<◌, ◌≤◌, Bool, true, false, not}
+use Rattle.std.proofs.Common.{nat_le, max, refl, sym, ◌∙◌, subst, arith}
 use Rattle.std.specs.Prelude.{nat_lt, IsTrue}
 use Rattle.std.proofs.lemmas.Bool.{or_cases, or_left, or_right, and_parts, and_from, cases_lt, cases_eq, cases_Bool, both_ways}
-use Rattle.std.proofs.lemmas.Bool.{leb-true, leb-false, le-leb, ltb-true, lt-ltb, not-true, not_from_false}
-use Rattle.std.proofs.lemmas.Bool.{false_from_ne_true}
+use Rattle.std.proofs.lemmas.Bool.{leb-true, le-leb, ltb-true, lt-ltb, not-true, not_from_false}
 use Rattle.assertions.specs.Segments.{Seq, one, chop, fuse, sat, Matches}
 use Rattle.assertions.specs.Segments as kernel
 use Rattle.assertions.specs.Written as written
 use Rattle.assertions.specs.Written.{one_of}
-use Rattle.assertions.proofs.Segments.{Matches-forward}
 use Rattle.assertions.proofs.RangeLaws.{one_of-found, one_of-matches, after-found, after-matches, later-found}
 use Rattle.assertions.proofs.RangeLaws.{later-matches}
 use Rattle.import_properties.specs.declared.condition.Condition.{Condition}
 use Rattle.import_properties.specs.declared.condition.Condition.TheVariants.{One, Zero, Leaf, Negated}
 use Rattle.import_properties.specs.Conditions.{negation, value_of, unsat}
-use Rattle.import_properties.specs.Properties.{Form, sequence, negated, either, both, implied, next, until}
-use Rattle.import_properties.specs.Properties.{followed, then_tick, chosen, later, strong_later, each_later, some_later}
+use Rattle.import_properties.specs.Properties.{Form, sequence, negated, either, both, implied, next}
+use Rattle.import_properties.specs.Properties.{followed, later, each_later}
 use Rattle.import_properties.specs.Outcomes.{ComesTo, ComesToSame, ComesToSameWithin, Outcome, failed, good}
 use Rattle.import_properties.proofs.LetterLaws.{Matches-unsat-sat, Matches-sat-unsat, unsat-ends, match_or_none}
 
@@ -189,10 +187,10 @@ module _ (leaves : ℕ → ℕ → Bool) (n : ℕ) where
   seen_or_free b k = elim (cases_lt k n) [
     | inr late ↦ inr (or_left (nat_le n k) (value_of leaves (negation b) k) (le-leb n k late))
     | inl below ↦ elim (cases_Bool (value_of leaves b k)) [
-        | inl on ↦ inl (and_from (nat_lt k n) (value_of leaves b k) (lt-ltb k n below) on)
-        | inr off ↦ inr (or_right (nat_le n k) (value_of leaves (negation b) k)
-            (value-negation leaves b k ∙ not_from_false (value_of leaves b k) off))
-      ]
+      | inl on ↦ inl (and_from (nat_lt k n) (value_of leaves b k) (lt-ltb k n below) on)
+      | inr off ↦ inr (or_right (nat_le n k) (value_of leaves (negation b) k)
+          (value-negation leaves b k ∙ not_from_false (value_of leaves b k) off))
+    ]
   ]
 
   -- and not both
@@ -212,10 +210,10 @@ module _ (leaves : ℕ → ℕ → Bool) (n : ℕ) where
   free_or_seen b k = elim (cases_lt k n) [
     | inr late ↦ inl (or_left (nat_le n k) (value_of leaves b k) (le-leb n k late))
     | inl below ↦ elim (cases_Bool (value_of leaves b k)) [
-        | inl on ↦ inl (or_right (nat_le n k) (value_of leaves b k) on)
-        | inr off ↦ inr (and_from (nat_lt k n) (value_of leaves (negation b) k) (lt-ltb k n below)
-            (value-negation leaves b k ∙ not_from_false (value_of leaves b k) off))
-      ]
+      | inl on ↦ inl (or_right (nat_le n k) (value_of leaves b k) on)
+      | inr off ↦ inr (and_from (nat_lt k n) (value_of leaves (negation b) k) (lt-ltb k n below)
+          (value-negation leaves b k ∙ not_from_false (value_of leaves b k) off))
+    ]
   ]
 
   pub free_not_seen : (b : Condition) (k : ℕ) → IsTrue (sat (value_of leaves) n b k)
@@ -371,7 +369,7 @@ implied-delay r t first more p some_r some_t leaves n failed c = (
         e,
         omega (arith, x.1, f.3.1),
         Matches-sat-unsat Condition (value_of leaves) n (one_of first more (written.after One r t)) c (e + 1) ends
-        (one_of-matches Condition (sat (value_of leaves) n) (written.after One r t) first more c (e + 1) f.0 f.1 f.2 joined),
+            (one_of-matches Condition (sat (value_of leaves) n) (written.after One r t) first more c (e + 1) f.0 f.1 f.2 joined),
         f.3.3,
       ),
 )
@@ -403,9 +401,9 @@ implied-lead t first more p some_t leaves n failed c = (
         e,
         omega (arith, f.3.1),
         Matches-sat-unsat Condition (value_of leaves) n (one_of first more (written.later One t)) c (e + 1) ends
-        (one_of-matches Condition (sat (value_of leaves) n) (written.later One t) first more c (e + 1) f.0 f.1 f.2
-        (later-matches Condition (sat (value_of leaves) n) One (sat-one leaves n) t f.0 c (e + 1)
-        (Matches-unsat-sat Condition (value_of leaves) n t (c + f.0) (e + 1) f.3.2))),
+            (one_of-matches Condition (sat (value_of leaves) n) (written.later One t) first more c (e + 1) f.0 f.1 f.2
+            (later-matches Condition (sat (value_of leaves) n) One (sat-one leaves n) t f.0 c (e + 1)
+            (Matches-unsat-sat Condition (value_of leaves) n t (c + f.0) (e + 1) f.3.2))),
         f.3.3,
       ),
 )
@@ -440,8 +438,8 @@ sequence-later k s some_s leaves n good c = (
         f.0,
         omega (arith, f.1),
         Matches-sat-unsat Condition (value_of leaves) n (written.later One s k) c f.0 ends
-        (later-matches Condition (sat (value_of leaves) n) One (sat-one leaves n) s k c f.0
-        (Matches-unsat-sat Condition (value_of leaves) n s (c + k) f.0 f.2)),
+            (later-matches Condition (sat (value_of leaves) n) One (sat-one leaves n) s k c f.0
+            (Matches-unsat-sat Condition (value_of leaves) n s (c + k) f.0 f.2)),
       ),
   λ x.
       let rest = later-found Condition (unsat (value_of leaves) n) One s k c x.0 x.2 in

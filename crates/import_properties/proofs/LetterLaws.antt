@@ -1,14 +1,14 @@
 -- The two letters that may follow the ticks that were seen, and what matches under them.
-use Rattle.std.proofs.Common.{◌≡◌, inl, inr, ℕ, zero, suc, ◌+◌, ◌<◌, ◌≤◌, Bool, true, false, not, ◌&&◌, ◌||◌, max}
+use Rattle.std.proofs.Common.{inl, inr, ℕ, zero, suc, ◌+◌, ◌<◌, ◌≤◌, Bool, max}
 use Rattle.std.proofs.Common.{nat_le, ◌⊎◌, arith}
 use Rattle.std.specs.Prelude.{nat_lt, IsTrue}
-use Rattle.std.proofs.lemmas.Bool.{or_cases, or_right, and_parts, and_from, cases_lt, leb-true, ltb-true, lt-ltb}
+use Rattle.std.proofs.lemmas.Bool.{or_cases, or_right, and_parts, and_from, leb-true, ltb-true, lt-ltb}
 use Rattle.std.proofs.lemmas.Bool.{cases_Bool, both_ways}
 use Rattle.assertions.specs.Quantifiers.{some_in}
 use Rattle.assertions.specs.Segments.{Seq, one, none, chop, fuse, either, both, meet, during, times, Chain}
 use Rattle.assertions.specs.Segments.{sat, is_match, Matches, longest}
 use Rattle.assertions.proofs.Quantifiers.{some_in-found, some_in-true}
-use Rattle.assertions.proofs.Segments.{Matches-forward, Matches-longest, Matches-mono, Chain-forward}
+use Rattle.assertions.proofs.Segments.{Matches-forward, Matches-longest, Matches-mono}
 use Rattle.assertions.proofs.Segments.{is_match-Matches, Matches-is_match}
 use Rattle.import_properties.specs.Conditions.{unsat}
 
@@ -93,7 +93,7 @@ module _ (B : Type 0) (value : B → ℕ → Bool) (n : ℕ) where
     h.1,
     h.2,
     Chain-below (Matches (sat value n) r) (Matches (unsat value n) r) n (Matches-forward B (sat value n) r)
-    (λ i j le h. Matches-sat-unsat r i j le h) h.0 i j le h.3,
+        (λ i j le h. Matches-sat-unsat r i j le h) h.0 i j le h.3,
   )
 
 -- a match of a tick or more begins at c, or none does

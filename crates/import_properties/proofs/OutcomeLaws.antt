@@ -1,5 +1,5 @@
 -- What a property has come to stays, and is one outcome at most.
-use Rattle.std.proofs.Common.{◌≡◌, inl, inr, ℕ, ◌+◌, ◌<◌, ◌≤◌, Bool, ◌&&◌, ◌||◌, nat_le, arith}
+use Rattle.std.proofs.Common.{inl, inr, ℕ, ◌+◌, ◌≤◌, Bool, nat_le, arith}
 use Rattle.std.specs.Prelude.{nat_lt, IsTrue}
 use Rattle.std.proofs.lemmas.Bool.{or_cases, or_left, or_right, and_parts, and_from, cases_lt, leb-true, le-leb}
 use Rattle.std.proofs.lemmas.Bool.{ltb-true, lt-ltb}
@@ -62,8 +62,8 @@ module _ (B : Type 0) (value : B → ℕ → Bool) where
   never_both (next p) n c f g = never_both p n (c + 1) f g
   never_both (until p q) n c f g = elim g [
     | inl a ↦ elim (cases_lt f.0 a.0) [
-        | inl below ↦ never_both p n f.0 f.2 (a.3 f.0 f.1 below)
-        | inr reached ↦ never_both q n a.0 (f.3 a.0 a.1 reached) a.2
-      ]
+      | inl below ↦ never_both p n f.0 f.2 (a.3 f.0 f.1 below)
+      | inr reached ↦ never_both q n a.0 (f.3 a.0 a.1 reached) a.2
+    ]
     | inr a ↦ never_both p n f.0 f.2 (a f.0 f.1)
   ]

@@ -1,6 +1,5 @@
 -- An assertion of the profile comes to what its decisions say.
-use Rattle.std.proofs.Common.{◌≡◌, inl, inr, ◌⊎◌, ℕ, ◌+◌, ◌-◌, ◌<◌, ◌≤◌, Bool, refl, subst, arith}
-use Rattle.std.specs.Prelude.{IsTrue}
+use Rattle.std.proofs.Common.{◌≡◌, inl, inr, ◌⊎◌, ℕ, ◌+◌, ◌-◌, ◌<◌, Bool, refl, subst, arith}
 use Rattle.std.proofs.lemmas.Bool.{cases_lt, cases_eq, cases_Bool, both_ways}
 use Rattle.assertions.specs.declared.decision.Decision.TheVariants.{Held, Vacuously, Failed}
 use Rattle.assertions.specs.Quantifiers.{some_in}
@@ -12,10 +11,10 @@ use Rattle.assertions.proofs.Segments.{Matches-forward, Matches-mono, is_match-M
 use Rattle.assertions.proofs.LengthLaws.{Matches-back}
 use Rattle.import_properties.specs.declared.condition.Condition.{Condition}
 use Rattle.import_properties.specs.declared.condition.Condition.TheVariants.{One}
-use Rattle.import_properties.specs.Conditions.{value_of, unsat}
+use Rattle.import_properties.specs.Conditions.{value_of}
 use Rattle.import_properties.specs.Properties.{Form, sequence, implied, each_later}
 use Rattle.import_properties.specs.Outcomes.{ComesTo, ComesToSame, Outcome, failed, good, IsDecidedSo}
-use Rattle.import_properties.proofs.LetterLaws.{Matches-unsat-sat, Matches-sat-unsat, unsat-ends, sat-unsat, unsat-sat}
+use Rattle.import_properties.proofs.LetterLaws.{Matches-unsat-sat, Matches-sat-unsat, unsat-ends, sat-unsat}
 use Rattle.import_properties.proofs.FormLaws.{TakesTicks, takes, sat-one, each_later-found}
 
 -- what admits no empty match takes a tick
@@ -74,10 +73,10 @@ module _ (leaves : ℕ → ℕ → Bool) (n c : ℕ) (r s : Seq Condition) (some
             let f = some_in-found c n (λ e. is_match (sat (value_of leaves) n) r c (e + 1)) on in
             inl ((f.0, (f.1, f.2, is_match-Matches Condition (sat (value_of leaves) n) r c (f.0 + 1) f.3)), kept x, over begun x)
         | inr off ↦ inr (
-            λ e end. both_ways _ off (some_in-true c n (λ e. is_match (sat (value_of leaves) n) r c (e + 1)) e end.0 end.1
-            (Matches-is_match Condition (sat (value_of leaves) n) r c (e + 1) end.2)),
-            over begun x,
-          )
+          λ e end. both_ways _ off (some_in-true c n (λ e. is_match (sat (value_of leaves) n) r c (e + 1)) e end.0 end.1
+              (Matches-is_match Condition (sat (value_of leaves) n) r c (e + 1) end.2)),
+          over begun x,
+        )
       ]
 
   held-good : IsDecided (value_of leaves) (every r) s n c Held

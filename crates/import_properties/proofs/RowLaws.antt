@@ -1,6 +1,6 @@
 -- Forms of properties, as sequences that come to the same.
 use Rattle.std.proofs.Common.{◌≡◌, inl, inr, ◌⊎◌, ℕ, zero, suc, ◌+◌, ◌-◌, ◌<◌, ◌≤◌, Bool, false, refl, sym, subst, arith}
-use Rattle.std.specs.Prelude.{IsTrue, nat_lt, nat_le, ◌&&◌}
+use Rattle.std.specs.Prelude.{IsTrue, nat_lt, nat_le}
 use Rattle.std.proofs.lemmas.Bool.{cases_lt, cases_eq, cases_Bool, both_ways, and_parts, ltb-true, or_left, le-leb}
 use Rattle.std.proofs.lemmas.Bool.{or_cases, leb-true}
 use Rattle.assertions.specs.Segments.{Seq, one, chop, fuse, times, Chain, sat, Matches}
@@ -12,8 +12,8 @@ use Rattle.import_properties.specs.declared.condition.Condition.TheVariants.{One
 use Rattle.import_properties.specs.Conditions.{negation, value_of, unsat}
 use Rattle.import_properties.specs.Properties.{Form, sequence, negated, either, both, implied, next, until}
 use Rattle.import_properties.specs.Properties.{followed, chosen, later, strong_later, each_later, some_later}
-use Rattle.import_properties.specs.Outcomes.{ComesTo, ComesToSame, ComesToSameWithin, Outcome, failed, good}
-use Rattle.import_properties.proofs.LetterLaws.{match_or_none, unsat-ends, unsat-sat, sat-unsat}
+use Rattle.import_properties.specs.Outcomes.{ComesTo, ComesToSame, ComesToSameWithin, failed, good}
+use Rattle.import_properties.proofs.LetterLaws.{unsat-ends, unsat-sat, sat-unsat}
 use Rattle.import_properties.proofs.FormLaws.{within, same-next, same-both, same-either, same-negated, same-implied, sequence-later}
 use Rattle.import_properties.proofs.FormLaws.{sequence-either, TakesTicks, takes, each_later-found, found-each_later}
 use Rattle.import_properties.proofs.FormLaws.{each_later-each, each-each_later, later-at, at-later, seen_or_free, seen_not_free}
@@ -150,9 +150,11 @@ module _ (holds : Condition → ℕ → Bool) (b : Condition) where
   pub each-ones : (count i j : ℕ) → j ≡ i + count → ((k : ℕ) → i ≤ k → k < j → IsTrue (holds b k))
       → Chain (Matches holds (one b)) count i j
   each-ones zero i j e h = omega (arith, e)
-  each-ones (suc count) i j e h =
-      (i + count, each-ones count i (i + count) refl (λ k from below. h k from (omega (arith, e, below))),
-      (omega (arith, e), h (i + count) (omega arith) (omega (arith, e))))
+  each-ones (suc count) i j e h = (
+    i + count,
+    each-ones count i (i + count) refl (λ k from below. h k from (omega (arith, e, below))),
+    (omega (arith, e), h (i + count) (omega arith) (omega (arith, e))),
+  )
 
 -- the first of some ticks at which a boolean doesn't hold, or none
 module _ (holds : Condition → ℕ → Bool) (b : Condition) where
@@ -162,12 +164,12 @@ module _ (holds : Condition → ℕ → Bool) (b : Condition) where
   broken_or_each (suc count) i = elim (cases_Bool (holds b i)) [
     | inr off ↦ inl (i, omega arith, omega arith, λ on. both_ways (holds b i) off on)
     | inl on ↦ elim (broken_or_each count (i + 1)) [
-        | inl f ↦ inl (f.0, omega (arith, f.1), omega (arith, f.2), f.3)
-        | inr each ↦ inr (λ k from below. elim (cases_eq i k) [
-            | inl e ↦ subst (λ m. IsTrue (holds b m)) e on
-            | inr ne ↦ each k (omega arith) (omega arith)
-          ])
-      ]
+      | inl f ↦ inl (f.0, omega (arith, f.1), omega (arith, f.2), f.3)
+      | inr each ↦ inr (λ k from below. elim (cases_eq i k) [
+        | inl e ↦ subst (λ m. IsTrue (holds b m)) e on
+        | inr ne ↦ each k (omega arith) (omega arith)
+      ])
+    ]
   ]
 
 -- a boolean at each tick of a range: b[*k] at the first one
@@ -181,9 +183,11 @@ module _ (first more : ℕ) (b : Condition) (leaves : ℕ → ℕ → Bool) (n c
       let f = each_later-found (value_of leaves) n (sequence (one b)) first more c x in
       at-later (value_of leaves) n holding failed first c (λ j some match.
       let length = ones-length (sat (value_of leaves) n) b match.0 (c + first) j match.3 in
-      f.3 (c + f.0 + 1) (omega arith)
-      (refl, ones-each (sat (value_of leaves) n) b match.0 (c + first) j (c + f.0) match.3 (omega (arith, f.1))
-      (omega (arith, f.2, length, match.1))))
+      f.3 (c + f.0 + 1) (omega arith) (
+        refl,
+        ones-each (sat (value_of leaves) n) b match.0 (c + first) j (c + f.0) match.3 (omega (arith, f.1))
+            (omega (arith, f.2, length, match.1)),
+      ))
 
   broken-each : ComesTo (value_of leaves) n (later first holding) failed c
       → ComesTo (value_of leaves) n (each_later first more (sequence (one b))) failed c
@@ -193,22 +197,32 @@ module _ (first more : ℕ) (b : Condition) (leaves : ℕ → ℕ → Bool) (n c
         found-each_later (value_of leaves) n (sequence (one b)) first more c (f.0 - c) (omega (arith, f.1))
         (omega (arith, f.1, f.2))
         (subst (λ m. ComesTo (value_of leaves) n (sequence (one b)) failed m) at (λ j some match. f.3 match.1))
-    | inr each ↦ absurd (later-at (value_of leaves) n holding failed first c x (c + first + (more + 1)) (omega arith)
-        (more + 1, omega arith, omega arith,
-        each-ones (sat (value_of leaves) n) b (more + 1) (c + first) (c + first + (more + 1)) refl each))
+    | inr each ↦ absurd (later-at (value_of leaves) n holding failed first c x (c + first + (more + 1)) (omega arith) (
+      more + 1,
+      omega arith,
+      omega arith,
+      each-ones (sat (value_of leaves) n) b (more + 1) (c + first) (c + first + (more + 1)) refl each,
+    ))
   ]
 
   each-held : ComesTo (value_of leaves) n (each_later first more (sequence (one b))) good c
       → ComesTo (value_of leaves) n (later first holding) good c
   each-held x =
-      at-later (value_of leaves) n holding good first c (c + first + (more + 1), omega arith,
-      (more + 1, omega arith, omega arith,
-      each-ones (unsat (value_of leaves) n) b (more + 1) (c + first) (c + first + (more + 1)) refl (λ k from below.
-      let at : c + (k - c) ≡ k = omega (arith, from) in
-      let here =
-      each_later-each (value_of leaves) n (sequence (one b)) first more c (k - c) (omega (arith, from))
-      (omega (arith, below)) x in
-      subst (λ m. IsTrue (unsat (value_of leaves) n b m)) at here.2.1)))
+      at-later (value_of leaves) n holding good first c (
+        c + first + (more + 1),
+        omega arith,
+        (
+          more + 1,
+          omega arith,
+          omega arith,
+          each-ones (unsat (value_of leaves) n) b (more + 1) (c + first) (c + first + (more + 1)) refl (λ k from below.
+              let at : c + (k - c) ≡ k = omega (arith, from) in
+              let here =
+              each_later-each (value_of leaves) n (sequence (one b)) first more c (k - c) (omega (arith, from))
+              (omega (arith, below)) x in
+              subst (λ m. IsTrue (unsat (value_of leaves) n b m)) at here.2.1),
+        ),
+      )
 
   held-each : ComesTo (value_of leaves) n (later first holding) good c
       → ComesTo (value_of leaves) n (each_later first more (sequence (one b))) good c
@@ -216,10 +230,15 @@ module _ (first more : ℕ) (b : Condition) (leaves : ℕ → ℕ → Bool) (n c
       let f = later-at (value_of leaves) n holding good first c x in
       let chain = f.2.3 in
       let length = ones-length (unsat (value_of leaves) n) b f.2.0 (c + first) f.0 chain in
-      each-each_later (value_of leaves) n (sequence (one b)) first more c (λ k least most.
-      (c + k + 1, omega arith,
-      (refl, ones-each (unsat (value_of leaves) n) b f.2.0 (c + first) f.0 (c + k) chain (omega (arith, least))
-      (omega (arith, most, length, f.2.1)))))
+      each-each_later (value_of leaves) n (sequence (one b)) first more c (λ k least most. (
+        c + k + 1,
+        omega arith,
+        (
+          refl,
+          ones-each (unsat (value_of leaves) n) b f.2.0 (c + first) f.0 (c + k) chain (omega (arith, least))
+              (omega (arith, most, length, f.2.1)),
+        ),
+      ))
 
 pub each_later-one : (first more : ℕ) (b : Condition)
     → ComesToSame (each_later first more (sequence (one b)))
@@ -249,8 +268,16 @@ module _ (bound : ℕ) (b : Condition) (s : Seq Condition) (some_s : TakesTicks 
       → ((m : ℕ) → c ≤ m → m < k → IsTrue (sat (value_of leaves) n b m))
       → ComesTo (value_of leaves) n waiting failed c → ComesTo (value_of leaves) n (sequence s) failed k
   next_step k from near held x = λ j some match.
-      x j (omega (arith, from, some)) (k, (k - c, omega arith, omega (arith, near),
-      each-ones (sat (value_of leaves) n) b (k - c) c k (omega (arith, from)) held), match)
+      x j (omega (arith, from, some)) (
+        k,
+        (
+          k - c,
+          omega arith,
+          omega (arith, near),
+          each-ones (sat (value_of leaves) n) b (k - c) c k (omega (arith, from)) held,
+        ),
+        match,
+      )
 
   -- b may hold at each tick from c up to k, and s has failed at each
   walk : (left k : ℕ) → c ≤ k → n ≤ k + left → k ≤ c + bound
@@ -269,14 +296,14 @@ module _ (bound : ℕ) (b : Condition) (s : Seq Condition) (some_s : TakesTicks 
       ] in
       elim (cases_Bool (sat (value_of leaves) n b k)) [
         | inl on ↦ elim (cases_lt k n) [
-            | inr late ↦ absurd (free leaves n k late here)
-            | inl below ↦ walk left (k + 1) (omega (arith, from)) (omega (arith, end)) (omega (arith, below, le))
-                (λ m after before. elim (cases_lt m k) [
-                  | inl inside ↦ held m after inside
-                  | inr last ↦ let e : k ≡ m = omega arith in subst (λ m. IsTrue (sat (value_of leaves) n b m)) e on
-                ])
-                (λ m after before. up_to m after (omega (arith, before))) x
-          ]
+          | inr late ↦ absurd (free leaves n k late here)
+          | inl below ↦ walk left (k + 1) (omega (arith, from)) (omega (arith, end)) (omega (arith, below, le))
+              (λ m after before. elim (cases_lt m k) [
+                | inl inside ↦ held m after inside
+                | inr last ↦ let e : k ≡ m = omega arith in subst (λ m. IsTrue (sat (value_of leaves) n b m)) e on
+              ])
+              (λ m after before. up_to m after (omega (arith, before))) x
+        ]
         | inr off ↦ (k, from, λ j some match. both_ways (sat (value_of leaves) n b k) off match.1, up_to)
       ]
 
@@ -294,10 +321,18 @@ module _ (bound : ℕ) (b : Condition) (s : Seq Condition) (some_s : TakesTicks 
         let ends = unsat-ends Condition (value_of leaves) n s a.0 match.0 match.1 match.2 in (
           match.0,
           omega (arith, a.1, match.1),
-          (a.0, (a.0 - c, omega arith, omega (arith, le, ends, match.1, a.1),
-          each-ones (unsat (value_of leaves) n) b (a.0 - c) c a.0 (omega (arith, a.1))
-          (λ k from below. let h = a.3 k from below in
-          let at : k + 1 ≡ k + 1 = refl in h.2.1)), match.2),
+          (
+            a.0,
+            (
+              a.0 - c,
+              omega arith,
+              omega (arith, le, ends, match.1, a.1),
+              each-ones (unsat (value_of leaves) n) b (a.0 - c) c a.0 (omega (arith, a.1))
+                  (λ k from below. let h = a.3 k from below in
+                  let at : k + 1 ≡ k + 1 = refl in h.2.1),
+            ),
+            match.2,
+          ),
         )
     | inr a ↦
         let last = (a (c + n) (omega arith)).2.1 in
@@ -310,8 +345,12 @@ module _ (bound : ℕ) (b : Condition) (s : Seq Condition) (some_s : TakesTicks 
       let m = x.2.0 in
       let chain = x.2.1 in
       let length = ones-length (unsat (value_of leaves) n) b chain.0 c m chain.3 in
-      inl (m, omega (arith, length), (x.0, takes s some_s (unsat (value_of leaves) n) m x.0 x.2.2, x.2.2),
-      λ k from below. (k + 1, omega arith, (refl, ones-each (unsat (value_of leaves) n) b chain.0 c m k chain.3 from below)))
+      inl (
+        m,
+        omega (arith, length),
+        (x.0, takes s some_s (unsat (value_of leaves) n) m x.0 x.2.2, x.2.2),
+        λ k from below. (k + 1, omega arith, (refl, ones-each (unsat (value_of leaves) n) b chain.0 c m k chain.3 from below)),
+      )
 
 -- p until q for a boolean p, where no more than bound ticks are seen from there: p[*0:bound] ##1 q
 pub until-sequence : (bound : ℕ) (b : Condition) (s : Seq Condition) → TakesTicks s → GoesOn s
@@ -370,10 +409,10 @@ module _ (b : Condition) (s t : Seq Condition) (some_s : TakesTicks s) (some_t :
   broken-chosen x = elim (cases_lt c n) [
     | inr late ↦ absurd (free_s leaves n c late (first_arm (one-goes_on b leaves n c late) x))
     | inl below ↦ elim (seen_or_free leaves n b c) [
-        | inl seen ↦ inl (c, omega arith, (refl, seen), first_arm (unsat-sat Condition (value_of leaves) n b c seen) x)
-        | inr free ↦
-            inr (c, omega arith, (refl, sat-unsat Condition (value_of leaves) n (negation b) c below free), second_arm free x)
-      ]
+      | inl seen ↦ inl (c, omega arith, (refl, seen), first_arm (unsat-sat Condition (value_of leaves) n b c seen) x)
+      | inr free ↦
+          inr (c, omega arith, (refl, sat-unsat Condition (value_of leaves) n (negation b) c below free), second_arm free x)
+    ]
   ]
 
   chosen-kept : ComesTo (value_of leaves) n (chosen b (sequence s) (sequence t)) good c
@@ -384,8 +423,13 @@ module _ (b : Condition) (s t : Seq Condition) (some_s : TakesTicks s) (some_t :
         let ends = unsat-ends Condition (value_of leaves) n s c h.0 h.1 h.2 in (
           h.0,
           h.1,
-          inl (c, omega arith, h.1,
-          (refl, sat-unsat Condition (value_of leaves) n b c (omega (arith, ends, h.1)) free), h.2),
+          inl (
+            c,
+            omega arith,
+            h.1,
+            (refl, sat-unsat Condition (value_of leaves) n b c (omega (arith, ends, h.1)) free),
+            h.2,
+          ),
         )
     | inr seen ↦
         let h = x.1 c (omega arith) (refl, unsat-sat Condition (value_of leaves) n (negation b) c seen) in
@@ -465,8 +509,12 @@ negated-sequence s leaves n failed c = (
         omega (arith, x.1),
         subst (λ m. Matches (unsat (value_of leaves) n) s c m) last x.2,
         λ j some match.
-            omega (arith, x.1, zero-free leaves n (x.0 - 1) match.1,
-            unsat-ends Condition (value_of leaves) n s c x.0 x.1 x.2),
+            omega (
+              arith,
+              x.1,
+              zero-free leaves n (x.0 - 1) match.1,
+              unsat-ends Condition (value_of leaves) n s c x.0 x.1 x.2,
+            ),
       ),
 )
 negated-sequence s leaves n good c = (
@@ -482,9 +530,17 @@ pub implied-one-zero : (b : Condition)
 implied-one-zero b leaves n failed c = (
   λ x j some match. seen_not_free leaves n b c x.2.1 match.1,
   λ x. elim (seen_or_free leaves n b c) [
-    | inl seen ↦ (c, omega arith, (refl, seen), λ j some match.
-        x (c + 1) (omega arith) (refl, or_left (nat_le n c) (value_of leaves (negation b) c)
-        (le-leb n c (zero-free leaves n c match.1))))
+    | inl seen ↦ (
+      c,
+      omega arith,
+      (refl, seen),
+      λ j some match.
+          x (c + 1) (omega arith) (
+            refl,
+            or_left (nat_le n c) (value_of leaves (negation b) c)
+                (le-leb n c (zero-free leaves n c match.1)),
+          ),
+    )
     | inr free ↦ absurd (x (c + 1) (omega arith) (refl, free))
   ],
 )
@@ -535,10 +591,14 @@ module _ (r : Seq Condition) (some_r : TakesTicks r) (holds : Condition → ℕ 
           let first = takes r some_r holds c f.0 f.1 in
           let rest = chain-takes (suc count) f.0 (e + 1) f.2 in
           let at : f.0 ≡ f.0 - 1 + 1 = omega (arith, first) in
-          inr (f.0 - 1, omega (arith, first), omega (arith, first, rest),
-          subst (λ m. Matches holds r c m) at f.1,
-          subst (λ m. Matches holds (times r (least - 1) most) m (e + 1)) at
-          (suc count, omega (arith, low), omega (arith, high), f.2))
+          inr (
+            f.0 - 1,
+            omega (arith, first),
+            omega (arith, first, rest),
+            subst (λ m. Matches holds r c m) at f.1,
+            subst (λ m. Matches holds (times r (least - 1) most) m (e + 1)) at
+                (suc count, omega (arith, low), omega (arith, high), f.2),
+          )
 
   times-one : (least most c e : ℕ) → least ≤ 1 → Matches holds r c (e + 1)
       → Matches holds (times r least (suc most)) c (e + 1)
@@ -555,8 +615,13 @@ pub implied-times-last : (r : Seq Condition) (least : ℕ) (p : Form Condition) 
 implied-times-last r least p some_r low leaves n failed c = (
   λ x. elim (times-split r some_r (unsat (value_of leaves) n) least 0 c x.0 x.1 x.2) [
     | inl a ↦ (x.0, x.1, a.1, x.3)
-    | inr a ↦ absurd (omega (arith, a.2, chain-takes r some_r (unsat (value_of leaves) n) a.4.0 (a.0 + 1) (x.0 + 1) a.4.3,
-        a.4.2, no-chain (unsat (value_of leaves) n) a.4.0 (a.0 + 1) (x.0 + 1) a.4.2 a.4.3))
+    | inr a ↦ absurd (omega (
+      arith,
+      a.2,
+      chain-takes r some_r (unsat (value_of leaves) n) a.4.0 (a.0 + 1) (x.0 + 1) a.4.3,
+      a.4.2,
+      no-chain (unsat (value_of leaves) n) a.4.0 (a.0 + 1) (x.0 + 1) a.4.2 a.4.3,
+    ))
   ],
   λ x. (x.0, x.1, times-one r some_r (unsat (value_of leaves) n) least 0 c x.0 low x.2, x.3),
 )
@@ -671,6 +736,7 @@ negated-chosen b p q leaves n failed c = (
       | inl on ↦ inr (x c (omega arith) (refl, on))
       | inr off ↦ inl (λ j some match. both_ways (sat (value_of leaves) n b c) off match.1)
     ]
+
     each : (b : Condition) (p : Form Condition) (leaves : ℕ → ℕ → Bool) (n c : ℕ)
         → ComesTo (value_of leaves) n (both (sequence (one b)) (negated p)) failed c
         → ComesTo (value_of leaves) n (implied (one b) p) good c
@@ -691,6 +757,7 @@ negated-chosen b p q leaves n good c = (
     arm b p leaves n c x =
         let here : x.0 ≡ c = omega (arith, x.2.0) in
         ((c + 1, omega arith, (refl, x.2.1)), subst (λ m. ComesTo (value_of leaves) n p failed m) here x.3)
+
     each : (b : Condition) (p : Form Condition) (leaves : ℕ → ℕ → Bool) (n c : ℕ)
         → ComesTo (value_of leaves) n (both (sequence (one b)) (negated p)) good c
         → ComesTo (value_of leaves) n (implied (one b) p) failed c
@@ -704,8 +771,8 @@ chosen-arms b s t some_s some_t free_s free_t leaves n o c =
     let sequences = chosen-sequences b s t some_s some_t free_s free_t leaves n o c in
     let joined = sequence-either (fuse (one b) s) (fuse (one (negation b)) t) leaves n o c in
     let parts : ComesToSameWithin n (either (both (sequence (one b)) (sequence s))
-        (both (sequence (one (negation b))) (sequence t)))
-        (either (sequence (fuse (one b) s)) (sequence (fuse (one (negation b)) t))) =
+    (both (sequence (one (negation b))) (sequence t)))
+    (either (sequence (fuse (one b) s)) (sequence (fuse (one (negation b)) t))) =
     same-either n (both (sequence (one b)) (sequence s)) (both (sequence (one (negation b))) (sequence t))
     (sequence (fuse (one b) s)) (sequence (fuse (one (negation b)) t))
     (within n (both (sequence (one b)) (sequence s)) (sequence (fuse (one b) s)) (sequence-guard b s some_s))
@@ -724,20 +791,36 @@ same-chosen bound b p q r s g h =
 pub same-until : (bound : ℕ) (p q r s : Form Condition) → ComesToSameWithin bound p r → ComesToSameWithin bound q s
     → ComesToSameWithin bound (until p q) (until r s)
 same-until bound p q r s g h leaves n failed c le = (
-  λ x. (x.0, x.1, (g leaves n failed x.0 (omega (arith, le, x.1))).0 x.2,
-    λ k from to. (h leaves n failed k (omega (arith, le, from))).0 (x.3 k from to)),
-  λ x. (x.0, x.1, (g leaves n failed x.0 (omega (arith, le, x.1))).1 x.2,
-    λ k from to. (h leaves n failed k (omega (arith, le, from))).1 (x.3 k from to)),
+  λ x. (
+    x.0,
+    x.1,
+    (g leaves n failed x.0 (omega (arith, le, x.1))).0 x.2,
+    λ k from to. (h leaves n failed k (omega (arith, le, from))).0 (x.3 k from to),
+  ),
+  λ x. (
+    x.0,
+    x.1,
+    (g leaves n failed x.0 (omega (arith, le, x.1))).1 x.2,
+    λ k from to. (h leaves n failed k (omega (arith, le, from))).1 (x.3 k from to),
+  ),
 )
 same-until bound p q r s g h leaves n good c le = (
   λ x. elim x [
-    | inl a ↦ inl (a.0, a.1, (h leaves n good a.0 (omega (arith, le, a.1))).0 a.2,
-        λ k from below. (g leaves n good k (omega (arith, le, from))).0 (a.3 k from below))
+    | inl a ↦ inl (
+      a.0,
+      a.1,
+      (h leaves n good a.0 (omega (arith, le, a.1))).0 a.2,
+      λ k from below. (g leaves n good k (omega (arith, le, from))).0 (a.3 k from below),
+    )
     | inr a ↦ inr (λ k from. (g leaves n good k (omega (arith, le, from))).0 (a k from))
   ],
   λ x. elim x [
-    | inl a ↦ inl (a.0, a.1, (h leaves n good a.0 (omega (arith, le, a.1))).1 a.2,
-        λ k from below. (g leaves n good k (omega (arith, le, from))).1 (a.3 k from below))
+    | inl a ↦ inl (
+      a.0,
+      a.1,
+      (h leaves n good a.0 (omega (arith, le, a.1))).1 a.2,
+      λ k from below. (g leaves n good k (omega (arith, le, from))).1 (a.3 k from below),
+    )
     | inr a ↦ inr (λ k from. (g leaves n good k (omega (arith, le, from))).1 (a k from))
   ],
 )

@@ -1,7 +1,7 @@
 -- Properties over sequences (IEEE 1800-2017, 16.12), by the forms that all others stand for (F.3.4).
 use Rattle.std.specs.Prelude.{ℕ, zero, suc, ◌+◌, ◌-◌}
 use Rattle.import_properties.specs.declared.condition.Condition.{Condition}
-use Rattle.import_properties.specs.declared.condition.Condition.TheVariants.{One, Zero}
+use Rattle.import_properties.specs.declared.condition.Condition.TheVariants.{One}
 use Rattle.import_properties.specs.declared.property.Property.{Property}
 use Rattle.import_properties.specs.declared.property.Property.TheVariants as tree
 use Rattle.import_properties.specs.Conditions.{negation}

@@ -1,5 +1,5 @@
 -- Properties in a sense, by their form.
-use Rattle.std.proofs.Common.{◌≡◌, ℕ, ◌+◌, ◌-◌, ◌≤◌, true, false, ◌&&◌, ◌||◌, nat_le, refl, sym, subst, arith}
+use Rattle.std.proofs.Common.{◌≡◌, ℕ, ◌≤◌, true, false, ◌&&◌, ◌||◌, nat_le, refl, sym, subst, arith}
 use Rattle.std.proofs.lemmas.Bool.{and_right}
 use Rattle.assertions.specs.Segments as kernel
 use Rattle.assertions.specs.Written.{Written, boolean, delay, repeat, weight}
@@ -10,13 +10,13 @@ use Rattle.import_properties.specs.declared.condition.Condition.TheVariants.{One
 use Rattle.import_properties.specs.Conditions.{negation}
 use Rattle.import_properties.specs.Properties.{Form, sequence, negated, either, both, implied, until, followed, chosen}
 use Rattle.import_properties.specs.Properties.{later}
-use Rattle.import_properties.specs.Outcomes.{ComesToSame, ComesToSameWithin, Outcome, failed, good}
-use Rattle.import_properties.proofs.FormLaws.{within, same-swap, same-sym, same-then, same-both, same-either, same-refl}
+use Rattle.import_properties.specs.Outcomes.{ComesToSame, ComesToSameWithin}
+use Rattle.import_properties.proofs.FormLaws.{same-swap, same-then, same-refl}
 use Rattle.import_properties.proofs.RowLaws.{negated-negated, negated-later, negated-chosen, chosen-arms, same-chosen}
 use Rattle.import_properties.proofs.RowLaws.{same-until, until-sequence, negated-sequence}
 use Rattle.import_rewriting.specs.declared.sense.Sense.{Sense}
 use Rattle.import_rewriting.specs.declared.sense.Sense.TheVariants.{Kept, Negated}
-use Rattle.import_rewriting.specs.Sides.{Says, IsConsequent, can_match}
+use Rattle.import_rewriting.specs.Sides.{Says, can_match}
 use Rattle.import_rewriting.specs.Senses.{in_sense, opposite, JoinsImplied}
 use Rattle.import_rewriting.proofs.SaysLaws.{says_same, says_as, takes-tick}
 use Rattle.import_rewriting.proofs.MatchLaws.{goes_on}

@@ -1,5 +1,5 @@
 -- After each end of a sequence, by its form.
-use Rattle.std.proofs.Common.{◌≡◌, ℕ, suc, ◌+◌, ◌-◌, ◌<◌, ◌≤◌, false, refl, sym, subst, arith}
+use Rattle.std.proofs.Common.{◌≡◌, ℕ, suc, ◌-◌, ◌<◌, ◌≤◌, false, sym, subst, arith}
 use Rattle.assertions.specs.Segments as kernel
 use Rattle.assertions.specs.Written.{Written, boolean, delay, lead, repeat, or, IsOrdered}
 use Rattle.assertions.specs.Written as written

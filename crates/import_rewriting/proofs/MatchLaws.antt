@@ -1,8 +1,8 @@
 -- What has a match by its form has one from each tick that wasn't seen.
-use Rattle.std.proofs.Common.{◌≡◌, inl, inr, ℕ, zero, suc, ◌+◌, ◌-◌, ◌<◌, ◌≤◌, Bool, true, false, ◌&&◌, ◌||◌, nat_le, max}
-use Rattle.std.proofs.Common.{refl, sym, subst, arith}
+use Rattle.std.proofs.Common.{◌≡◌, inl, inr, ℕ, zero, suc, ◌+◌, ◌-◌, ◌<◌, ◌≤◌, Bool, true, nat_le, max}
+use Rattle.std.proofs.Common.{refl, subst, arith}
 use Rattle.std.specs.Prelude.{IsTrue}
-use Rattle.std.proofs.lemmas.Bool.{or_cases, or_left, and_parts, leb-true, le-leb, both_ways, cases_eq}
+use Rattle.std.proofs.lemmas.Bool.{or_cases, or_left, and_parts, leb-true, le-leb}
 use Rattle.assertions.specs.Segments.{Seq, Chain, sat, Matches}
 use Rattle.assertions.specs.Written.{Written, boolean, delay, lead, repeat, or, and, intersect, throughout, kernel}
 use Rattle.assertions.specs.Written.{after, later, IsOrdered}
@@ -39,9 +39,13 @@ module _ (holds : Condition → ℕ → Bool) (n : ℕ) (one : (k : ℕ) → IsT
         back.0,
         omega (arith, front.1, back.1),
         one_of-matches Condition holds (after One (kernel One r) (kernel One s)) zero (most - zero) k back.0 zero
-        (omega arith) (omega arith)
-        (front.0 - 1, omega (arith, front.1), back.1,
-        subst (λ m. Matches holds (kernel One r) k m) end front.2, back.2),
+            (omega arith) (omega arith) (
+              front.0 - 1,
+              omega (arith, front.1),
+              back.1,
+              subst (λ m. Matches holds (kernel One r) k m) end front.2,
+              back.2,
+            ),
       )
   match-from (delay r (suc least) most s) o t k late =
       let p = and_parts (can_match r) (can_match s) t in
@@ -51,16 +55,16 @@ module _ (holds : Condition → ℕ → Bool) (n : ℕ) (one : (k : ℕ) → IsT
         back.0,
         omega (arith, front.1, back.1),
         one_of-matches Condition holds (after One (kernel One r) (kernel One s)) (suc least) (most - suc least) k
-        back.0 (suc least) (omega arith) (omega arith)
-        (after-matches Condition holds One one (kernel One r) (kernel One s) (suc least) k front.0 back.0 (omega arith)
-        front.2 back.2),
+            back.0 (suc least) (omega arith) (omega arith)
+            (after-matches Condition holds One one (kernel One r) (kernel One s) (suc least) k front.0 back.0 (omega arith)
+            front.2 back.2),
       )
   match-from (lead least most s) o t k late =
       let back = match-from s o.1 t (k + least) (omega (arith, late)) in (
         back.0,
         omega (arith, back.1),
         one_of-matches Condition holds (later One (kernel One s)) least (most - least) k back.0 least (omega arith)
-        (omega arith) (later-matches Condition holds One one (kernel One s) least k back.0 back.2),
+            (omega arith) (later-matches Condition holds One one (kernel One s) least k back.0 back.2),
       )
   match-from (repeat r least most) o t k late =
       let p = and_parts (nat_le 1 most) (can_match r) t in

@@ -1,6 +1,5 @@
 -- What is joined of sequences that say what properties do.
-use Rattle.std.proofs.Common.{◌≡◌, inl, inr, ℕ, zero, suc, ◌+◌, ◌-◌, ◌<◌, ◌≤◌, Bool, true, false, ◌&&◌, ◌||◌, nat_le, refl, sym, ◌∙◌, subst, arith}
-use Rattle.std.specs.Prelude.{IsTrue}
+use Rattle.std.proofs.Common.{◌≡◌, inl, inr, ℕ, suc, ◌+◌, ◌-◌, ◌<◌, ◌≤◌, false, nat_le, refl, sym, subst, arith}
 use Rattle.std.proofs.lemmas.Bool.{cases_eq, both_ways, or_from, and_left, and_right}
 use Rattle.std.proofs.lemmas.Bool.{false_from_ne_true, leb-true}
 use Rattle.assertions.specs.Segments.{Seq, Matches}
@@ -13,10 +12,10 @@ use Rattle.assertions.proofs.EmptinessLaws.{Matches-empty}
 use Rattle.import_properties.specs.declared.condition.Condition.{Condition}
 use Rattle.import_properties.specs.declared.condition.Condition.TheVariants.{One, Zero}
 use Rattle.import_properties.specs.Conditions.{negation}
-use Rattle.import_properties.specs.Properties.{Form, sequence, negated, both, either, implied, next, until}
-use Rattle.import_properties.specs.Properties.{followed, later, strong_later, each_later, some_later}
+use Rattle.import_properties.specs.Properties.{Form, sequence, negated, both, either, implied}
+use Rattle.import_properties.specs.Properties.{followed, later, each_later, some_later}
 use Rattle.import_properties.specs.Outcomes.{ComesToSame, ComesToSameWithin}
-use Rattle.import_properties.proofs.FormLaws.{TakesTicks, within, same-refl, same-sym, same-then, same-both, same-either}
+use Rattle.import_properties.proofs.FormLaws.{TakesTicks, within, same-refl, same-then, same-both, same-either}
 use Rattle.import_properties.proofs.FormLaws.{same-negated, same-implied, same-later, same-each_later, same-swap}
 use Rattle.import_properties.proofs.FormLaws.{sequence-both, sequence-either, sequence-later, implied-one}
 use Rattle.import_properties.proofs.FormLaws.{followed-sequence}

@@ -1,5 +1,5 @@
 -- Antecedents taken out of properties.
-use Rattle.std.proofs.Common.{◌≡◌, ℕ, zero, ◌+◌, ◌-◌, ◌<◌, ◌≤◌, false, refl, sym, subst, arith}
+use Rattle.std.proofs.Common.{◌≡◌, ℕ, ◌-◌, ◌≤◌, false, refl, sym, subst, arith}
 use Rattle.assertions.specs.Segments as kernel
 use Rattle.assertions.specs.Written.{Written, boolean, delay, lead, weight, IsOrdered}
 use Rattle.assertions.specs.Written as written
@@ -9,11 +9,11 @@ use Rattle.import_properties.specs.declared.condition.Condition.TheVariants.{One
 use Rattle.import_properties.specs.declared.property.Property.{Property}
 use Rattle.import_properties.specs.Properties.{Form, form_of, sequence, implied, each_later, later}
 use Rattle.import_properties.specs.Outcomes.{ComesToSame, ComesToSameWithin}
-use Rattle.import_properties.proofs.FormLaws.{within, same-swap, same-sym, same-then, same-implied, same-each_later}
+use Rattle.import_properties.proofs.FormLaws.{within, same-swap, same-then, same-implied, same-each_later}
 use Rattle.import_properties.proofs.FormLaws.{implied-fuse, implied-delay, implied-lead}
 use Rattle.import_properties.proofs.ProfileLaws.{implied-seen, each_later-seen, one-implied, implied-always}
 use Rattle.import_properties.proofs.ProfileLaws.{profile-implied}
-use Rattle.import_rewriting.specs.Sides.{IsAntecedent, IsConsequent, Says}
+use Rattle.import_rewriting.specs.Sides.{IsAntecedent}
 use Rattle.import_rewriting.specs.Rewriting.{EndsLater, SaysAfter, AreSides, AreSidesLater, IsRewriting, SaysIn}
 use Rattle.import_rewriting.specs.Rewriting.{IsWithin, IsOpen}
 use Rattle.import_rewriting.specs.declared.sense.Sense.TheVariants.{Kept}

@@ -10,4 +10,4 @@ use Rattle.assertions.specs.Written.{Written, kernel}
 pub record SaysAfterEachEnd (a s u : Written Condition) : Type 0 where
   pub fit : IsConsequent u
   pub same :
-    ComesToSame (implied (kernel One a) (sequence (kernel One s))) (sequence (kernel One u))
+      ComesToSame (implied (kernel One a) (sequence (kernel One s))) (sequence (kernel One u))

@@ -86,9 +86,9 @@ pub record AreSidesLater (bound : ℕ) (r : Written Condition) (least most : ℕ
   pub antecedent : IsAntecedent a
   pub consequent : IsConsequent s
   pub same :
-    (ticks : ℕ) → IsWithin bound property ticks
-    → SaysAfter ticks r (each_later least (most - least) (implied (kernel One t) (form_of property)))
-    a s
+      (ticks : ℕ) → IsWithin bound property ticks
+      → SaysAfter ticks r (each_later least (most - least) (implied (kernel One t) (form_of property)))
+      a s
 
 -- The two sides can be sides of an assertion, which is the rewriting of the property.
 pub record IsRewriting (bound : ℕ) (property : Property) (a s : Written Condition) : Type 0 where

@@ -4,8 +4,10 @@ ghost use Rattle.std.specs.Prelude.{IfOk};
 ghost use Rattle.import_properties.specs.Shapes.{written_form};
 ghost use Rattle.import_rewriting.specs.Rewriting.{SaysIn, SaysImplies};
 
-use crate::join::{at_each, at_some, conjunction, disjunction, implication, sequence_in};
-use crate::join::{choice, waiting, with_tick};
+use crate::join::{
+    at_each, at_some, choice, conjunction, disjunction, implication, sequence_in, waiting,
+    with_tick,
+};
 use crate::make::{boxed, guarded, later};
 use crate::measure::{boolean_of, check_antecedent};
 use crate::refusal::Refusal;

@@ -12,8 +12,7 @@ ghost use Rattle.import_rewriting.specs.Senses.{JoinsBoth, JoinsEither, JoinsImp
 ghost use Rattle.import_rewriting.specs.Senses.{JoinsEach, JoinsSome, in_sense};
 
 use crate::ends::ends_of;
-use crate::make::{both, boxed, copy_of, each_later, either, followed, guarded, made};
-use crate::make::some_later;
+use crate::make::{both, boxed, copy_of, each_later, either, followed, guarded, made, some_later};
 use crate::measure::{can_match, check_consequent};
 use crate::refusal::Refusal;
 use crate::sense::Sense;

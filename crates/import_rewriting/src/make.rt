@@ -126,11 +126,7 @@ pub(crate) fn both(
 }
 
 /// The body, so many ticks later.
-pub(crate) fn later(
-    alloc: Global,
-    count: u8,
-    body: Box<Sequence>,
-) -> Result<Box<Sequence>, Refusal>
+pub(crate) fn later(alloc: Global, count: u8, body: Box<Sequence>) -> Result<Box<Sequence>, Refusal>
     ensures { IfOk result (λ b. (bound : ℕ) (p : Form Condition)
         → Says bound p (written_form body.value)
         → Says bound (later count p) (written_form b.value)) }

@@ -167,11 +167,7 @@ fn sides_alone(
 /// An assertion of the profile that comes to what the property does: it fails at the same tick, and
 /// holds, vacuously or not, where the property is good, at the same tick. Where the property has
 /// an `until`, that is so while no more than `bound` ticks are seen from the attempt's first one.
-pub fn rewritten(
-    alloc: Global,
-    bound: u8,
-    property: &Property,
-) -> Result<Rewriting, Refusal>
+pub fn rewritten(alloc: Global, bound: u8, property: &Property) -> Result<Rewriting, Refusal>
     ensures { IfOk result (λ r. IsRewriting bound property.now
         (written_form r.antecedent.value) (written_form r.consequent.value)) }
 {

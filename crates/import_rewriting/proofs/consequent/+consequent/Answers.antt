@@ -1,13 +1,12 @@
 use Rattle.std.proofs.Common.{inl, inr, ap, sym, ◌∙◌, subst}
 use Rattle.std.proofs.lemmas.Result.{IfOk-weaker}
-use Rattle.assertions.specs.Segments as kernel
 use Rattle.assertions.specs.Written.{boolean}
 use Rattle.import_properties.specs.Properties.{form_of, negated, either, both, implied, followed}
 use Rattle.import_properties.specs.declared.property.Property as tree
 use Rattle.import_properties.specs.Shapes.{written_form}
 use Rattle.import_rewriting.specs.declared.sense.Sense.TheVariants.{Kept}
 use Rattle.import_rewriting.specs.Sides.{Says}
-use Rattle.import_rewriting.specs.Senses.{in_sense, JoinsImplied, JoinsEach, JoinsSome}
+use Rattle.import_rewriting.specs.Senses.{in_sense, JoinsImplied}
 use Rattle.import_rewriting.specs.Rewriting.{SaysIn, SaysImplies}
 use Rattle.import_rewriting.proofs.SaysLaws.{says_as}
 use Rattle.import_rewriting.proofs.ConsequentLaws.{says_opposite, says_followed_by, says_later_in}

@@ -1,4 +1,4 @@
-use Rattle.std.proofs.Common.{rules, ◌≡◌, ◌-◌, false, ap, sym, ◌∙◌, subst, arith}
+use Rattle.std.proofs.Common.{rules, ◌≡◌, false, ap, sym, ◌∙◌, subst, arith}
 use Rattle.std.proofs.lemmas.Result.{IfOk-weaker}
 use Rattle.assertions.specs.Written.{IsOrdered}
 use Rattle.assertions.specs.Emptiness.{admits_empty}
@@ -90,8 +90,13 @@ pub ends_of_repetition-ends_of_repetition-requires :
     goal.ends_of_repetition-ends_of_repetition-requires
 ends_of_repetition-ends_of_repetition-requires t c = (
   search rules,
-  (c.requires.ordered, (c.requires.some,
-  (omega (arith, c.requires.range, c.saturating_sub.ensures), omega (arith, c.requires.ends, c.if-most-eq1.false)))),
+  (
+    c.requires.ordered,
+    (
+      c.requires.some,
+      (omega (arith, c.requires.range, c.saturating_sub.ensures), omega (arith, c.requires.ends, c.if-most-eq1.false)),
+    ),
+  ),
 )
 
 pub ends_of_repetition-returns-then-least-gt1 : goal.ends_of_repetition-returns-then-least-gt1

@@ -6,7 +6,7 @@ use Rattle.import_properties.specs.Properties.{followed}
 use Rattle.import_properties.specs.Shapes.{written_form}
 use Rattle.import_rewriting.proofs.EndsLaws.{Ends}
 use Rattle.import_rewriting.specs.Sides.{Says}
-use Rattle.import_rewriting.proofs.JoinLaws.{Followed, kept_implied, negated_implied}
+use Rattle.import_rewriting.proofs.JoinLaws.{kept_implied, negated_implied}
 use Rattle.import_rewriting.proofs.join.implication.Goals as goal
 
 pub returns-in-Kept : goal.returns-in-Kept

@@ -1,8 +1,7 @@
 use Rattle.std.proofs.Common.{ap, sym, ◌∙◌, subst}
 use Rattle.std.proofs.lemmas.Result.{IfOk-weaker}
-use Rattle.assertions.specs.Written.{kernel, boolean}
+use Rattle.assertions.specs.Written.{kernel}
 use Rattle.import_properties.specs.declared.condition.Condition.TheVariants.{One}
-use Rattle.import_properties.specs.declared.property.Property as tree
 use Rattle.import_properties.specs.Properties.{form_of, implied}
 use Rattle.import_properties.specs.Shapes.{written_form}
 use Rattle.import_rewriting.specs.Rewriting.{AreSides, AreSidesLater, SaysAfter, IsOpen}

@@ -1,7 +1,7 @@
 use Rattle.std.proofs.Common.{ap, sym, ◌∙◌, subst}
 use Rattle.std.proofs.lemmas.Result.{IfOk-weaker}
 use Rattle.assertions.specs.Emptiness.{admits_empty}
-use Rattle.assertions.specs.Written.{boolean, lead, delay}
+use Rattle.assertions.specs.Written.{boolean, lead}
 use Rattle.import_properties.specs.declared.condition.Condition.TheVariants.{One}
 use Rattle.import_properties.specs.Shapes.{written_form}
 use Rattle.import_rewriting.specs.Rewriting.{EndsLater}
