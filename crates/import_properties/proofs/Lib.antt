@@ -1,0 +1,5 @@
+pub mod LetterLaws
+pub mod OutcomeLaws
+pub mod FormLaws
+pub mod RowLaws
+pub mod ProfileLaws

@@ -1,0 +1,4 @@
+pub mod Sides
+pub mod Senses
+pub mod Ends
+pub mod Rewriting
