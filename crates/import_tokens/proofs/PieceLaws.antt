@@ -10,7 +10,8 @@ Makes text at pieces = (rest : List Piece) → AreFrom text at rest → AreFrom 
 pub piece_more : {text : List ℕ} {at to : ℕ} {piece : Piece} (before after : List Piece) → after ≡ before ++ piece ∷ []
     → IsPiece text at to piece → Makes text at before → Makes text to after
 piece_more {text = text} {piece = piece} before after e is so_far rest h =
-    let grouped : before ++ (piece ∷ rest) ≡ (before ++ piece ∷ []) ++ rest = sym (append_assoc before (piece ∷ []) rest) in
+    let grouped : before ++ (piece ∷ rest) ≡ (before ++ piece ∷ []) ++ rest =
+    sym (append_assoc before (piece ∷ []) rest) in
     subst (λ (ps : List Piece). AreFrom text 0 (ps ++ rest)) (sym e)
     (subst (λ (ps : List Piece). AreFrom text 0 ps) grouped (so_far (piece ∷ rest) (more is h)))
 

@@ -1,4 +1,5 @@
--- What stands between tokens: white space, comments and attributes (IEEE 1800-2017, 5.3, 5.4, 5.12).
+-- What stands between tokens: white space, comments and attributes (IEEE 1800-2017, 5.3, 5.4 and
+-- 5.12).
 use Rattle.std.specs.Prelude.{◌≡◌, ℕ, ◌+◌, ◌-◌, ◌<◌, ◌≤◌, ◌||◌, ◌&&◌, ◌==◌, nat_le, Bool, List}
 use Rattle.std.specs.Prelude.{slice_index, IsTrue}
 

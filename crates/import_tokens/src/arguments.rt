@@ -102,7 +102,8 @@ pub(crate) fn arguments_at<'a>(
     bracket: usize,
 ) -> Result<Option<Arguments<'a>>, AllocError>
     ensures after { IfOk result (λ found. IfSome found (λ arguments. bracket < arguments.after)) }
-    ensures inside { IfOk result (λ found. IfSome found (λ arguments. arguments.after ≤ length pieces.now)) }
+    ensures inside { IfOk result (λ found. IfSome found (λ arguments.
+        arguments.after ≤ length pieces.now)) }
 {
     let mut texts = Vec::new(alloc);
     let Some(Symbol::OpenRound) = symbol_at(pieces, bracket) else {

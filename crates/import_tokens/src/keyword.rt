@@ -1,7 +1,7 @@
 //! Keywords.
 
-/// A word that the language keeps for itself (IEEE 1800-2017, annex B): those by which declarations,
-/// assertions and what is skipped between them are told. The others are plain words here.
+/// A word that the language keeps for itself (IEEE 1800-2017, annex B): those by which
+/// declarations, assertions and what is skipped between them are told. The others are plain words.
 #[derive(Clone, Copy, PartialEq, Eq)]
 pub enum Keyword {
     AcceptOn,
