@@ -28,7 +28,8 @@ pub loop-index-preserved : goal.loop-index-preserved
 loop-index-preserved c =
     over_a_mark _ c.in_ok-pieces.pieces.items c.loop-index.index c.step_in-step.result.after
     c.loop-index.tokens.items _ c.index.result.now c.loop-index.invariant (omega (arith, c.len.ensures)) c.index.ensures
-    c.step_in-step.ensures.0 (omega (arith, c.len-in-Directive.ensures, c.step_in-step.ensures.1)) c.in_ok-add_remains-in-Directive.ensures
+    c.step_in-step.ensures.0
+    (omega (arith, c.len-in-Directive.ensures, c.step_in-step.ensures.1)) c.in_ok-add_remains-in-Directive.ensures
     shapes.Directive c.in-Directive.is (λ from to h. h)
 
 pub returns-clause-tokens : goal.returns-clause-tokens
