@@ -1,0 +1,161 @@
+//! Runs of bytes.
+
+ghost use Rattle.std.specs.Prelude.{◌≡◌, ℕ, ◌+◌, ◌-◌, ◌<◌, ◌≤◌, length, slice_index, IfSome, false};
+ghost use Rattle.std.specs.Bool.{OnTrue};
+ghost use Rattle.import_tokens.specs.Gaps.{is_white, is_name_part, IsRun, StaysOnLine, HasPair};
+
+/// A class of bytes.
+#[derive(Clone, Copy)]
+pub(crate) enum Class {
+    /// Not white space, as in escaped identifiers.
+    Visible,
+    /// Of a decimal number.
+    Digit,
+    Binary,
+    Octal,
+    Hexadecimal,
+    /// A digit that stands for x or z.
+    Unknown,
+}
+
+pub(crate) fn is_white(byte: u8) -> bool
+    ensures { result ≡ is_white byte }
+{
+    byte == b' ' || byte >= b'\t' && byte <= b'\r'
+}
+
+pub(crate) fn is_letter(byte: u8) -> bool {
+    byte >= b'a' && byte <= b'z' || byte >= b'A' && byte <= b'Z' || byte == b'_'
+}
+
+pub(crate) fn is_digit(byte: u8) -> bool {
+    byte >= b'0' && byte <= b'9'
+}
+
+pub(crate) fn is_name_part(byte: u8) -> bool
+    ensures { result ≡ is_name_part byte }
+{
+    byte >= b'a' && byte <= b'z'
+        || byte >= b'A' && byte <= b'Z'
+        || byte >= b'0' && byte <= b'9'
+        || byte == b'_'
+        || byte == b'$'
+}
+
+fn is_unknown(byte: u8) -> bool {
+    byte == b'x' || byte == b'X' || byte == b'z' || byte == b'Z' || byte == b'?' || byte == b'_'
+}
+
+fn is_letter_digit(byte: u8) -> bool {
+    byte >= b'a' && byte <= b'f' || byte >= b'A' && byte <= b'F'
+}
+
+fn is_in(class: Class, byte: u8) -> bool {
+    match class {
+        Class::Visible => !is_white(byte),
+        Class::Digit => is_digit(byte) || byte == b'_',
+        Class::Binary => byte == b'0' || byte == b'1' || is_unknown(byte),
+        Class::Octal => byte >= b'0' && byte <= b'7' || is_unknown(byte),
+        Class::Hexadecimal => is_digit(byte) || is_letter_digit(byte) || is_unknown(byte),
+        Class::Unknown => is_unknown(byte),
+    }
+}
+
+/// Where the bytes end that are of the class.
+pub(crate) fn run_end(text: &[u8], start: usize, class: Class) -> usize
+    requires { start ≤ length text.now }
+    ensures { (start ≤ result) × (result ≤ length text.now) }
+{
+    for at in start..text.len() {
+        if !is_in(class, text[at]) {
+            return at;
+        }
+    }
+    text.len()
+}
+
+pub(crate) fn white_end(text: &[u8], start: usize) -> usize
+    requires { start ≤ length text.now }
+    ensures inside { (start ≤ result) × (result ≤ length text.now) }
+    ensures run { IsRun is_white text.now start result }
+{
+    for at in start..text.len() {
+        if !is_white(text[at]) {
+            return at;
+        }
+    }
+    text.len()
+}
+
+/// Where the name ends.
+pub(crate) fn name_end(text: &[u8], start: usize) -> usize
+    requires { start ≤ length text.now }
+    ensures inside { (start ≤ result) × (result ≤ length text.now) }
+    ensures run { IsRun is_name_part text.now start result }
+    ensures whole { result < length text.now → is_name_part (slice_index text.now result) ≡ false }
+{
+    for at in start..text.len() {
+        if !is_name_part(text[at]) {
+            return at;
+        }
+    }
+    text.len()
+}
+
+/// Whether the two bytes stand there.
+pub(crate) fn is_pair(text: &[u8], at: usize, first: u8, second: u8) -> bool
+    requires { at < length text.now }
+    ensures { OnTrue result ((at + 2 ≤ length text.now) × HasPair text.now at first second) }
+{
+    if text.len() - at < 2 {
+        return false;
+    }
+    text[at] == first && text[at + 1] == second
+}
+
+/// The byte there, or 0 at the text's end.
+pub(crate) fn byte_at(text: &[u8], at: usize) -> u8 {
+    match text.get(at) {
+        Some(byte) => *byte,
+        None => 0,
+    }
+}
+
+/// The end of the line, or where it goes on by a backslash.
+pub(crate) fn line_end(text: &[u8], start: usize) -> usize
+    requires { start ≤ length text.now }
+    ensures inside { (start ≤ result) × (result ≤ length text.now) }
+    ensures stays { StaysOnLine text.now start result }
+{
+    for at in start..text.len() {
+        if text[at] == b'\n' || goes_on(text, at) {
+            return at;
+        }
+    }
+    text.len()
+}
+
+/// Whether a backslash stands there at the end of a line.
+pub(crate) fn goes_on(text: &[u8], at: usize) -> bool
+    requires { at < length text.now }
+    ensures { OnTrue result (slice_index text.now at ≡ 92) }
+{
+    text[at] == b'\\'
+        && (byte_at(text, at.saturating_add(1)) == b'\n'
+            || byte_at(text, at.saturating_add(1)) == b'\r'
+                && byte_at(text, at.saturating_add(2)) == b'\n')
+}
+
+/// The end of the first such pair.
+pub(crate) fn close_of(text: &[u8], start: usize, first: u8, second: u8) -> Option<usize>
+    requires { start ≤ length text.now }
+    ensures inside { IfSome result (λ end. (start + 2 ≤ end) × (end ≤ length text.now)) }
+    ensures pair { IfSome result (λ end. HasPair text.now (end - 2) first second) }
+{
+    for at in start..text.len() {
+        if is_pair(text, at, first, second) {
+            return Some(at + 2);
+        }
+    }
+    None
+}

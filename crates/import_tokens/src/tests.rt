@@ -1,0 +1,88 @@
+//! What no clause says of tokens: how they are cut, and what directives make.
+
+use super::*;
+use std::alloc::Global;
+use std::test::Fail;
+
+/// The tokens of a text, each with a space after it.
+fn read(alloc: Global, text: &[u8]) -> Result<Vec<u8>, TokenFault> {
+    let mut macros = Macros::new(alloc);
+    macros.define(b"SIZE", b"8")?;
+    let expansions = Expansions::of(alloc, text, &mut macros)?;
+    let tokens = expansions.tokens(alloc)?;
+    let mut out = Vec::new(alloc);
+    for token in tokens.iter() {
+        out.extend_from_slice(token.text)?;
+        out.push(b' ')?;
+    }
+    Ok(out)
+}
+
+/// A text, and its tokens by clauses 5 and 22 of the standard, with a space after each.
+fn case(row: usize) -> (&'static [u8], &'static [u8]) {
+    match row {
+        0 => (
+            b"a|->##[1:$]b_1$ /* c */ // d\n(* e *) f",
+            b"a |-> ## [ 1 : $ ] b_1$ f  ",
+        ),
+        1 => (
+            b"4'b1?0x 16 'hFf 'd3 '1 1.5 2e3 10ns 'h ",
+            b"4'b1?0x 16 'hFf 'd3 '1 1.5 2e3 10ns ' h  ",
+        ),
+        2 => (
+            b"\\a+b c \"s \\\" t\" $past(x) @(*) x",
+            b"\\a+b c \"s \\\" t\" $past ( x ) @ ( * ) x  ",
+        ),
+        3 => (
+            b"`define A(x, y = 2) (x + y)\n`A(1) `A(b, {c, d})",
+            b"( 1 + 2 ) ( b + { c , d } )  ",
+        ),
+        4 => (b"`define P(n) n``_q \\\n  `\"n`\"\n`P(a)", b"a_q \"a\"  "),
+        5 => (
+            b"`ifdef SIZE\nw\n`else\nv\n`endif `ifndef SIZE x `elsif SIZE y `else z `endif t",
+            b"w y t  ",
+        ),
+        6 => (
+            b"`define B `C\n`define C c\n`undef SIZE\n`B `SIZE `timescale 1ns/1ns\nu",
+            b"c `SIZE u  ",
+        ),
+        7 => (
+            b"`define R `R\n`R `define Q(a) a\n`Q `Q(1,2) e",
+            b"`R `Q `Q ( 1 , 2 ) e  ",
+        ),
+        8 => (
+            b"[*1:2] [->2] [=3] #-# |=> <-> <<< ==? +: '{ '(",
+            b"[* 1 : 2 ] [-> 2 ] [= 3 ] #-# |=> <-> <<< ==? +: '{ '(  ",
+        ),
+        _ => (b"`include \"f.svh\"\nx \xff `S", b"`include x \xff `S  "),
+    }
+}
+
+#[test]
+fn cuts_texts(rt: HostRuntime) -> Result<(), Fail> {
+    for row in 0..10 {
+        let (text, wanted) = case(row);
+        let found = read(rt.alloc(), text)?;
+        assert!(rt; found.as_slice() == wanted, "row {row}");
+    }
+    Ok(())
+}
+
+#[test]
+fn tells_faults(rt: HostRuntime) -> Result<(), Fail> {
+    let alloc = rt.alloc();
+    let open = read(alloc, b"a /* b").is_err();
+    assert!(rt; open);
+    let place = place_of(b"a\nbc\n d", 6);
+    assert!(rt; place.line == 3 && place.column == 2);
+    let mut macros = Macros::new(alloc);
+    let text = b"`define D(x) x x x x\n`D(`D(`D(a)))\n  `N";
+    let expansions = Expansions::of(alloc, text, &mut macros)?;
+    let tokens = expansions.tokens(alloc)?;
+    assert!(rt; tokens.len() == 66);
+    let made = tokens[0].made && tokens[0].at == 21 && tokens[63].at == 21;
+    assert!(rt; made);
+    let unknown = tokens[64].kind == Kind::Macro(MacroFault::Unknown) && tokens[64].at == 37;
+    assert!(rt; unknown);
+    Ok(())
+}
