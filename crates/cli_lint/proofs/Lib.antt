@@ -1,2 +1,3 @@
 pub mod FrontLaws
 pub mod PathLaws
+pub mod TellLaws

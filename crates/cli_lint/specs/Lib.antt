@@ -1,3 +1,4 @@
 pub mod Dumps
 pub mod Refused
 pub mod Rests
+pub mod Tells

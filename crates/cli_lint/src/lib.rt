@@ -14,11 +14,12 @@
 //! assertion. So does `rest_over`.
 //!
 //! The definitions: which texts are accepted, and at which byte others are refused, in
-//! `specs/Refused.antt`; what is left of a text in `specs/Rests.antt`; what is told of all items,
-//! and its text, in `linting`.
+//! `specs/Refused.antt`; what is left of a text in `specs/Rests.antt`; the text that tells of
+//! refusals, and what `lint_one` comes to, in `specs/Tells.antt`; what is told of all items, and
+//! of a refusal, in `linting`.
 //!
-//! Not promised: what a message says after its code, that the text is written without a failure,
-//! and that a text is compiled: faults of programs (K) aren't told.
+//! Not promised: what a message says after its code, which fault `lint_one` tells, and that a text
+//! is compiled: faults of programs (K) aren't told.
 #![tactic(auto)]
 
 mod dump_paths;
@@ -27,6 +28,7 @@ mod fault;
 mod front;
 mod lint;
 mod messages;
+mod refusals;
 #[cfg(test)]
 mod tests;
 

@@ -1,19 +1,23 @@
 //! The call of the command `lint`.
 
-ghost use Rattle.std.specs.Prelude.{◌≡◌, ℕ, List, [], map, IfOk, IfSome, IsOk};
+ghost use Rattle.std.specs.Prelude.{◌≡◌, ℕ, List, [], map, length, IfOk, IfSome, OnOk, IsOk};
+ghost use Rattle.std.specs.Prelude.{false, string_bytes};
+ghost use Rattle.std.specs.Io.KnownBytes.{Appends};
 ghost use Rattle.lexer.specs.Cutting.{tokens_of};
 ghost use Rattle.linting.specs.Items.{AreItemEnds};
 ghost use Rattle.linting.specs.Linted.{IsTold};
 ghost use Rattle.vcd_reader.specs.Held.{variables_of};
 ghost use Rattle.cli_lint.specs.Refused.{IsAccepted, IsRefused};
 ghost use Rattle.cli_lint.specs.Rests.{IsLeft, IsRest};
+ghost use Rattle.cli_lint.specs.Tells.{TellsRefusals, IsLinted};
 
 use crate::dump_paths::names_of;
 use crate::fault::LintFault;
 use crate::front::DumpFront;
-use linting::{Linted, Refusal, item_ends, lint, push_refusal, push_total};
+use crate::refusals::text_of;
+use linting::{Linted, item_ends, lint};
 use signals::{Sink, Source, write_all};
-use source_files::{Origin, Part, spot_in};
+use source_files::{Origin, Part};
 use std::alloc::{AllocError, Global};
 use vcd_reader::{Dump, read_dump};
 use verdicts::ReportFault;
@@ -33,7 +37,7 @@ pub fn lint_over(
     names: &[String],
     text: &str,
 ) -> Result<Told, AllocError>
-    ensures told { IfOk result (λ t. (ends : List ℕ)
+    ensures told { IfOk result (λ t. (ends : List ℕ) × (length ends ≡ t.items)
         × (IsOk (tokens_of text.now) → AreItemEnds text.now ends)
         × IsTold (IsRefused (variables_of dump.now)) ends text.now
         (map (λ r. r.at) t.linted.refusals.items) t.linted.rest) }
@@ -55,39 +59,6 @@ pub fn lint_over(
     })
 }
 
-/// Adds what is told of a refusal, by the file in which it stands.
-fn push_told(out: &mut String, origin: &Origin<'_>, refusal: &Refusal) -> Result<(), AllocError> {
-    let spot = spot_in(origin, refusal.at);
-    let message = refusal.message.as_str();
-    match origin.parts.get(spot.part) {
-        Some(part) => push_refusal(
-            out,
-            part.path.as_str(),
-            part.text.as_str(),
-            spot.at,
-            message,
-        ),
-        None => push_refusal(out, "", "", spot.at, message),
-    }
-}
-
-/// The text that tells of refusals, in the order of their places.
-fn text_of(
-    alloc: Global,
-    origin: &Origin<'_>,
-    refusals: &mut Vec<Refusal>,
-    items: usize,
-) -> Result<String, AllocError> {
-    refusals.sort_by_key(|refusal| refusal.at)?;
-    let mut out = String::new(alloc);
-    for refusal in refusals.iter() {
-        push_told(&mut out, origin, refusal)?;
-    }
-    let count = refusals.len();
-    push_total(&mut out, count, items.max(count))?;
-    Ok(out)
-}
-
 /// What is told of a text: how much of it is refused, and the text without that.
 #[derive(Drop)]
 pub struct Rest {
@@ -107,6 +78,8 @@ pub fn rest_over(
     text: &str,
     origin: &Origin<'_>,
 ) -> Result<Rest, AllocError>
+    ensures tells { IfOk result (λ r. TellsRefusals (variables_of dump.now) text.now
+        origin.now.parts.now origin.now.added.now r.refused (string_bytes r.told) r.text) }
     ensures rest { IfOk result (λ r.
         IsRest (variables_of dump.now) text.now r.refused r.text) }
     ensures accepted { IfOk result (λ r. r.refused ≡ 0
@@ -121,6 +94,21 @@ pub fn rest_over(
         refused,
         text: told.linted.rest,
     })
+}
+
+/// Writes what is told, and hands it on.
+fn write_told<W: Sink>(out: &mut W, told: &str) -> Result<(), LintFault>
+    ensures written { OnOk result
+        (Appends (W.state out.old).contents (W.state out.new).contents told.now) }
+    ensures flushed { OnOk result ((W.state out.new).keeps_back ≡ false) }
+{
+    if write_all(out, told.as_bytes()).is_err() {
+        return Err(LintFault::Report(ReportFault::Write));
+    }
+    match out.flush() {
+        Ok(()) => Ok(()),
+        Err(_) => Err(LintFault::Report(ReportFault::Write)),
+    }
 }
 
 /// Tells all refusals of a text over the dump that a source gives, in the order of their places:
@@ -138,12 +126,13 @@ pub fn lint_one<S: Source, W: Sink>(
     text: &str,
     parts: &[Part],
     out: &mut W,
-) -> Result<u64, LintFault> {
+) -> Result<u64, LintFault>
+    ensures { IfOk result (IsLinted text.now parts.now (S.state source.old) (S.state source.new)
+        (W.state out.old) (W.state out.new)) }
+{
     let dump = read_dump(alloc, source)?;
     let origin = Origin { parts, added: &[] };
     let rest = rest_over(alloc, &dump, text, &origin)?;
-    if write_all(out, rest.told.as_bytes()).is_err() || out.flush().is_err() {
-        return Err(LintFault::Report(ReportFault::Write));
-    }
+    write_told(out, rest.told.as_str())?;
     Ok(rest.refused as u64)
 }

@@ -1,0 +1,18 @@
+use Rattle.std.proofs.Common.{◌∙◌, ℕ, string_bytes, sym, subst}
+use Rattle.cli_lint.specs.Tells.{TellsAll}
+use Rattle.cli_lint.proofs.lint.rest_over.Goals as goal
+
+pub returns-clause-tells : goal.returns-clause-tells
+returns-clause-tells c =
+    let origin = c.args.origin.now in
+    let told = c.in_ok-told.told in
+    let looked = c.in_ok-told.ensures.told in
+    record {
+      ends = looked.0;
+      items = looked.2;
+      refusals = told.linted.refusals.items;
+      told_of = looked.3;
+      many = sym (c.len-refused.ensures ∙ told.linted.refusals.ok.0);
+      tells = subst (λ (n : ℕ). TellsAll origin.parts.now origin.added.now told.linted.refusals.items n
+          (string_bytes c.in_ok-written.written)) (sym looked.1) c.in_ok-written.ensures;
+    }
