@@ -2,7 +2,8 @@
 use Rattle.std.proofs.Common.{◌≡◌, inl, inr, ◌⊎◌, ℕ, zero, suc, ◌+◌, ◌-◌, ◌<◌, ◌≤◌, Bool, true, false, not}
 use Rattle.std.proofs.Common.{nat_le, max, refl, sym, ◌∙◌, subst, arith}
 use Rattle.std.specs.Prelude.{nat_lt, IsTrue}
-use Rattle.std.proofs.lemmas.Bool.{or_cases, or_left, or_right, and_parts, and_from, cases_lt, cases_eq, cases_Bool, both_ways}
+use Rattle.std.proofs.lemmas.Bool.{or_cases, or_left, or_right, and_parts, and_from, cases_lt, cases_eq, cases_Bool}
+use Rattle.std.proofs.lemmas.Bool.{both_ways}
 use Rattle.std.proofs.lemmas.Bool.{leb-true, le-leb, ltb-true, lt-ltb, not-true, not_from_false}
 use Rattle.assertions.specs.Segments.{Seq, one, chop, fuse, sat, Matches}
 use Rattle.assertions.specs.Segments as kernel
@@ -174,7 +175,8 @@ not_not : (b : Bool) → not (not b) ≡ b
 not_not true = refl
 not_not false = refl
 
-value-negation : (leaves : ℕ → ℕ → Bool) (b : Condition) (k : ℕ) → value_of leaves (negation b) k ≡ not (value_of leaves b k)
+value-negation : (leaves : ℕ → ℕ → Bool) (b : Condition) (k : ℕ) → value_of leaves (negation b) k
+    ≡ not (value_of leaves b k)
 value-negation leaves One k = refl
 value-negation leaves Zero k = refl
 value-negation leaves (Leaf place) k = refl
@@ -231,8 +233,11 @@ pub implied-one : (b : Condition) (p : Form Condition)
     → ComesToSame (implied (one b) p) (either (sequence (one (negation b))) p)
 implied-one b p leaves n failed c = (
   λ x.
-      let here : x.0 ≡ c = omega (arith, x.2.0) in
-      (λ j some match. seen_not_free leaves n b c x.2.1 match.1, subst (λ e. ComesTo (value_of leaves) n p failed e) here x.3),
+      let here : x.0 ≡ c = omega (arith, x.2.0) in (
+        λ j some match. seen_not_free leaves n b c x.2.1 match.1,
+        subst (λ e. ComesTo (value_of leaves) n p failed e)
+            here x.3,
+      ),
   λ x. elim (seen_or_free leaves n b c) [
     | inl seen ↦ (c, omega arith, (refl, seen), x.1)
     | inr free ↦ absurd (x.0 (c + 1) (omega arith) (refl, free))
@@ -369,7 +374,8 @@ implied-delay r t first more p some_r some_t leaves n failed c = (
         e,
         omega (arith, x.1, f.3.1),
         Matches-sat-unsat Condition (value_of leaves) n (one_of first more (written.after One r t)) c (e + 1) ends
-            (one_of-matches Condition (sat (value_of leaves) n) (written.after One r t) first more c (e + 1) f.0 f.1 f.2 joined),
+            (one_of-matches Condition (sat (value_of leaves) n) (written.after One r t) first more c (e + 1) f.0 f.1
+            f.2 joined),
         f.3.3,
       ),
 )
@@ -397,7 +403,8 @@ implied-lead t first more p some_t leaves n failed c = (
   λ x.
       let f = each_later-found (value_of leaves) n (implied t p) first more c x in
       let e = f.3.0 in
-      let ends : e + 1 ≤ n = unsat-ends Condition (value_of leaves) n t (c + f.0) (e + 1) (omega (arith, f.3.1)) f.3.2 in (
+      let ends : e + 1 ≤ n =
+      unsat-ends Condition (value_of leaves) n t (c + f.0) (e + 1) (omega (arith, f.3.1)) f.3.2 in (
         e,
         omega (arith, f.3.1),
         Matches-sat-unsat Condition (value_of leaves) n (one_of first more (written.later One t)) c (e + 1) ends

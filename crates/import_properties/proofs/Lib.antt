@@ -3,3 +3,4 @@ pub mod OutcomeLaws
 pub mod FormLaws
 pub mod RowLaws
 pub mod ProfileLaws
+pub mod UntilLaws

@@ -71,7 +71,11 @@ module _ (leaves : ℕ → ℕ → Bool) (n c : ℕ) (r s : Seq Condition) (some
       elim (cases_Bool (some_in c n (λ e. is_match (sat (value_of leaves) n) r c (e + 1)))) [
         | inl on ↦
             let f = some_in-found c n (λ e. is_match (sat (value_of leaves) n) r c (e + 1)) on in
-            inl ((f.0, (f.1, f.2, is_match-Matches Condition (sat (value_of leaves) n) r c (f.0 + 1) f.3)), kept x, over begun x)
+            inl (
+              (f.0, (f.1, f.2, is_match-Matches Condition (sat (value_of leaves) n) r c (f.0 + 1) f.3)),
+              kept x,
+              over begun x,
+            )
         | inr off ↦ inr (
           λ e end. both_ways _ off (some_in-true c n (λ e. is_match (sat (value_of leaves) n) r c (e + 1)) e end.0 end.1
               (Matches-is_match Condition (sat (value_of leaves) n) r c (e + 1) end.2)),

@@ -1,5 +1,6 @@
 -- Forms of properties, as sequences that come to the same.
-use Rattle.std.proofs.Common.{◌≡◌, inl, inr, ◌⊎◌, ℕ, zero, suc, ◌+◌, ◌-◌, ◌<◌, ◌≤◌, Bool, false, refl, sym, subst, arith}
+use Rattle.std.proofs.Common.{◌≡◌, inl, inr, ◌⊎◌, ℕ, zero, suc, ◌+◌, ◌-◌, ◌<◌, ◌≤◌, Bool, false, refl, sym, subst}
+use Rattle.std.proofs.Common.{arith}
 use Rattle.std.specs.Prelude.{IsTrue, nat_lt, nat_le}
 use Rattle.std.proofs.lemmas.Bool.{cases_lt, cases_eq, cases_Bool, both_ways, and_parts, ltb-true, or_left, le-leb}
 use Rattle.std.proofs.lemmas.Bool.{or_cases, leb-true}
@@ -14,9 +15,11 @@ use Rattle.import_properties.specs.Properties.{Form, sequence, negated, either, 
 use Rattle.import_properties.specs.Properties.{followed, chosen, later, strong_later, each_later, some_later}
 use Rattle.import_properties.specs.Outcomes.{ComesTo, ComesToSame, ComesToSameWithin, failed, good}
 use Rattle.import_properties.proofs.LetterLaws.{unsat-ends, unsat-sat, sat-unsat}
-use Rattle.import_properties.proofs.FormLaws.{within, same-next, same-both, same-either, same-negated, same-implied, sequence-later}
+use Rattle.import_properties.proofs.FormLaws.{within, same-next, same-both, same-either, same-negated, same-implied}
+use Rattle.import_properties.proofs.FormLaws.{sequence-later}
 use Rattle.import_properties.proofs.FormLaws.{sequence-either, TakesTicks, takes, each_later-found, found-each_later}
-use Rattle.import_properties.proofs.FormLaws.{each_later-each, each-each_later, later-at, at-later, seen_or_free, seen_not_free}
+use Rattle.import_properties.proofs.FormLaws.{each_later-each, each-each_later, later-at, at-later, seen_or_free}
+use Rattle.import_properties.proofs.FormLaws.{seen_not_free}
 use Rattle.import_properties.proofs.FormLaws.{free_or_seen, free_not_seen}
 
 -- a match of s may still come, from each tick that wasn't seen
@@ -292,7 +295,8 @@ module _ (bound : ℕ) (b : Condition) (s : Seq Condition) (some_s : TakesTicks 
       let up_to : (m : ℕ) → c ≤ m → m ≤ k → ComesTo (value_of leaves) n (sequence s) failed m =
       λ m after to. elim (cases_lt m k) [
         | inl before ↦ broken m after before
-        | inr last ↦ let e : k ≡ m = omega arith in subst (λ m. ComesTo (value_of leaves) n (sequence s) failed m) e here
+        | inr last ↦ let e : k ≡ m =
+            omega arith in subst (λ m. ComesTo (value_of leaves) n (sequence s) failed m) e here
       ] in
       elim (cases_Bool (sat (value_of leaves) n b k)) [
         | inl on ↦ elim (cases_lt k n) [
@@ -349,7 +353,11 @@ module _ (bound : ℕ) (b : Condition) (s : Seq Condition) (some_s : TakesTicks 
         m,
         omega (arith, length),
         (x.0, takes s some_s (unsat (value_of leaves) n) m x.0 x.2.2, x.2.2),
-        λ k from below. (k + 1, omega arith, (refl, ones-each (unsat (value_of leaves) n) b chain.0 c m k chain.3 from below)),
+        λ k from below. (
+          k + 1,
+          omega arith,
+          (refl, ones-each (unsat (value_of leaves) n) b chain.0 c m k chain.3 from below),
+        ),
       )
 
 -- p until q for a boolean p, where no more than bound ticks are seen from there: p[*0:bound] ##1 q
@@ -411,7 +419,13 @@ module _ (b : Condition) (s t : Seq Condition) (some_s : TakesTicks s) (some_t :
     | inl below ↦ elim (seen_or_free leaves n b c) [
       | inl seen ↦ inl (c, omega arith, (refl, seen), first_arm (unsat-sat Condition (value_of leaves) n b c seen) x)
       | inr free ↦
-          inr (c, omega arith, (refl, sat-unsat Condition (value_of leaves) n (negation b) c below free), second_arm free x)
+          inr (
+            c,
+            omega arith,
+            (refl, sat-unsat Condition (value_of leaves) n (negation b) c below free),
+            second_arm
+                free x,
+          )
     ]
   ]
 
@@ -651,8 +665,12 @@ implied-times-more r least most p some_r low leaves n failed c = (
   ],
   λ x. elim x.3 [
     | inl a ↦ (x.0, x.1, times-one r some_r (unsat (value_of leaves) n) least most c x.0 low x.2, a)
-    | inr a ↦
-        (a.0, omega (arith, x.1, a.1), times-more r some_r (unsat (value_of leaves) n) least most c x.0 a.0 x.2 a.2, a.3)
+    | inr a ↦ (
+      a.0,
+      omega (arith, x.1, a.1),
+      times-more r some_r (unsat (value_of leaves) n) least most c x.0 a.0 x.2 a.2,
+      a.3,
+    )
   ],
 )
 implied-times-more r least most p some_r low leaves n good c = (

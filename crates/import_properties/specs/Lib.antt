@@ -1,5 +1,6 @@
 pub mod Conditions
 pub mod Shapes
+pub mod Derived
 pub mod Properties
 pub mod Outcomes
 pub mod Laws

@@ -1,4 +1,5 @@
--- Properties over sequences (IEEE 1800-2017, 16.12), by the forms that all others stand for (F.3.4).
+-- Properties over sequences (IEEE 1800-2017, 16.12), by the forms that all others stand for
+-- (F.3.4).
 use Rattle.std.specs.Prelude.{ℕ, zero, suc, ◌+◌, ◌-◌}
 use Rattle.import_properties.specs.declared.condition.Condition.{Condition}
 use Rattle.import_properties.specs.declared.condition.Condition.TheVariants.{One}

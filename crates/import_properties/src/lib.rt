@@ -21,7 +21,8 @@
 //!
 //! The definitions: booleans and their values in `specs/Conditions.antt`; sequences in
 //! `specs/Shapes.antt`, over those of `assertions`; properties, and the seven forms that all others
-//! stand for, in `specs/Properties.antt`; what they come to in `specs/Outcomes.antt`; the laws in
+//! stand for, in `specs/Properties.antt`; `[->m:n]` and `[=m:n]` in `specs/Derived.antt`; what they
+//! come to in `specs/Outcomes.antt`; the laws in
 //! `specs/Laws.antt`.
 //!
 //! Not promised: anything of the standard's vacuity (16.14.8), and that a sequence of a property
@@ -29,11 +30,13 @@
 #![tactic(auto)]
 
 mod condition;
+mod derived;
 mod laws;
 mod property;
 mod sequence;
 
 pub use condition::Condition;
+pub use derived::{goto_repetition, nonconsecutive_repetition};
 pub use laws::{outcome_law, profile_law};
 pub use property::Property;
 pub use sequence::Sequence;
