@@ -1,0 +1,77 @@
+//! The items of a file.
+
+ghost use Rattle.std.specs.Prelude.{◌≡◌, IfOk, length, vec_len};
+ghost use Rattle.import_scopes.specs.Words.{word_places};
+
+use crate::declaration::Declaration;
+use crate::scope::Scope;
+use crate::status::{Assertion, Mark, Note, Status};
+use crate::walker::{Found, Walker};
+use crate::words::words_of;
+use import_tokens::Token;
+use import_trees::Refusal;
+use std::alloc::{AllocError, Global};
+
+/// The items of a file: what becomes of each of its assertions, and what they may name.
+#[derive(Drop)]
+pub struct File<'t> {
+    /// The places of the tokens that begin assertions, in order.
+    pub words: Vec<usize>,
+    /// What becomes of each of them.
+    pub statuses: Vec<Status>,
+    pub scopes: Vec<Scope<'t>>,
+    pub declarations: Vec<Declaration<'t>>,
+    pub assertions: Vec<Assertion<'t>>,
+    pub notes: Vec<Note<'t>>,
+}
+
+/// What becomes of the assertion whose word stands at a place: one that no item takes up stands in
+/// a procedure or an action block.
+fn status_of(word: usize, marks: &[Mark]) -> Status {
+    for mark in marks {
+        if mark.from <= word && word < mark.to {
+            return mark.status;
+        }
+    }
+    Status::Refused(Refusal::Immediate)
+}
+
+/// What becomes of each assertion.
+fn statuses_of(alloc: Global, words: &[usize], marks: &[Mark]) -> Result<Vec<Status>, AllocError>
+    ensures { IfOk result (λ statuses. vec_len statuses ≡ length words.now) }
+{
+    let mut statuses = Vec::new(alloc);
+    for word in words {
+        statuses.push(status_of(*word, marks))?;
+    }
+    Ok(statuses)
+}
+
+impl<'t> File<'t> {
+    /// The items of a file's tokens. Each token that begins an assertion has its status, whatever
+    /// stands round it.
+    pub fn of(alloc: Global, tokens: &'t [Token<'t>]) -> Result<File<'t>, AllocError>
+        ensures words { IfOk result (λ file. file.words.items ≡ word_places 0 tokens.now) }
+        ensures each { IfOk result (λ file. vec_len file.statuses ≡ vec_len file.words) }
+    {
+        let words = words_of(alloc, tokens)?;
+        let mut walker = Walker::new(alloc, tokens)?;
+        walker.walk()?;
+        let Found {
+            scopes,
+            declarations,
+            assertions,
+            notes,
+            marks,
+        } = walker.into_found();
+        let statuses = statuses_of(alloc, words.as_slice(), marks.as_slice())?;
+        Ok(File {
+            words,
+            statuses,
+            scopes,
+            declarations,
+            assertions,
+            notes,
+        })
+    }
+}

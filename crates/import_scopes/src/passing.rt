@@ -1,0 +1,231 @@
+//! Where parts of a file end.
+
+ghost use Rattle.std.specs.Prelude.{◌≤◌, length};
+
+use crate::words::begins_assertion;
+use import_tokens::{Keyword, Kind, Symbol, Token};
+
+pub(crate) fn kind_at(tokens: &[Token], index: usize) -> Kind {
+    match tokens.get(index) {
+        Some(token) => token.kind,
+        None => Kind::End,
+    }
+}
+
+pub(crate) fn is_symbol(tokens: &[Token], index: usize, symbol: Symbol) -> bool {
+    match kind_at(tokens, index) {
+        Kind::Symbol(own) => own == symbol,
+        _ => false,
+    }
+}
+
+pub(crate) fn is_keyword(tokens: &[Token], index: usize, keyword: Keyword) -> bool {
+    match kind_at(tokens, index) {
+        Kind::Keyword(own) => own == keyword,
+        _ => false,
+    }
+}
+
+/// Whether a word ends a scope.
+pub(crate) fn ends_scope(kind: Kind) -> bool {
+    matches!(
+        kind,
+        Kind::Keyword(
+            Keyword::EndModule
+                | Keyword::EndInterface
+                | Keyword::EndProgram
+                | Keyword::EndPackage
+                | Keyword::EndChecker
+        ) | Kind::End
+    )
+}
+
+pub(crate) fn opens(symbol: Symbol) -> bool {
+    matches!(
+        symbol,
+        Symbol::OpenRound
+            | Symbol::OpenCast
+            | Symbol::OpenSquare
+            | Symbol::OpenBrace
+            | Symbol::OpenPattern
+            | Symbol::OpenRepeat
+            | Symbol::OpenGoto
+            | Symbol::OpenNonconsecutive
+    )
+}
+
+pub(crate) fn closes(symbol: Symbol) -> bool {
+    matches!(
+        symbol,
+        Symbol::CloseRound | Symbol::CloseSquare | Symbol::CloseBrace
+    )
+}
+
+/// The depth of brackets after a token.
+fn deeper(depth: u64, kind: Kind) -> u64 {
+    match kind {
+        Kind::Symbol(symbol) if opens(symbol) => depth.saturating_add(1),
+        Kind::Symbol(symbol) if closes(symbol) => depth.saturating_sub(1),
+        _ => depth,
+    }
+}
+
+/// The place after the bracket that closes the one which stands there; the end where none does.
+pub(crate) fn past_brackets(tokens: &[Token], open: usize) -> usize
+    ensures { result ≤ length tokens.now }
+{
+    let mut depth = 0u64;
+    for index in open..tokens.len() {
+        depth = deeper(depth, tokens[index].kind);
+        if depth == 0 {
+            return index + 1;
+        }
+    }
+    tokens.len()
+}
+
+/// The place of the comma, the semicolon or the closing bracket at which a value ends.
+pub(crate) fn value_end(tokens: &[Token], start: usize) -> usize
+    ensures { result ≤ length tokens.now }
+{
+    let mut depth = 0u64;
+    for index in start..tokens.len() {
+        let kind = tokens[index].kind;
+        let ends = match kind {
+            Kind::Symbol(symbol) => {
+                symbol == Symbol::Comma || symbol == Symbol::Semicolon || closes(symbol)
+            }
+            _ => ends_scope(kind),
+        };
+        if depth == 0 && ends {
+            return index;
+        }
+        depth = deeper(depth, kind);
+    }
+    tokens.len()
+}
+
+/// The place after the semicolon of an item, or at what begins or ends another one first.
+pub(crate) fn past_item(tokens: &[Token], start: usize) -> usize
+    ensures { result ≤ length tokens.now }
+{
+    let mut depth = 0u64;
+    for index in start..tokens.len() {
+        let kind = tokens[index].kind;
+        if ends_scope(kind) || begins_assertion(kind) {
+            return index;
+        }
+        depth = deeper(depth, kind);
+        if depth == 0 && kind == Kind::Symbol(Symbol::Semicolon) {
+            return index + 1;
+        }
+    }
+    tokens.len()
+}
+
+/// How a word nests statements: begins a block, ends one, or neither.
+#[derive(Clone, Copy)]
+enum Nesting {
+    Begins,
+    Ends,
+    Neither,
+}
+
+fn nesting_of(kind: Kind) -> Nesting {
+    match kind {
+        Kind::Keyword(
+            Keyword::Begin | Keyword::Fork | Keyword::Case | Keyword::CaseX | Keyword::CaseZ,
+        ) => Nesting::Begins,
+        Kind::Keyword(
+            Keyword::End | Keyword::Join | Keyword::JoinAny | Keyword::JoinNone | Keyword::EndCase,
+        ) => Nesting::Ends,
+        _ => Nesting::Neither,
+    }
+}
+
+/// Whether a statement ends with a token, where blocks and brackets lie so deep after it.
+fn ends_statement(kind: Kind, blocks: u64, brackets: u64) -> bool {
+    let last = match kind {
+        Kind::Symbol(symbol) => symbol == Symbol::Semicolon,
+        _ => matches!(nesting_of(kind), Nesting::Ends),
+    };
+    last && blocks == 0 && brackets == 0
+}
+
+/// The place after a statement, with its `else` (12.4) and the name of its block.
+pub(crate) fn past_statement(tokens: &[Token], start: usize) -> usize
+    ensures { result ≤ length tokens.now }
+{
+    let mut blocks = 0u64;
+    let mut brackets = 0u64;
+    for index in start..tokens.len() {
+        let kind = tokens[index].kind;
+        if ends_scope(kind) {
+            return index;
+        }
+        brackets = deeper(brackets, kind);
+        match nesting_of(kind) {
+            Nesting::Begins => blocks = blocks.saturating_add(1),
+            Nesting::Ends => blocks = blocks.saturating_sub(1),
+            Nesting::Neither => {}
+        }
+        let next = after_name(tokens, index.saturating_add(1));
+        if ends_statement(kind, blocks, brackets) && !is_keyword(tokens, next, Keyword::Else) {
+            return next;
+        }
+    }
+    tokens.len()
+}
+
+/// The place after a colon and a name, if they stand there (9.3.4).
+pub(crate) fn after_name(tokens: &[Token], index: usize) -> usize
+    ensures { result ≤ length tokens.now }
+{
+    let named = is_symbol(tokens, index, Symbol::Colon);
+    let after = if named {
+        index.saturating_add(2)
+    } else {
+        index
+    };
+    after.min(tokens.len())
+}
+
+/// The place after the word that ends a part of the file, and its name; at the end of the scope
+/// where none does.
+pub(crate) fn past_word(tokens: &[Token], start: usize, word: Keyword) -> usize
+    ensures { result ≤ length tokens.now }
+{
+    for index in start..tokens.len() {
+        let kind = tokens[index].kind;
+        if kind == Kind::Keyword(word) {
+            return after_name(tokens, index + 1);
+        }
+        if ends_scope(kind) {
+            return index;
+        }
+    }
+    tokens.len()
+}
+
+/// Whether an item of its own begins there, so that no action block does.
+fn begins_item(tokens: &[Token], index: usize) -> bool {
+    let kind = kind_at(tokens, index);
+    let declares = matches!(kind, Kind::Keyword(Keyword::Property | Keyword::Sequence));
+    let labels = is_symbol(tokens, index.saturating_add(1), Symbol::Colon)
+        && begins_assertion(kind_at(tokens, index.saturating_add(2)));
+    ends_scope(kind) || begins_assertion(kind) || declares || labels
+}
+
+/// The place after the action block of an assertion (16.14.1); none where its semicolon is missing.
+pub(crate) fn past_action(tokens: &[Token], start: usize) -> Option<usize> {
+    if is_symbol(tokens, start, Symbol::Semicolon) {
+        return Some(start.saturating_add(1));
+    }
+    if begins_item(tokens, start) {
+        return None;
+    }
+    if is_keyword(tokens, start, Keyword::Else) {
+        return Some(past_statement(tokens, start.saturating_add(1)));
+    }
+    Some(past_statement(tokens, start))
+}

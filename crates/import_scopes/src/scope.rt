@@ -1,0 +1,27 @@
+//! Scopes of a file.
+
+use import_tokens::Token;
+
+/// The place of a scope among all of a file; 0 is the file itself.
+#[derive(Clone, Copy, PartialEq, Eq)]
+pub struct ScopeId(pub usize);
+
+/// The default clocking of a scope (IEEE 1800-2017, 14.12).
+#[derive(Clone, Copy)]
+pub enum DefaultClock<'t> {
+    /// The tokens after the `@` of its event.
+    Event(&'t [Token<'t>]),
+    /// The name of a clocking block.
+    Block(&'t [u8]),
+}
+
+/// A module, an interface, a program, a package or a checker, or the file. Its defaults hold in all
+/// of it, wherever they stand (16.15).
+#[derive(Clone, Copy)]
+pub struct Scope<'t> {
+    /// The scope around it.
+    pub around: Option<ScopeId>,
+    pub clock: Option<DefaultClock<'t>>,
+    /// The tokens of the expression of `default disable iff`.
+    pub disable: Option<&'t [Token<'t>]>,
+}

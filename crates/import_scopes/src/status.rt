@@ -1,0 +1,58 @@
+//! What becomes of the assertions of a file.
+
+use crate::scope::ScopeId;
+use import_tokens::Token;
+use import_trees::Refusal;
+
+/// The place of an assertion among all of a file that are read.
+#[derive(Clone, Copy, PartialEq, Eq)]
+pub struct AssertionId(pub usize);
+
+/// An assertion to be read: its label, and the tokens between its brackets.
+#[derive(Clone, Copy)]
+pub struct Assertion<'t> {
+    pub label: Option<&'t [u8]>,
+    pub body: &'t [Token<'t>],
+    pub scope: ScopeId,
+    /// The byte of its label, or of its first word.
+    pub at: usize,
+}
+
+/// What becomes of an assertion.
+#[derive(Clone, Copy)]
+pub enum Status {
+    /// It is to be read.
+    Read(AssertionId),
+    /// A `cover`, which decides nothing.
+    Covers,
+    Refused(Refusal),
+}
+
+/// What becomes of all assertions whose words stand from one token up to another.
+#[derive(Clone, Copy)]
+pub(crate) struct Mark {
+    pub from: usize,
+    pub to: usize,
+    pub status: Status,
+}
+
+/// What a reader of the messages is told beside refusals.
+#[derive(Clone, Copy, PartialEq, Eq)]
+pub enum NoteKind {
+    /// A `cover` is left out.
+    Cover,
+    /// A `bind` is left out.
+    Bind,
+    /// The use of a macro that nothing defines is left out; it may hide assertions.
+    UnknownMacro,
+    /// An included file is not read.
+    Include,
+}
+
+/// A note, at the byte of its token.
+#[derive(Clone, Copy)]
+pub struct Note<'t> {
+    pub kind: NoteKind,
+    pub text: &'t [u8],
+    pub at: usize,
+}

@@ -1,0 +1,530 @@
+//! From the front of a file to its end, item by item.
+
+use crate::declaration::{Declaration, DeclarationId, DeclarationKind};
+use crate::passing::{
+    after_name, is_keyword, is_symbol, kind_at, past_action, past_brackets, past_item,
+    past_statement, past_word, value_end,
+};
+use crate::scope::{DefaultClock, Scope, ScopeId};
+use crate::status::{Assertion, AssertionId, Mark, Note, NoteKind, Status};
+use import_tokens::{Keyword, Kind, Symbol, Token};
+use import_trees::{Expected, Refusal};
+use std::alloc::{AllocError, Global};
+
+/// What was found so far.
+#[derive(Drop)]
+pub(crate) struct Found<'t> {
+    pub scopes: Vec<Scope<'t>>,
+    pub declarations: Vec<Declaration<'t>>,
+    pub assertions: Vec<Assertion<'t>>,
+    pub notes: Vec<Note<'t>>,
+    pub marks: Vec<Mark>,
+}
+
+/// Where the walk stands, and what it found.
+#[derive(Drop)]
+pub(crate) struct Walker<'t> {
+    tokens: &'t [Token<'t>],
+    at: usize,
+    scope: ScopeId,
+    found: Found<'t>,
+}
+
+impl<'t> Walker<'t> {
+    pub(crate) fn new(alloc: Global, tokens: &'t [Token<'t>]) -> Result<Walker<'t>, AllocError> {
+        let mut scopes = Vec::new(alloc);
+        scopes.push(Scope {
+            around: None,
+            clock: None,
+            disable: None,
+        })?;
+        Ok(Walker {
+            tokens,
+            at: 0,
+            scope: ScopeId(0),
+            found: Found {
+                scopes,
+                declarations: Vec::new(alloc),
+                assertions: Vec::new(alloc),
+                notes: Vec::new(alloc),
+                marks: Vec::new(alloc),
+            },
+        })
+    }
+
+    /// All that was found.
+    pub(crate) fn into_found(self) -> Found<'t> {
+        self.found
+    }
+
+    /// Goes over all items.
+    pub(crate) fn walk(&mut self) -> Result<(), AllocError> {
+        for _ in 0..self.tokens.len() {
+            let start = self.at;
+            if kind_at(self.tokens, start) == Kind::End {
+                break;
+            }
+            self.item(kind_at(self.tokens, start))?;
+            self.at = self.at.max(start.saturating_add(1));
+        }
+        Ok(())
+    }
+
+    /// The tokens from one place up to another.
+    fn between(&self, from: usize, to: usize) -> &'t [Token<'t>] {
+        self.tokens.get(from..to).unwrap_or(&[])
+    }
+
+    /// The text of a token.
+    fn text(&self, index: usize) -> &'t [u8] {
+        match self.tokens.get(index) {
+            Some(token) => token.text,
+            None => b"",
+        }
+    }
+
+    /// The byte of a token.
+    fn place(&self, index: usize) -> usize {
+        match self.tokens.get(index) {
+            Some(token) => token.at,
+            None => 0,
+        }
+    }
+
+    /// Whether a name stands there.
+    fn is_name(&self, index: usize) -> bool {
+        matches!(kind_at(self.tokens, index), Kind::Word | Kind::Escaped)
+    }
+
+    /// Goes to a place, and says what becomes of the assertions on the way.
+    fn pass(&mut self, to: usize, refusal: Refusal) -> Result<(), AllocError> {
+        self.found.marks.push(Mark {
+            from: self.at,
+            to,
+            status: Status::Refused(refusal),
+        })?;
+        self.at = to;
+        Ok(())
+    }
+
+    /// One item of a scope (annex A.1.4).
+    fn item(&mut self, kind: Kind) -> Result<(), AllocError> {
+        match kind {
+            Kind::Keyword(keyword) => self.keyword_item(keyword),
+            Kind::Macro(_) => self.macro_item(),
+            Kind::Include => {
+                self.note(NoteKind::Include)?;
+                self.at = self.at.saturating_add(1);
+                Ok(())
+            }
+            _ => {
+                self.at = past_item(self.tokens, self.at);
+                Ok(())
+            }
+        }
+    }
+
+    /// An item that a keyword begins.
+    fn keyword_item(&mut self, keyword: Keyword) -> Result<(), AllocError> {
+        match keyword {
+            Keyword::Module
+            | Keyword::MacroModule
+            | Keyword::Interface
+            | Keyword::Program
+            | Keyword::Package
+            | Keyword::Checker => self.open_scope(),
+            Keyword::EndModule
+            | Keyword::EndInterface
+            | Keyword::EndProgram
+            | Keyword::EndPackage
+            | Keyword::EndChecker => {
+                self.close_scope();
+                Ok(())
+            }
+            Keyword::Parameter | Keyword::LocalParam => {
+                let first = self.at.saturating_add(1);
+                self.at = self.constants(first)?;
+                self.at = past_item(self.tokens, self.at);
+                Ok(())
+            }
+            Keyword::Property => self.declared(DeclarationKind::Property, Keyword::EndProperty),
+            Keyword::Sequence => self.declared(DeclarationKind::Sequence, Keyword::EndSequence),
+            Keyword::Assert | Keyword::Assume | Keyword::Restrict | Keyword::Cover => {
+                self.assertion(keyword)
+            }
+            _ => self.other_item(keyword),
+        }
+    }
+
+    /// An item that declares something else, or that is left out.
+    fn other_item(&mut self, keyword: Keyword) -> Result<(), AllocError> {
+        match keyword {
+            Keyword::Default => self.defaults(),
+            Keyword::Clocking => self.clocking(),
+            Keyword::Let => self.let_declared(),
+            Keyword::TypeDef => self.type_declared(),
+            Keyword::Bind => {
+                self.note(NoteKind::Bind)?;
+                self.at = past_item(self.tokens, self.at);
+                Ok(())
+            }
+            Keyword::Generate | Keyword::EndGenerate | Keyword::End => {
+                self.at = after_name(self.tokens, self.at.saturating_add(1));
+                Ok(())
+            }
+            _ => self.left_out(keyword),
+        }
+    }
+
+    /// An item without declarations: a procedure, a generate block, or a part with an end.
+    fn left_out(&mut self, keyword: Keyword) -> Result<(), AllocError> {
+        let start = self.at.saturating_add(1);
+        let end = match keyword {
+            Keyword::Function => past_word(self.tokens, start, Keyword::EndFunction),
+            Keyword::Task => past_word(self.tokens, start, Keyword::EndTask),
+            Keyword::Class => past_word(self.tokens, start, Keyword::EndClass),
+            Keyword::CoverGroup => past_word(self.tokens, start, Keyword::EndGroup),
+            Keyword::Specify => past_word(self.tokens, start, Keyword::EndSpecify),
+            Keyword::Always
+            | Keyword::AlwaysCombinational
+            | Keyword::AlwaysFlipFlop
+            | Keyword::AlwaysLatch
+            | Keyword::Initial
+            | Keyword::Final => past_statement(self.tokens, start),
+            Keyword::For | Keyword::If | Keyword::Case | Keyword::Begin | Keyword::Else => {
+                let end = past_statement(self.tokens, self.at);
+                return self.pass(end, Refusal::Generate);
+            }
+            _ => past_item(self.tokens, self.at),
+        };
+        self.pass(end, Refusal::Immediate)
+    }
+
+    /// The header of a module or the like, with its parameters; what follows is its scope.
+    fn open_scope(&mut self) -> Result<(), AllocError> {
+        let place = self.found.scopes.len();
+        self.found.scopes.push(Scope {
+            around: Some(self.scope),
+            clock: None,
+            disable: None,
+        })?;
+        self.scope = ScopeId(place);
+        let end = past_item(self.tokens, self.at);
+        for index in self.at..end {
+            if let Kind::Keyword(Keyword::Parameter | Keyword::LocalParam) = kind_at(
+                self.tokens,
+                index,
+            ) {
+                let _end = self.constants(index.saturating_add(1))?;
+            }
+        }
+        self.at = end;
+        Ok(())
+    }
+
+    fn close_scope(&mut self) {
+        if let Some(scope) = self.found.scopes.get(self.scope.0) {
+            if let Some(around) = scope.around {
+                self.scope = around;
+            }
+        }
+        self.at = after_name(self.tokens, self.at.saturating_add(1));
+    }
+
+    /// Constants with their values, from a place on (6.20); where they end.
+    fn constants(&mut self, first: usize) -> Result<usize, AllocError> {
+        let mut start = first;
+        for _ in first..self.tokens.len() {
+            let sign = value_start(self.tokens, start);
+            let end = value_end(self.tokens, sign.saturating_add(1));
+            let name = sign.saturating_sub(1);
+            if !is_symbol(self.tokens, sign, Symbol::Assign) || !self.is_name(name) {
+                return Ok(value_end(self.tokens, start));
+            }
+            let formals = self.between(start, name);
+            let body = self.between(sign.saturating_add(1), end);
+            self.declare(DeclarationKind::Constant, name, formals, body)?;
+            if !is_symbol(self.tokens, end, Symbol::Comma) {
+                return Ok(end);
+            }
+            start = end.saturating_add(1);
+            if let Kind::Keyword(Keyword::Parameter | Keyword::LocalParam) = kind_at(
+                self.tokens,
+                start,
+            ) {
+                return Ok(end);
+            }
+        }
+        Ok(start)
+    }
+
+    /// Keeps a declaration whose name stands at a place.
+    fn declare(
+        &mut self,
+        kind: DeclarationKind,
+        name: usize,
+        formals: &'t [Token<'t>],
+        body: &'t [Token<'t>],
+    ) -> Result<(), AllocError> {
+        let declaration = Declaration {
+            kind,
+            name: self.text(name),
+            scope: self.scope,
+            formals,
+            body,
+            at: self.place(name),
+        };
+        self.found.declarations.push(declaration)?;
+        Ok(())
+    }
+
+    /// The tokens between brackets that may stand at a place, and the place after them.
+    fn formals(&self, open: usize) -> (&'t [Token<'t>], usize) {
+        if !is_symbol(self.tokens, open, Symbol::OpenRound) {
+            return (self.between(open, open), open);
+        }
+        let end = past_brackets(self.tokens, open);
+        (
+            self.between(open.saturating_add(1), end.saturating_sub(1)),
+            end,
+        )
+    }
+
+    /// A property or a sequence, up to the word that ends it.
+    fn declared(&mut self, kind: DeclarationKind, last: Keyword) -> Result<(), AllocError> {
+        let name = self.at.saturating_add(1);
+        let (formals, after) = self.formals(name.saturating_add(1));
+        let end = past_word(self.tokens, after, last);
+        let start = after.saturating_add(1);
+        let mut stop = start;
+        for index in start..end {
+            if is_keyword(self.tokens, index, last) {
+                stop = index;
+            }
+        }
+        if is_symbol(self.tokens, after, Symbol::Semicolon) && self.is_name(name) {
+            let body = self.between(start, stop);
+            self.declare(kind, name, formals, body)?;
+        }
+        self.at = end;
+        Ok(())
+    }
+
+    /// `let name (formals) = expression;` (11.12).
+    fn let_declared(&mut self) -> Result<(), AllocError> {
+        let name = self.at.saturating_add(1);
+        let (formals, sign) = self.formals(name.saturating_add(1));
+        let start = sign.saturating_add(1);
+        let end = value_end(self.tokens, start);
+        if is_symbol(self.tokens, sign, Symbol::Assign) && self.is_name(name) {
+            let body = self.between(start, end);
+            self.declare(DeclarationKind::Let, name, formals, body)?;
+        }
+        self.at = past_item(self.tokens, end);
+        Ok(())
+    }
+
+    /// The members of an enumeration (6.19); other types are left out.
+    fn type_declared(&mut self) -> Result<(), AllocError> {
+        let end = past_item(self.tokens, self.at);
+        let first = self.at.saturating_add(2);
+        if is_keyword(self.tokens, self.at.saturating_add(1), Keyword::Enum) {
+            let open = first_brace(self.tokens, first, end);
+            let own = self.between(first, open);
+            self.members(own, open.saturating_add(1))?;
+        }
+        self.at = end;
+        Ok(())
+    }
+
+    /// The members of an enumeration of a type, from a place on.
+    fn members(&mut self, own: &'t [Token<'t>], first: usize) -> Result<(), AllocError> {
+        let mut start = first;
+        let mut before = None;
+        for _ in first..self.tokens.len() {
+            let end = value_end(self.tokens, start);
+            if !self.is_name(start) {
+                break;
+            }
+            let body = self.between(start.saturating_add(2), end);
+            let place = self.found.declarations.len();
+            self.declare(DeclarationKind::Member(before), start, own, body)?;
+            before = Some(DeclarationId(place));
+            if !is_symbol(self.tokens, end, Symbol::Comma) {
+                break;
+            }
+            start = end.saturating_add(1);
+        }
+        Ok(())
+    }
+
+    /// `default clocking` and `default disable iff` (14.12, 16.15).
+    fn defaults(&mut self) -> Result<(), AllocError> {
+        let next = self.at.saturating_add(1);
+        if is_keyword(self.tokens, next, Keyword::Clocking) {
+            self.at = next;
+            return self.default_clocking();
+        }
+        let end = past_item(self.tokens, self.at);
+        if is_keyword(self.tokens, next, Keyword::Disable) {
+            let tokens = self.between(next.saturating_add(2), end.saturating_sub(1));
+            if let Some(scope) = self.found.scopes.get_mut(self.scope.0) {
+                scope.disable = Some(tokens);
+            }
+        }
+        self.at = end;
+        Ok(())
+    }
+
+    /// A default clocking block, or the name of one.
+    fn default_clocking(&mut self) -> Result<(), AllocError> {
+        let name = self.at.saturating_add(1);
+        let named = self.is_name(name);
+        let sign = if named { name.saturating_add(1) } else { name };
+        let clock = if is_symbol(self.tokens, sign, Symbol::AtSign) {
+            DefaultClock::Event(self.event(sign.saturating_add(1)))
+        } else {
+            DefaultClock::Block(self.text(name))
+        };
+        if let Some(scope) = self.found.scopes.get_mut(self.scope.0) {
+            scope.clock = Some(clock);
+        }
+        self.clocking()
+    }
+
+    /// The tokens of an event, from a place on.
+    fn event(&self, start: usize) -> &'t [Token<'t>] {
+        let (_inner, end) = self.formals(start);
+        self.between(start, end.max(start.saturating_add(1)))
+    }
+
+    /// A clocking block (14.3), or the name of one alone.
+    fn clocking(&mut self) -> Result<(), AllocError> {
+        let name = self.at.saturating_add(1);
+        if self.is_name(name) && is_symbol(self.tokens, name.saturating_add(1), Symbol::Semicolon) {
+            self.at = name.saturating_add(2);
+            return Ok(());
+        }
+        if self.is_name(name) {
+            let event = self.event(name.saturating_add(2));
+            self.declare(DeclarationKind::Clocking, name, &[], event)?;
+        }
+        self.at = past_word(self.tokens, self.at, Keyword::EndClocking);
+        Ok(())
+    }
+
+    /// Says what becomes of the assertion whose word is next.
+    fn decide(&mut self, word: usize, status: Status) -> Result<(), AllocError> {
+        self.found.marks.push(Mark {
+            from: word,
+            to: word.saturating_add(1),
+            status,
+        })?;
+        Ok(())
+    }
+
+    /// An assertion (16.14), or an immediate one (16.3), with its action block.
+    fn assertion(&mut self, keyword: Keyword) -> Result<(), AllocError> {
+        let word = self.at;
+        let open = word.saturating_add(2);
+        let names_property = matches!(
+            kind_at(self.tokens, word.saturating_add(1)),
+            Kind::Keyword(Keyword::Property | Keyword::Sequence)
+        );
+        if keyword == Keyword::Cover {
+            self.note(NoteKind::Cover)?;
+            self.decide(word, Status::Covers)?;
+            self.at = past_statement(self.tokens, word);
+            return Ok(());
+        }
+        if !names_property {
+            self.decide(word, Status::Refused(Refusal::Immediate))?;
+            self.at = past_statement(self.tokens, word);
+            return Ok(());
+        }
+        if !is_symbol(self.tokens, open, Symbol::OpenRound) {
+            let refusal = Refusal::Expected(Expected::Symbol(Symbol::OpenRound));
+            self.decide(word, Status::Refused(refusal))?;
+            self.at = past_item(self.tokens, open);
+            return Ok(());
+        }
+        self.read_assertion(word, open)
+    }
+
+    /// An assertion whose brackets stand at a place.
+    fn read_assertion(&mut self, word: usize, open: usize) -> Result<(), AllocError> {
+        let end = past_brackets(self.tokens, open);
+        let Some(after) = past_action(self.tokens, end) else {
+            let refusal = Refusal::Expected(Expected::Symbol(Symbol::Semicolon));
+            self.decide(word, Status::Refused(refusal))?;
+            self.at = end;
+            return Ok(());
+        };
+        let label = self.label_before(word);
+        let place = self.found.assertions.len();
+        let assertion = Assertion {
+            label: match label {
+                Some(index) => Some(self.text(index)),
+                None => None,
+            },
+            body: self.between(open.saturating_add(1), end.saturating_sub(1)),
+            scope: self.scope,
+            at: self.place(label.unwrap_or(word)),
+        };
+        self.found.assertions.push(assertion)?;
+        self.decide(word, Status::Read(AssertionId(place)))?;
+        self.at = after;
+        Ok(())
+    }
+
+    /// The place of the label before a word, if there is one.
+    fn label_before(&self, word: usize) -> Option<usize> {
+        let label = word.saturating_sub(2);
+        if is_symbol(self.tokens, word.saturating_sub(1), Symbol::Colon) && self.is_name(label) {
+            return Some(label);
+        }
+        None
+    }
+
+    fn note(&mut self, kind: NoteKind) -> Result<(), AllocError> {
+        let here = self.at;
+        let note = Note {
+            kind,
+            text: self.text(here),
+            at: self.place(here),
+        };
+        self.found.notes.push(note)?;
+        Ok(())
+    }
+
+    /// The use of a macro that stays as it is, as an item of its own.
+    fn macro_item(&mut self) -> Result<(), AllocError> {
+        self.note(NoteKind::UnknownMacro)?;
+        let start = self.at.saturating_add(1);
+        let (_inner, end) = self.formals(start);
+        let more = is_symbol(self.tokens, end, Symbol::Semicolon);
+        self.at = if more { end.saturating_add(1) } else { end };
+        Ok(())
+    }
+}
+
+/// The place of the first `=` from there on, if it stands before a comma, a semicolon or a closing
+/// bracket; else of these.
+fn value_start(tokens: &[Token], start: usize) -> usize {
+    for index in start..value_end(tokens, start) {
+        if is_symbol(tokens, index, Symbol::Assign) {
+            return index;
+        }
+    }
+    value_end(tokens, start)
+}
+
+/// The place of the first brace between two places, or the second of them.
+fn first_brace(tokens: &[Token], start: usize, end: usize) -> usize {
+    for index in start..end {
+        if is_symbol(tokens, index, Symbol::OpenBrace) {
+            return index;
+        }
+    }
+    end
+}
