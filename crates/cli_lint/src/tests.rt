@@ -51,7 +51,8 @@ fn each_item_is_told(rt: HostRuntime) -> Result<(), Fail> {
     let wanted = "r.sva:1:50: Y1 UnknownName tb.gmt; did you mean tb.gnt?\n\
                   a: assert property (@(posedge tb.clk) tb.req |-> tb.gmt);\n\
                   \x20                                                ^\n\
-                  r.sva:2:39: P2 OutsideProfile not; write S |-> 0 for not (S)\n\
+                  r.sva:2:39: P2 OutsideProfile not; write !b for a boolean b, \
+                  and S |-> 0 for not (S) of a sequence S\n\
                   b: assert property (@(posedge tb.clk) not tb.gnt);\n\
                   \x20                                     ^\n\
                   2 of 3 items refused\n";

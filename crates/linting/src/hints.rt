@@ -22,7 +22,10 @@ pub const WORDS: [Hint; 30] = [
         "weak",
         "leave it out: what the end of the dump leaves open is told as open",
     ),
-    ("not", "write S |-> 0 for not (S)"),
+    (
+        "not",
+        "write !b for a boolean b, and S |-> 0 for not (S) of a sequence S",
+    ),
     (
         "if",
         "write C |-> R and, in another assertion, !C |-> S for if (C) R else S",
@@ -58,7 +61,10 @@ pub const WORDS: [Hint; 30] = [
         "write a[*1:60] ##0 b for a until_with b, or count in a counter",
     ),
     ("implies", "write !a || b for a implies b, or a |-> b"),
-    ("iff", "write !a == !b for a iff b"),
+    (
+        "iff",
+        "write !a == !b for a iff b; what gates a clock goes into the antecedent",
+    ),
     (
         "accept_on",
         "write disable iff (C), in an assertion of its own",
@@ -103,10 +109,13 @@ pub const SIGNS: [Hint; 11] = [
         "%",
         "name the remainder by a wire in the bench, or write low bits, as a[1:0]",
     ),
-    ("$", "write a bound, as ##[1:60], or count in a counter"),
+    (
+        "$",
+        "write a bound, as ##[1:60] or [*0:60], or count in a counter",
+    ),
     (
         "$countones",
-        "write $onehot(v) for == 1, $onehot0(v) for <= 1",
+        "write $onehot(v) for == 1, $onehot0(v) for <= 1, else a sum: 0 + v[0] + v[1]",
     ),
     ("$isunknown", "leave it out: x and z are 0"),
     ("$sampled", "leave it out: all values are sampled"),

@@ -58,7 +58,7 @@ pub const MARKS: [Mark; 40] = [
     (
         "\"",
         0,
-        "leave out what is printed: the report has the clock of each failure",
+        "leave out all from else on: the report has the clock of each failure",
     ),
     ("`", 0, "write out what the macro stands for"),
     ("\\", 0, "name the signal by a wire in the bench"),
