@@ -12,8 +12,11 @@ use Rattle.import_properties.specs.Properties.{Form, sequence, negated, either, 
 use Rattle.import_properties.specs.Properties.{later}
 use Rattle.import_properties.specs.Outcomes.{ComesToSame, ComesToSameWithin}
 use Rattle.import_properties.proofs.FormLaws.{same-swap, same-then, same-refl}
+use Rattle.import_properties.proofs.FormLaws.{same-negated, within, same-both}
+use Rattle.import_properties.proofs.UntilLaws.{negated-until, negated-until_with}
 use Rattle.import_properties.proofs.RowLaws.{negated-negated, negated-later, negated-chosen, chosen-arms, same-chosen}
 use Rattle.import_properties.proofs.RowLaws.{same-until, until-sequence, negated-sequence}
+use Rattle.import_properties.proofs.UntilLaws.{negated-until, negated-until_with}
 use Rattle.import_rewriting.specs.declared.sense.Sense.{Sense}
 use Rattle.import_rewriting.specs.declared.sense.Sense.TheVariants.{Kept, Negated}
 use Rattle.import_rewriting.specs.Sides.{Says, can_match}
@@ -94,7 +97,8 @@ module _ (b d : Condition) (u v x y w : Written Condition) (e : d ≡ negation b
       joined bound (both (sequence (kernel.one b)) p) (both (sequence (kernel.one (negation b))) q)
       (first bound (sequence (kernel.one b)) p (guard_itself bound b) su)
       (second bound (sequence (kernel.one (negation b))) q
-      (subst (λ d. Says bound (sequence (kernel.one (negation b))) (boolean d)) (sym e) (guard_itself bound (negation b)))
+      (subst (λ d. Says bound (sequence (kernel.one (negation b))) (boolean d)) (sym e)
+      (guard_itself bound (negation b)))
       sv)
 
   pub chosen_kept : Says bound p u → Says bound q v → Says bound (chosen b p q) w
@@ -163,3 +167,48 @@ says_waiting ticks bound b p q v h w eh ev light can le sp sq =
     } in
     let Q : Written Condition → Type 0 = λ u. P (repeat u 0 bound) in
     subst P (sym eh) (subst Q (sym ev) known) light
+
+-- not (p until q), for booleans p and q
+pub says_until_negated : (ticks : ℕ) (b d : Condition) (p q : Form Condition) (w : Written Condition)
+    → Says ticks p (boolean b) → Says ticks q (boolean d)
+    → Says ticks (until (sequence (kernel.one (negation d)))
+    (both (sequence (kernel.one (negation b))) (sequence (kernel.one (negation d))))) w
+    → Says ticks (negated (until p q)) w
+says_until_negated ticks b d p q w sp sq says =
+    let one = sequence (kernel.one b) in
+    let two = sequence (kernel.one d) in
+    let other =
+    until (sequence (kernel.one (negation d)))
+    (both (sequence (kernel.one (negation b))) (sequence (kernel.one (negation d)))) in
+    record {
+      fit = says.fit;
+      same =
+          same-then ticks (negated (until p q)) (negated (until one two)) (sequence (written.kernel One w))
+          (same-negated ticks (until p q) (until one two) (same-until ticks p q one two sp.same sq.same))
+          (same-then ticks (negated (until one two)) other (sequence (written.kernel One w))
+          (within ticks (negated (until one two)) other (negated-until b d)) says.same);
+    }
+
+pub says_until_with_negated : (ticks : ℕ) (b d : Condition) (p q : Form Condition) (w : Written Condition)
+    → Says ticks p (boolean b) → Says ticks q (boolean d)
+    → Says ticks (until (sequence (kernel.one (negation d))) (sequence (kernel.one (negation b)))) w
+    → Says ticks (negated (until p (both p q))) w
+says_until_with_negated ticks b d p q w sp sq says =
+    let one = sequence (kernel.one b) in
+    let two = sequence (kernel.one d) in
+    let other = until (sequence (kernel.one (negation d))) (sequence (kernel.one (negation b))) in
+    record {
+      fit = says.fit;
+      same =
+          same-then ticks (negated (until p (both p q))) (negated (until one (both one two)))
+          (sequence (written.kernel One w))
+          (same-negated ticks (until p (both p q)) (until one (both one two))
+          (same-until ticks p (both p q) one (both one two) sp.same (same-both ticks p q one two sp.same sq.same)))
+          (same-then ticks (negated (until one (both one two))) other (sequence (written.kernel One w))
+          (within ticks (negated (until one (both one two))) other (negated-until_with b d)) says.same);
+    }
+
+-- a boolean that is the negation of another
+pub says_at : (ticks : ℕ) (b : Condition) (v : Written Condition) → v ≡ boolean b
+    → Says ticks (sequence (kernel.one b)) v
+says_at ticks b v e = says_as ticks (sequence (kernel.one b)) (boolean b) v (sym e) (guard_itself ticks b)

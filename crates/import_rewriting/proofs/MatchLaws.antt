@@ -56,7 +56,8 @@ module _ (holds : Condition → ℕ → Bool) (n : ℕ) (one : (k : ℕ) → IsT
         omega (arith, front.1, back.1),
         one_of-matches Condition holds (after One (kernel One r) (kernel One s)) (suc least) (most - suc least) k
             back.0 (suc least) (omega arith) (omega arith)
-            (after-matches Condition holds One one (kernel One r) (kernel One s) (suc least) k front.0 back.0 (omega arith)
+            (after-matches Condition holds One one (kernel One r) (kernel One s) (suc least) k front.0 back.0
+            (omega arith)
             front.2 back.2),
       )
   match-from (lead least most s) o t k late =

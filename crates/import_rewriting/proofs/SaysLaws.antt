@@ -136,7 +136,8 @@ pub says_unless : (bound : ℕ) (b : Condition) (p : Form Condition) (w : Writte
     → Says bound (implied (kernel.one b) p) (or (boolean (negation b)) w)
 says_unless bound b p w light sw =
     let arms =
-    says_or bound (sequence (kernel.one (negation b))) p (boolean (negation b)) w light (says_one bound (negation b)) sw in
+    says_or bound (sequence (kernel.one (negation b))) p (boolean (negation b)) w light (says_one bound (negation b))
+    sw in
     record {
       fit = arms.fit;
       same =
@@ -188,7 +189,8 @@ says_missed bound b p v e sw =
     (record { fit = (says_one bound (negation b)).fit; same = arms })
 
 -- a boolean at each tick of a range
-pub says_times : (bound k : ℕ) (b : Condition) (v : Written Condition) → v ≡ boolean b → 1 ≤ k → weight (repeat v k k) ≤ 127
+pub says_times : (bound k : ℕ) (b : Condition) (v : Written Condition) → v ≡ boolean b → 1 ≤ k
+    → weight (repeat v k k) ≤ 127
     → Says bound (sequence (kernel.times (kernel.one b) k k)) (repeat v k k)
 says_times bound k b v e some light =
     let P : Written Condition → Type 0 = λ u. weight (repeat u k k) ≤ 127
@@ -197,7 +199,8 @@ says_times bound k b v e some light =
       fit = record {
         ordered = (omega arith, tt);
         light = light;
-        some = or_from (nat_le k 0) false (false_from_ne_true (nat_le k 0) (λ t. omega (arith, some, leb-true k 0 t))) refl;
+        some = or_from (nat_le k 0) false (false_from_ne_true (nat_le k 0) (λ t. omega (arith, some, leb-true k 0 t)))
+            refl;
       };
       same = same-refl bound (sequence (kernel.times (kernel.one b) k k));
     }) light

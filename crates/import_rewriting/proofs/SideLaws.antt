@@ -5,18 +5,20 @@ use Rattle.assertions.specs.Written.{Written, boolean, delay, lead, weight, IsOr
 use Rattle.assertions.specs.Written as written
 use Rattle.assertions.specs.Emptiness.{admits_empty}
 use Rattle.import_properties.specs.declared.condition.Condition.{Condition}
-use Rattle.import_properties.specs.declared.condition.Condition.TheVariants.{One}
+use Rattle.import_properties.specs.declared.condition.Condition.TheVariants.{One, Zero}
 use Rattle.import_properties.specs.declared.property.Property.{Property}
-use Rattle.import_properties.specs.Properties.{Form, form_of, sequence, implied, each_later, later}
+use Rattle.import_properties.specs.Properties.{Form, form_of, sequence, implied, each_later, later, negated}
 use Rattle.import_properties.specs.Outcomes.{ComesToSame, ComesToSameWithin}
 use Rattle.import_properties.proofs.FormLaws.{within, same-swap, same-then, same-implied, same-each_later}
+use Rattle.import_properties.proofs.FormLaws.{same-negated}
+use Rattle.import_properties.proofs.RowLaws.{negated-negated, negated-sequence}
 use Rattle.import_properties.proofs.FormLaws.{implied-fuse, implied-delay, implied-lead}
 use Rattle.import_properties.proofs.ProfileLaws.{implied-seen, each_later-seen, one-implied, implied-always}
 use Rattle.import_properties.proofs.ProfileLaws.{profile-implied}
-use Rattle.import_rewriting.specs.Sides.{IsAntecedent}
+use Rattle.import_rewriting.specs.Sides.{IsAntecedent, Says}
 use Rattle.import_rewriting.specs.Rewriting.{EndsLater, SaysAfter, AreSides, AreSidesLater, IsRewriting, SaysIn}
 use Rattle.import_rewriting.specs.Rewriting.{IsWithin, IsOpen}
-use Rattle.import_rewriting.specs.declared.sense.Sense.TheVariants.{Kept}
+use Rattle.import_rewriting.specs.declared.sense.Sense.TheVariants.{Kept, Negated}
 use Rattle.import_rewriting.proofs.SaysLaws.{never_empty, takes-tick}
 
 -- what comes to the same within each bound
@@ -106,6 +108,43 @@ sides_alone bound r property w fit_r says = record {
       (says ticks inside).same;
 }
 
+-- what says something can be an antecedent
+pub antecedent_from : (bound : ℕ) (property : Property) (v w : Written Condition) → SaysIn Negated bound property v
+    → w ≡ v → IsAntecedent w
+antecedent_from bound property v w says e =
+    let fit = (says 0 (λ _. omega arith)).fit in
+    subst (λ u. IsAntecedent u) (sym e) (record { ordered = fit.ordered; light = fit.light })
+
+-- p after r, where its negation never comes to a match
+pub sides_never : (bound : ℕ) (r x : Written Condition) (property : Property) (v w : Written Condition)
+    → SaysIn Negated bound property v → EndsLater r 0 0 v x → IsAntecedent x → w ≡ boolean Zero
+    → AreSides bound r property x w
+sides_never bound r x property v w says ends fit e =
+    let P : Written Condition → Type 0 = λ w. AreSides bound r property x w in
+    subst P (sym e) (record {
+      antecedent = fit;
+      consequent = record { ordered = tt; light = omega arith; some = refl };
+      same = λ ticks inside. never ticks (form_of property) (says ticks inside);
+    })
+  where
+    never : (ticks : ℕ) (p : Form Condition) → Says ticks (negated p) v
+        → ComesToSameWithin ticks (implied (written.kernel One r) p)
+        (implied (written.kernel One x) (sequence (kernel.one Zero)))
+    never ticks p says_not =
+        let k = written.kernel One v in
+        let zero = sequence (kernel.one Zero) in
+        same-then ticks (implied (written.kernel One r) p) (implied (written.kernel One r) (implied k zero))
+        (implied (written.kernel One x) zero)
+        (same-implied ticks (written.kernel One r) p (implied k zero)
+        (same-then ticks p (negated (negated p)) (implied k zero)
+        (within ticks p (negated (negated p)) (same-swap (negated (negated p)) p (negated-negated p)))
+        (same-then ticks (negated (negated p)) (negated (sequence k)) (implied k zero)
+        (same-negated ticks (negated p) (sequence k) says_not.same)
+        (within ticks (negated (sequence k)) (implied k zero)
+        (same-swap (implied k zero) (negated (sequence k)) (negated-sequence k))))))
+        (within ticks (implied (written.kernel One r) (implied k zero)) (implied (written.kernel One x) zero)
+        (ends zero))
+
 pub sides_joined : (bound : ℕ) (r : Written Condition) (least most : ℕ) (t x : Written Condition) (property : Property)
     (a s : Written Condition) → EndsLater r least most t x → AreSides bound x property a s
     → AreSidesLater bound r least most t property a s
@@ -155,6 +194,7 @@ is_rewriting bound property v a s e sides =
           let first = implied-always p leaves n o c begun in
           let same = from.same ticks inside leaves n o c le in
           let last =
-          profile-implied (written.kernel One a) (written.kernel One s) (takes-tick s from.consequent) leaves n o c begun in
+          profile-implied (written.kernel One a) (written.kernel One s) (takes-tick s from.consequent) leaves n o c
+          begun in
           (λ x. last.0 (same.0 (first.0 x)), λ x. first.1 (same.1 (last.1 x)));
     }

@@ -63,7 +63,8 @@ abbrev pub EndsLater :
     Written Condition → ℕ → ℕ → Written Condition → Written Condition → Type 0
 EndsLater r least most t a =
     (p : Form Condition)
-    → ComesToSame (implied (kernel One r) (each_later least (most - least) (implied (kernel One t) p)))
+    → ComesToSame (implied (kernel One r)
+    (each_later least (most - least) (implied (kernel One t) p)))
     (implied (kernel One a) p)
 
 -- a |-> s in the profile says what r |-> p does.
@@ -81,13 +82,15 @@ pub record AreSides (bound : ℕ) (r : Written Condition) (property : Property)
   pub same : (ticks : ℕ) → IsWithin bound property ticks → SaysAfter ticks r (form_of property) a s
 
 -- The same of: so many ticks after each end of r, t |-> property.
-pub record AreSidesLater (bound : ℕ) (r : Written Condition) (least most : ℕ) (t : Written Condition)
+pub record AreSidesLater (bound : ℕ) (r : Written Condition) (least most : ℕ)
+    (t : Written Condition)
     (property : Property) (a s : Written Condition) : Type 0 where
   pub antecedent : IsAntecedent a
   pub consequent : IsConsequent s
   pub same :
       (ticks : ℕ) → IsWithin bound property ticks
-      → SaysAfter ticks r (each_later least (most - least) (implied (kernel One t) (form_of property)))
+      → SaysAfter ticks r (each_later least (most - least)
+      (implied (kernel One t) (form_of property)))
       a s
 
 -- The two sides can be sides of an assertion, which is the rewriting of the property.

@@ -1,9 +1,9 @@
 -- A property, or its negation, and how senses are joined.
 use Rattle.import_properties.specs.declared.condition.Condition.{Condition}
-use Rattle.std.specs.Prelude.{ℕ, ◌-◌}
+use Rattle.std.specs.Prelude.{ℕ, ◌-◌, ◌≤◌}
 use Rattle.import_properties.specs.declared.condition.Condition.TheVariants.{One}
 use Rattle.import_properties.specs.Properties.{Form, negated, both, either, implied, each_later}
-use Rattle.import_properties.specs.Properties.{some_later}
+use Rattle.import_properties.specs.Properties.{some_later, until}
 use Rattle.assertions.specs.Written.{Written, kernel}
 use Rattle.import_rewriting.specs.Sides.{Says}
 use Rattle.import_rewriting.specs.declared.sense.Sense.{Sense}
@@ -50,3 +50,17 @@ JoinsSome sense least most u w =
     (bound : ℕ) (p : Form Condition)
     → Says bound (in_sense sense p) u
     → Says bound (in_sense sense (some_later least (most - least) p)) w
+
+-- Of sequences that say p and q, the third says p until q in a sense, so long as no more than so
+-- many ticks are seen; or p until_with q.
+abbrev pub SaysUntil :
+    ℕ → Sense → Written Condition → Written Condition → Written Condition → Type 0
+SaysUntil bound sense u v w =
+    (ticks : ℕ) (p q : Form Condition) → ticks ≤ bound → Says ticks p u → Says ticks q v
+    → Says ticks (in_sense sense (until p q)) w
+
+abbrev pub SaysUntilWith :
+    ℕ → Sense → Written Condition → Written Condition → Written Condition → Type 0
+SaysUntilWith bound sense u v w =
+    (ticks : ℕ) (p q : Form Condition) → ticks ≤ bound → Says ticks p u → Says ticks q v
+    → Says ticks (in_sense sense (until p (both p q))) w

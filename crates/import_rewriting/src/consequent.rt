@@ -5,13 +5,13 @@ ghost use Rattle.import_properties.specs.Shapes.{written_form};
 ghost use Rattle.import_rewriting.specs.Rewriting.{SaysIn, SaysImplies};
 
 use crate::join::{
-    at_each, at_some, choice, conjunction, disjunction, implication, sequence_in, waiting,
-    with_tick,
+    at_each, at_some, choice, conjunction, disjunction, implication, sequence_in, with_tick,
 };
-use crate::make::{boxed, guarded, later};
-use crate::measure::{boolean_of, check_antecedent};
+use crate::make::{boxed, later};
+use crate::measure::check_antecedent;
 use crate::refusal::Refusal;
 use crate::sense::Sense;
+use crate::waiting::{until, until_with};
 use import_properties::{Property, Sequence};
 use std::alloc::Global;
 
@@ -89,27 +89,14 @@ pub(crate) fn consequent_of(
             at_some(alloc, sense, *least, *most, body)
         }
         Property::Until(first, second) => {
-            let Sense::Kept = sense else {
-                return Err(Refusal::Outside);
-            };
             let first = consequent_of(alloc, bound, Sense::Kept, first)?;
-            let Some(boolean) = boolean_of(&first) else {
-                return Err(Refusal::Outside);
-            };
             let second = consequent_of(alloc, bound, Sense::Kept, second)?;
-            waiting(alloc, bound, boolean, second)
+            until(alloc, bound, sense, &first, second)
         }
         Property::UntilWith(first, second) => {
-            let Sense::Kept = sense else {
-                return Err(Refusal::Outside);
-            };
             let first = consequent_of(alloc, bound, Sense::Kept, first)?;
-            let Some(boolean) = boolean_of(&first) else {
-                return Err(Refusal::Outside);
-            };
             let second = consequent_of(alloc, bound, Sense::Kept, second)?;
-            let last = guarded(alloc, boolean, second)?;
-            waiting(alloc, bound, boolean, last)
+            until_with(alloc, bound, sense, &first, second)
         }
     }
 }

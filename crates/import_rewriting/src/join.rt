@@ -4,9 +4,9 @@ ghost use Rattle.std.specs.Prelude.{◌≡◌, ◌≤◌, ℕ, IfOk};
 ghost use Rattle.import_properties.specs.declared.condition.Condition.{Condition};
 ghost use Rattle.import_properties.specs.declared.condition.Condition.TheVariants.{One};
 ghost use Rattle.import_properties.specs.Properties.{Form, sequence as sequence_form, then_tick};
-ghost use Rattle.import_properties.specs.Properties.{until, chosen};
+ghost use Rattle.import_properties.specs.Properties.{chosen};
 ghost use Rattle.import_properties.specs.Shapes.{written_form};
-ghost use Rattle.assertions.specs.Written.{IsOrdered, kernel, boolean as boolean_form};
+ghost use Rattle.assertions.specs.Written.{IsOrdered, kernel};
 ghost use Rattle.import_rewriting.specs.Sides.{Says, IsAntecedent};
 ghost use Rattle.import_rewriting.specs.Senses.{JoinsBoth, JoinsEither, JoinsImplied};
 ghost use Rattle.import_rewriting.specs.Senses.{JoinsEach, JoinsSome, in_sense};
@@ -141,25 +141,6 @@ pub(crate) fn with_tick(alloc: Global, sequence: &Sequence) -> Result<Box<Sequen
     let first = copy_of(alloc, sequence)?;
     let tick = boxed(alloc, Sequence::Boolean(Condition::One))?;
     made(alloc, Sequence::Delay(first, 1, 1, tick))
-}
-
-/// `first until second`, for a boolean: `first[*0:bound] ##1 second`.
-pub(crate) fn waiting(
-    alloc: Global,
-    bound: u8,
-    first: Condition,
-    second: Box<Sequence>,
-) -> Result<Box<Sequence>, Refusal>
-    ensures { IfOk result (λ b. (ticks : ℕ) (p q : Form Condition) → ticks ≤ bound
-        → Says ticks p (boolean_form first) → Says ticks q (written_form second.value)
-        → Says ticks (until p q) (written_form b.value)) }
-{
-    if !can_match(&second) {
-        return Err(Refusal::Outside);
-    }
-    let one = boxed(alloc, Sequence::Boolean(first))?;
-    let held = boxed(alloc, Sequence::Repeat(one, 0, bound))?;
-    made(alloc, Sequence::Delay(held, 1, 1, second))
 }
 
 /// `if (condition) p else q`, in the sense in which the two sequences say p and q.

@@ -20,7 +20,7 @@
 //!
 //! A property is refused where a part would weigh over 127 (decided before it is made), where a
 //! sequence may match no tick, where a range is out of order, where the ends of an antecedent are
-//! not told one by one, and where `until` stands over sequences or in a negation.
+//! not told one by one, and where `until` stands over sequences.
 //!
 //! The definitions: when an assertion is the rewriting of a property in `specs/Rewriting.antt`;
 //! "after each end" in `specs/Ends.antt`; what a side must be in `specs/Sides.antt`; senses, the
@@ -38,6 +38,7 @@ mod measure;
 mod refusal;
 mod rewriting;
 mod sense;
+mod waiting;
 
 pub use ends::after_each_end;
 pub use refusal::Refusal;

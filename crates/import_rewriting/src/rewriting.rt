@@ -146,7 +146,8 @@ fn sides_later(
     sides_of(alloc, bound, joined, body)
 }
 
-/// The two sides where the consequent says the whole property.
+/// The two sides where the consequent says the whole property; or, where that is too heavy or has
+/// no form, where the antecedent says the property's negation, and the consequent is 0.
 fn sides_alone(
     alloc: Global,
     bound: u8,
@@ -157,10 +158,35 @@ fn sides_alone(
     ensures { IfOk result (λ r. AreSides bound (written_form antecedent.value) property.now
         (written_form r.antecedent.value) (written_form r.consequent.value)) }
 {
-    let consequent = consequent_of(alloc, bound, Sense::Kept, property)?;
+    match consequent_of(alloc, bound, Sense::Kept, property) {
+        Ok(consequent) => Ok(Rewriting {
+            antecedent,
+            consequent,
+        }),
+        Err(Refusal::TooHeavy | Refusal::Negation) => {
+            sides_never(alloc, bound, antecedent, property)
+        }
+        Err(refusal) => Err(refusal),
+    }
+}
+
+/// The two sides where the antecedent says the negation of the property, and the consequent is 0.
+fn sides_never(
+    alloc: Global,
+    bound: u8,
+    antecedent: Box<Sequence>,
+    property: &Property,
+) -> Result<Rewriting, Refusal>
+    requires { IsAntecedent (written_form antecedent.value) }
+    ensures { IfOk result (λ r. AreSides bound (written_form antecedent.value) property.now
+        (written_form r.antecedent.value) (written_form r.consequent.value)) }
+{
+    let broken = consequent_of(alloc, bound, Sense::Negated, property)?;
+    let joined = ends_later(alloc, antecedent, 0, 0, &broken)?;
+    let never = boxed(alloc, Sequence::Boolean(Condition::Zero))?;
     Ok(Rewriting {
-        antecedent,
-        consequent,
+        antecedent: joined,
+        consequent: never,
     })
 }
 

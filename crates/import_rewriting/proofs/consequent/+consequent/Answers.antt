@@ -33,9 +33,11 @@ consequent_of-returns-in_ok-second-in-And t c =
     IfOk-weaker c.conjunction.result _ _ (λ b h.
     subst (λ a. SaysIn c.args.sense c.args.bound a (written_form b.value)) (sym c.in-And.is) (λ ticks inside.
     h ticks (form_of c.in-And.first.value) (form_of c.in-And.second.value)
-    (subst (λ a. SaysIn c.args.sense c.args.bound a (written_form c.in_ok-first-in-And.first.value)) c.deref-in-And.ensures c.in_ok-first-in-And.ensures
+    (subst (λ a. SaysIn c.args.sense c.args.bound a (written_form c.in_ok-first-in-And.first.value))
+    c.deref-in-And.ensures c.in_ok-first-in-And.ensures
     ticks (λ o. inside (inl o)))
-    (subst (λ a. SaysIn c.args.sense c.args.bound a (written_form c.in_ok-second-in-And.second.value)) c.deref-in-And-2.ensures c.in_ok-second-in-And.ensures
+    (subst (λ a. SaysIn c.args.sense c.args.bound a (written_form c.in_ok-second-in-And.second.value))
+    c.deref-in-And-2.ensures c.in_ok-second-in-And.ensures
     ticks (λ o. inside (inr o)))))
     c.conjunction.ensures
 
@@ -44,9 +46,11 @@ consequent_of-returns-in_ok-second-in-Or t c =
     IfOk-weaker c.disjunction.result _ _ (λ b h.
     subst (λ a. SaysIn c.args.sense c.args.bound a (written_form b.value)) (sym c.in-Or.is) (λ ticks inside.
     h ticks (form_of c.in-Or.first.value) (form_of c.in-Or.second.value)
-    (subst (λ a. SaysIn c.args.sense c.args.bound a (written_form c.in_ok-first-in-Or.first.value)) c.deref-in-Or.ensures c.in_ok-first-in-Or.ensures
+    (subst (λ a. SaysIn c.args.sense c.args.bound a (written_form c.in_ok-first-in-Or.first.value))
+    c.deref-in-Or.ensures c.in_ok-first-in-Or.ensures
     ticks (λ o. inside (inl o)))
-    (subst (λ a. SaysIn c.args.sense c.args.bound a (written_form c.in_ok-second-in-Or.second.value)) c.deref-in-Or-2.ensures c.in_ok-second-in-Or.ensures
+    (subst (λ a. SaysIn c.args.sense c.args.bound a (written_form c.in_ok-second-in-Or.second.value))
+    c.deref-in-Or-2.ensures c.in_ok-second-in-Or.ensures
     ticks (λ o. inside (inr o)))))
     c.disjunction.ensures
 
@@ -84,18 +88,22 @@ consequent_of-returns-in_ok-body-in-Implication t c =
     IfOk-weaker c.implication.result _ _ (λ b h.
     subst (λ a. SaysIn c.args.sense c.args.bound a (written_form b.value)) (sym c.in-Implication.is) (λ ticks inside.
     h ticks (form_of c.in-Implication.body.value)
-    (subst (λ a. SaysIn c.args.sense c.args.bound a (written_form c.in_ok-body-in-Implication.body.value)) c.deref-in-Implication.ensures c.in_ok-body-in-Implication.ensures ticks inside)))
+    (subst (λ a. SaysIn c.args.sense c.args.bound a (written_form c.in_ok-body-in-Implication.body.value))
+    c.deref-in-Implication.ensures c.in_ok-body-in-Implication.ensures ticks inside)))
     c.implication.ensures
 
 pub consequent_of-returns-in_ok-body-in-NextImplication : goal.consequent_of-returns-in_ok-body-in-NextImplication
 consequent_of-returns-in_ok-body-in-NextImplication t c =
     IfOk-weaker c.implication-in-NextImplication.result _ _ (λ b h.
-    subst (λ a. SaysIn c.args.sense c.args.bound a (written_form b.value)) (sym c.in-NextImplication.is) (λ ticks inside.
-    subst (λ k. Says ticks (in_sense c.args.sense (implied k (form_of c.in-NextImplication.body.value))) (written_form b.value))
+    subst (λ a. SaysIn c.args.sense c.args.bound a (written_form b.value)) (sym c.in-NextImplication.is)
+    (λ ticks inside.
+    subst (λ k. Says ticks (in_sense c.args.sense (implied k (form_of c.in-NextImplication.body.value)))
+    (written_form b.value))
     (c.in_ok-ended-in-NextImplication.ensures.ended)
     (subst (λ a. JoinsImplied c.args.sense (written_form a) (written_form c.in_ok-body-in-NextImplication.body.value)
     (written_form b.value)) c.deref-in-NextImplication-2.ensures h ticks (form_of c.in-NextImplication.body.value)
-    (subst (λ a. SaysIn c.args.sense c.args.bound a (written_form c.in_ok-body-in-NextImplication.body.value)) c.deref-in-NextImplication.ensures c.in_ok-body-in-NextImplication.ensures ticks inside))))
+    (subst (λ a. SaysIn c.args.sense c.args.bound a (written_form c.in_ok-body-in-NextImplication.body.value))
+    c.deref-in-NextImplication.ensures c.in_ok-body-in-NextImplication.ensures ticks inside))))
     c.implication-in-NextImplication.ensures
 
 pub consequent_of-returns-in_ok-body-in-FollowedBy : goal.consequent_of-returns-in_ok-body-in-FollowedBy
@@ -105,14 +113,16 @@ consequent_of-returns-in_ok-body-in-FollowedBy t c =
     says_followed_by ticks c.args.sense c.opposite-in-FollowedBy.result (form_of c.in-FollowedBy.body.value)
     (written_form c.in-FollowedBy.antecedent) (written_form c.in_ok-body-in-FollowedBy.body.value)
     (written_form b.value) c.opposite-in-FollowedBy.ensures h
-    (subst (λ a. SaysIn c.args.sense c.args.bound a (written_form c.in_ok-body-in-FollowedBy.body.value)) c.deref-in-FollowedBy.ensures c.in_ok-body-in-FollowedBy.ensures ticks inside)))
+    (subst (λ a. SaysIn c.args.sense c.args.bound a (written_form c.in_ok-body-in-FollowedBy.body.value))
+    c.deref-in-FollowedBy.ensures c.in_ok-body-in-FollowedBy.ensures ticks inside)))
     c.implication-in-FollowedBy.ensures
 
 pub consequent_of-returns-in_ok-body-in-NextFollowedBy : goal.consequent_of-returns-in_ok-body-in-NextFollowedBy
 consequent_of-returns-in_ok-body-in-NextFollowedBy t c =
     IfOk-weaker c.implication-in-NextFollowedBy.result _ _ (λ b h.
     subst (λ a. SaysIn c.args.sense c.args.bound a (written_form b.value)) (sym c.in-NextFollowedBy.is) (λ ticks inside.
-    subst (λ k. Says ticks (in_sense c.args.sense (followed k (form_of c.in-NextFollowedBy.body.value))) (written_form b.value))
+    subst (λ k. Says ticks (in_sense c.args.sense (followed k (form_of c.in-NextFollowedBy.body.value)))
+    (written_form b.value))
     (c.in_ok-ended-in-NextFollowedBy.ensures.ended)
     (says_followed_by ticks c.args.sense c.opposite-in-NextFollowedBy.result (form_of c.in-NextFollowedBy.body.value)
     (written_form c.in_ok-ended-in-NextFollowedBy.ended.value)
@@ -121,7 +131,8 @@ consequent_of-returns-in_ok-body-in-NextFollowedBy t c =
     (subst (λ a. JoinsImplied c.opposite-in-NextFollowedBy.result (written_form a)
     (written_form c.in_ok-body-in-NextFollowedBy.body.value) (written_form b.value))
     c.deref-in-NextFollowedBy-2.ensures h)
-    (subst (λ a. SaysIn c.args.sense c.args.bound a (written_form c.in_ok-body-in-NextFollowedBy.body.value)) c.deref-in-NextFollowedBy.ensures c.in_ok-body-in-NextFollowedBy.ensures ticks inside))))
+    (subst (λ a. SaysIn c.args.sense c.args.bound a (written_form c.in_ok-body-in-NextFollowedBy.body.value))
+    c.deref-in-NextFollowedBy.ensures c.in_ok-body-in-NextFollowedBy.ensures ticks inside))))
     c.implication-in-NextFollowedBy.ensures
 
 pub consequent_of-returns-in_ok-guard-in-If : goal.consequent_of-returns-in_ok-guard-in-If
@@ -131,7 +142,8 @@ consequent_of-returns-in_ok-guard-in-If t c =
     subst (λ a. JoinsImplied c.args.sense a (written_form c.in_ok-body-in-If.body.value) (written_form b.value))
     (ap written_form c.deref-in-If-2.ensures ∙ ap written_form c.in_ok-guard-in-If.ensures) h ticks
     (form_of c.in-If.body.value)
-    (subst (λ a. SaysIn c.args.sense c.args.bound a (written_form c.in_ok-body-in-If.body.value)) c.deref-in-If.ensures c.in_ok-body-in-If.ensures ticks inside)))
+    (subst (λ a. SaysIn c.args.sense c.args.bound a (written_form c.in_ok-body-in-If.body.value))
+    c.deref-in-If.ensures c.in_ok-body-in-If.ensures ticks inside)))
     c.implication-in-If.ensures
 
 pub consequent_of-returns-in_ok-second-in-IfElse : goal.consequent_of-returns-in_ok-second-in-IfElse
@@ -139,9 +151,11 @@ consequent_of-returns-in_ok-second-in-IfElse t c =
     IfOk-weaker c.choice.result _ _ (λ b h.
     subst (λ a. SaysIn c.args.sense c.args.bound a (written_form b.value)) (sym c.in-IfElse.is) (λ ticks inside.
     h ticks (form_of c.in-IfElse.first.value) (form_of c.in-IfElse.second.value)
-    (subst (λ a. SaysIn c.args.sense c.args.bound a (written_form c.in_ok-first-in-IfElse.first.value)) c.deref-in-IfElse.ensures c.in_ok-first-in-IfElse.ensures
+    (subst (λ a. SaysIn c.args.sense c.args.bound a (written_form c.in_ok-first-in-IfElse.first.value))
+    c.deref-in-IfElse.ensures c.in_ok-first-in-IfElse.ensures
     ticks (λ o. inside (inl o)))
-    (subst (λ a. SaysIn c.args.sense c.args.bound a (written_form c.in_ok-second-in-IfElse.second.value)) c.deref-in-IfElse-2.ensures c.in_ok-second-in-IfElse.ensures
+    (subst (λ a. SaysIn c.args.sense c.args.bound a (written_form c.in_ok-second-in-IfElse.second.value))
+    c.deref-in-IfElse-2.ensures c.in_ok-second-in-IfElse.ensures
     ticks (λ o. inside (inr o)))))
     c.choice.ensures
 
@@ -151,7 +165,8 @@ consequent_of-returns-in_ok-body-in-Next t c =
     subst (λ a. SaysIn c.args.sense c.args.bound a (written_form b.value)) (sym c.in-Next.is) (λ ticks inside.
     says_later_in ticks c.in-Next.count c.args.sense (form_of c.in-Next.body.value)
     (written_form c.in_ok-body-in-Next.body.value) (written_form b.value) h
-    (subst (λ a. SaysIn c.args.sense c.args.bound a (written_form c.in_ok-body-in-Next.body.value)) c.deref-in-Next.ensures c.in_ok-body-in-Next.ensures ticks inside)))
+    (subst (λ a. SaysIn c.args.sense c.args.bound a (written_form c.in_ok-body-in-Next.body.value))
+    c.deref-in-Next.ensures c.in_ok-body-in-Next.ensures ticks inside)))
     c.later.ensures
 
 pub consequent_of-returns-in_ok-body-in-Always : goal.consequent_of-returns-in_ok-body-in-Always
@@ -159,7 +174,8 @@ consequent_of-returns-in_ok-body-in-Always t c =
     IfOk-weaker c.at_each.result _ _ (λ b h.
     subst (λ a. SaysIn c.args.sense c.args.bound a (written_form b.value)) (sym c.in-Always.is) (λ ticks inside.
     h ticks (form_of c.in-Always.body.value)
-    (subst (λ a. SaysIn c.args.sense c.args.bound a (written_form c.in_ok-body-in-Always.body.value)) c.deref-in-Always.ensures c.in_ok-body-in-Always.ensures ticks inside)))
+    (subst (λ a. SaysIn c.args.sense c.args.bound a (written_form c.in_ok-body-in-Always.body.value))
+    c.deref-in-Always.ensures c.in_ok-body-in-Always.ensures ticks inside)))
     c.at_each.ensures
 
 pub consequent_of-returns-in_ok-body-in-Eventually : goal.consequent_of-returns-in_ok-body-in-Eventually
@@ -167,43 +183,37 @@ consequent_of-returns-in_ok-body-in-Eventually t c =
     IfOk-weaker c.at_some.result _ _ (λ b h.
     subst (λ a. SaysIn c.args.sense c.args.bound a (written_form b.value)) (sym c.in-Eventually.is) (λ ticks inside.
     h ticks (form_of c.in-Eventually.body.value)
-    (subst (λ a. SaysIn c.args.sense c.args.bound a (written_form c.in_ok-body-in-Eventually.body.value)) c.deref-in-Eventually.ensures c.in_ok-body-in-Eventually.ensures ticks inside)))
+    (subst (λ a. SaysIn c.args.sense c.args.bound a (written_form c.in_ok-body-in-Eventually.body.value))
+    c.deref-in-Eventually.ensures c.in_ok-body-in-Eventually.ensures ticks inside)))
     c.at_some.ensures
 
 pub consequent_of-returns-in_ok-second-in-Until : goal.consequent_of-returns-in_ok-second-in-Until
 consequent_of-returns-in_ok-second-in-Until t c =
-    IfOk-weaker c.waiting.result _ _ (λ b h.
-    subst (λ a. SaysIn c.args.sense c.args.bound a (written_form b.value)) (sym c.in-Until.is)
-    (subst (λ s. SaysIn s c.args.bound (tree.Until c.in-Until.first c.in-Until.second) (written_form b.value)) (sym c.in-Kept.is) (λ ticks inside.
-    let once : Says ticks (form_of c.in-Until.first.value) (boolean c.in-Some.boolean) =
-    says_as ticks (form_of c.in-Until.first.value) (written_form c.in_ok-first-in-Until.first.value) (boolean c.in-Some.boolean)
-    (sym (ap written_form c.deref-in-Until-2.ensures) ∙ c.in-Some.ensures)
-    (subst (λ a. SaysIn Kept c.args.bound a (written_form c.in_ok-first-in-Until.first.value)) c.deref-in-Until.ensures c.in_ok-first-in-Until.ensures ticks
-    (λ o. inside tt)) in
-    let then : Says ticks (form_of c.in-Until.second.value) (written_form c.in_ok-second-in-Until.second.value) =
-    subst (λ a. SaysIn Kept c.args.bound a (written_form c.in_ok-second-in-Until.second.value)) c.deref-in-Until-3.ensures
-    c.in_ok-second-in-Until.ensures ticks (λ o. inside tt) in
-    h ticks (form_of c.in-Until.first.value) (form_of c.in-Until.second.value) (inside tt) once then)))
-    c.waiting.ensures
+    IfOk-weaker c.until.result _ _ (λ b h.
+    subst (λ a. SaysIn c.args.sense c.args.bound a (written_form b.value)) (sym c.in-Until.is) (λ ticks inside.
+    h ticks (form_of c.in-Until.first.value) (form_of c.in-Until.second.value) (inside tt)
+    (subst (λ a. Says ticks (form_of c.in-Until.first.value) (written_form a)) (sym c.deref-in-Until-3.ensures)
+    (subst (λ a. SaysIn Kept c.args.bound a (written_form c.in_ok-first-in-Until.first.value))
+    c.deref-in-Until.ensures c.in_ok-first-in-Until.ensures
+    ticks (λ o. inside tt)))
+    (subst (λ a. SaysIn Kept c.args.bound a (written_form c.in_ok-second-in-Until.second.value))
+    c.deref-in-Until-2.ensures
+    c.in_ok-second-in-Until.ensures ticks (λ o. inside tt))))
+    c.until.ensures
 
-pub consequent_of-returns-in_ok-last-in-UntilWith : goal.consequent_of-returns-in_ok-last-in-UntilWith
-consequent_of-returns-in_ok-last-in-UntilWith t c =
-    IfOk-weaker c.waiting-in-UntilWith.result _ _ (λ b h.
-    subst (λ a. SaysIn c.args.sense c.args.bound a (written_form b.value)) (sym c.in-UntilWith.is)
-    (subst (λ s. SaysIn s c.args.bound (tree.UntilWith c.in-UntilWith.first c.in-UntilWith.second) (written_form b.value)) (sym c.in-Kept-sense.is) (λ ticks inside.
-    let once : Says ticks (form_of c.in-UntilWith.first.value) (boolean c.in-Some-boolean_of.boolean) =
-    says_as ticks (form_of c.in-UntilWith.first.value) (written_form c.in_ok-first-in-UntilWith.first.value) (boolean c.in-Some-boolean_of.boolean)
-    (sym (ap written_form c.deref-in-UntilWith-2.ensures) ∙ c.in-Some-boolean_of.ensures)
-    (subst (λ a. SaysIn Kept c.args.bound a (written_form c.in_ok-first-in-UntilWith.first.value)) c.deref-in-UntilWith.ensures c.in_ok-first-in-UntilWith.ensures ticks
-    (λ o. inside tt)) in
-    let then : Says ticks (form_of c.in-UntilWith.second.value) (written_form c.in_ok-second-in-UntilWith.second.value) =
-    subst (λ a. SaysIn Kept c.args.bound a (written_form c.in_ok-second-in-UntilWith.second.value)) c.deref-in-UntilWith-3.ensures
-    c.in_ok-second-in-UntilWith.ensures ticks (λ o. inside tt) in
-    h ticks (form_of c.in-UntilWith.first.value) (both (form_of c.in-UntilWith.first.value) (form_of c.in-UntilWith.second.value)) (inside tt)
-    once
-    (c.in_ok-last-in-UntilWith.ensures ticks (form_of c.in-UntilWith.first.value) (form_of c.in-UntilWith.second.value)
-    once then))))
-    c.waiting-in-UntilWith.ensures
+pub consequent_of-returns-in_ok-second-in-UntilWith : goal.consequent_of-returns-in_ok-second-in-UntilWith
+consequent_of-returns-in_ok-second-in-UntilWith t c =
+    IfOk-weaker c.until_with.result _ _ (λ b h.
+    subst (λ a. SaysIn c.args.sense c.args.bound a (written_form b.value)) (sym c.in-UntilWith.is) (λ ticks inside.
+    h ticks (form_of c.in-UntilWith.first.value) (form_of c.in-UntilWith.second.value) (inside tt)
+    (subst (λ a. Says ticks (form_of c.in-UntilWith.first.value) (written_form a)) (sym c.deref-in-UntilWith-3.ensures)
+    (subst (λ a. SaysIn Kept c.args.bound a (written_form c.in_ok-first-in-UntilWith.first.value))
+    c.deref-in-UntilWith.ensures c.in_ok-first-in-UntilWith.ensures
+    ticks (λ o. inside tt)))
+    (subst (λ a. SaysIn Kept c.args.bound a (written_form c.in_ok-second-in-UntilWith.second.value))
+    c.deref-in-UntilWith-2.ensures
+    c.in_ok-second-in-UntilWith.ensures ticks (λ o. inside tt))))
+    c.until_with.ensures
 
 pub implies-returns : goal.implies-returns
 implies-returns t c =

@@ -16,5 +16,6 @@ pub returns-in-Negated : goal.returns-in-Negated
 returns-in-Negated c =
     IfOk-weaker c.each_later.result _ _ (λ b h.
     negated_some c.args.sense c.args.least c.args.most (written_form c.args.body.value) (written_form b.value)
-    c.in-Negated.is (subst (λ a. Each c.args.least c.args.most (written_form a) (written_form b.value)) c.deref.ensures h))
+    c.in-Negated.is (subst (λ a. Each c.args.least c.args.most (written_form a) (written_form b.value))
+    c.deref.ensures h))
     c.each_later.ensures

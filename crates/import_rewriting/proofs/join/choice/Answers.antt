@@ -30,7 +30,8 @@ returns c =
     let second = written_form c.in_ok-second-2.second.value in
     IfOk-weaker c.conjunction.result _ _ (λ b joined bound p q su sv.
     joined bound (implied (kernel.one c.args.condition) p) (implied (kernel.one (negation c.args.condition)) q)
-    (subst (λ a. JoinsImplied c.args.sense a (written_form c.args.first.value) first) guard c.in_ok-first-2.ensures bound p
+    (subst (λ a. JoinsImplied c.args.sense a (written_form c.args.first.value) first) guard c.in_ok-first-2.ensures
+    bound p
     su)
     (subst (λ a. JoinsImplied c.args.sense a (written_form c.args.second.value) second) other c.in_ok-second-2.ensures
     bound q sv))

@@ -12,7 +12,8 @@ use Rattle.import_rewriting.proofs.join.implication.Goals as goal
 pub returns-in-Kept : goal.returns-in-Kept
 returns-in-Kept c =
     IfOk-weaker c.ends_of.result _ _ (λ b h.
-    kept_implied c.args.sense (written_form c.args.antecedent.now) (written_form c.args.body.value) (written_form b.value)
+    kept_implied c.args.sense (written_form c.args.antecedent.now) (written_form c.args.body.value)
+    (written_form b.value)
     c.in-Kept.is
     (subst (λ a. Ends (written_form c.args.antecedent.now) (written_form a) (written_form b.value)) c.deref.ensures h))
     c.ends_of.ensures

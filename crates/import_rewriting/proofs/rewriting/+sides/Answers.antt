@@ -22,7 +22,8 @@ sides_of-returns-in-Implication t c =
     IfOk-weaker c.sides_later.result _ _ (λ b h.
     let a = written_form b.antecedent.value in
     let s = written_form b.consequent.value in
-    let later = subst (λ p. AreSidesLater c.args.bound r 0 0 (written_form c.in-Implication.end) p a s) c.deref.ensures h in
+    let later = subst (λ p. AreSidesLater c.args.bound r 0 0 (written_form c.in-Implication.end) p a s)
+    c.deref.ensures h in
     subst (λ q. AreSides c.args.bound r q a s) (sym c.in-Implication.is) (record {
       antecedent = later.antecedent;
       consequent = later.consequent;
@@ -36,7 +37,9 @@ sides_of-returns-in_ok-ended-in-NextImplication t c =
     IfOk-weaker c.sides_later-in-NextImplication.result _ _ (λ b h.
     let a = written_form b.antecedent.value in
     let s = written_form b.consequent.value in
-    let later = subst (λ p. AreSidesLater c.args.bound r 0 0 (written_form c.deref-in-NextImplication.result.now) p a s) c.deref-in-NextImplication-2.ensures h in
+    let later = subst (λ p.
+    AreSidesLater c.args.bound r 0 0 (written_form c.deref-in-NextImplication.result.now) p a s)
+    c.deref-in-NextImplication-2.ensures h in
     subst (λ q. AreSides c.args.bound r q a s) (sym c.in-NextImplication.is) (record {
       antecedent = later.antecedent;
       consequent = later.consequent;
@@ -53,7 +56,8 @@ sides_of-returns-in_ok-guard-in-If t c =
     IfOk-weaker c.sides_later-in-If.result _ _ (λ b h.
     let a = written_form b.antecedent.value in
     let s = written_form b.consequent.value in
-    let later = subst (λ p. AreSidesLater c.args.bound r 0 0 (written_form c.deref-in-If.result.now) p a s) c.deref-in-If-2.ensures h in
+    let later = subst (λ p. AreSidesLater c.args.bound r 0 0 (written_form c.deref-in-If.result.now) p a s)
+    c.deref-in-If-2.ensures h in
     subst (λ q. AreSides c.args.bound r q a s) (sym c.in-If.is) (record {
       antecedent = later.antecedent;
       consequent = later.consequent;

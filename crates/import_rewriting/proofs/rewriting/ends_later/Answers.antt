@@ -35,7 +35,8 @@ returns-clause-later c =
     let most = c.args.most in
     let some_r = sym (ap (λ a. admits_empty (written_form a)) c.deref-2.ensures) ∙ sym c.if-may_be_empty.ensures in
     let some_t =
-    sym (sym (ap (λ a. admits_empty (written_form a)) c.deref-else-may_be_empty.ensures) ∙ sym c.if-may_be_empty-2.ensures) in
+    sym (sym (ap (λ a. admits_empty (written_form a)) c.deref-else-may_be_empty.ensures)
+    ∙ sym c.if-may_be_empty-2.ensures) in
     IfOk-weaker c.made-2.result _ _ (λ b made.
     subst (λ a. EndsLater r least most t a) (sym (ap written_form made.0))
     (subst (λ x. EndsLater r least most t (delay r least most x)) (sym c.in_ok-second.ensures)
