@@ -1,0 +1,129 @@
+//! What no clause says of a file's items.
+
+use import_scopes::{File, NoteKind, ScopeId, Status};
+use import_tokens::{Expansions, Macros, TokenFault};
+use std::alloc::Global;
+use std::test::Fail;
+
+/// What becomes of each assertion, and then the labels of those that are read, and the names that
+/// are declared.
+fn read(alloc: Global, text: &[u8]) -> Result<Vec<u8>, TokenFault> {
+    let mut macros = Macros::new(alloc);
+    let expansions = Expansions::of(alloc, text, &mut macros)?;
+    let tokens = expansions.tokens(alloc)?;
+    let file = File::of(alloc, tokens.as_slice())?;
+    let mut out = Vec::new(alloc);
+    for status in file.statuses.iter() {
+        let code = match status {
+            Status::Read(_) => "Read",
+            Status::Covers => "Covers",
+            Status::Refused(refusal) => refusal.code(),
+        };
+        out.extend_from_slice(code.as_bytes())?;
+        out.push(b' ')?;
+    }
+    for assertion in file.assertions.iter() {
+        out.extend_from_slice(assertion.label.unwrap_or(b"-"))?;
+        out.push(b' ')?;
+    }
+    for declaration in file.declarations.iter() {
+        out.extend_from_slice(declaration.name)?;
+        out.push(b'=')?;
+        for token in declaration.body.iter() {
+            out.extend_from_slice(token.text)?;
+        }
+        out.push(b' ')?;
+    }
+    Ok(out)
+}
+
+/// A file, and what becomes of its items.
+fn case(row: usize) -> (&'static [u8], &'static [u8]) {
+    match row {
+        0 => (
+            b"a: assert property (x); assume property (y) $display(\"n\"); else $error;",
+            b"Read Read a - ",
+        ),
+        1 => (
+            b"module m #(parameter N = 3, logic [1:0] K = 2'd1) (input a); localparam P = N + \
+              1, Q = 2; endmodule : m",
+            b"N=3 K=2'd1 P=N+1 Q=2 ",
+        ),
+        2 => (
+            b"property p(a, b = 1); @(posedge c) a |-> b; endproperty : p sequence s; x ##1 \
+              y; endsequence",
+            b"p=@(posedgec)a|->b; s=x##1y; ",
+        ),
+        3 => (
+            b"always @(posedge c) begin if (x) assert (y); else begin cover (z); end end r: \
+              restrict property (q);",
+            b"Immediate Immediate Read r ",
+        ),
+        4 => (
+            b"initial begin case (x) 1: begin end endcase end assert (a); assert final (b); \
+              c: cover property (d);",
+            b"Immediate Immediate Covers ",
+        ),
+        5 => (
+            b"typedef enum logic [1:0] {A, B = 2, C} t; let f(x) = x + 1; typedef struct { \
+              int y; } u;",
+            b"A= B=2 C= f=x+1 ",
+        ),
+        6 => (
+            b"for (genvar i = 0; i < 2; i++) begin : g assert property (x[i]); end if (N) \
+              assert property (y);",
+            b"Generate Generate ",
+        ),
+        7 => (
+            b"function f; assert (x); endfunction class k; assert property (z); endclass task \
+              t; endtask foo bar; assert property (y);",
+            b"Immediate Immediate Read - ",
+        ),
+        8 => (
+            b"a: assert property (x) b: assert property (y); assert property x;",
+            b"Expected Read Expected b ",
+        ),
+        9 => (
+            b"default clocking cb @(posedge clk); endclocking default disable iff (!r); \
+              clocking d @(posedge e); input x; endclocking : d",
+            b"cb=(posedgeclk) d=(posedgee) ",
+        ),
+        _ => (
+            b"junk ( stray ; module m; endmodule `N(x) assert property (y);",
+            b"Read - ",
+        ),
+    }
+}
+
+#[test]
+fn finds_items(rt: HostRuntime) -> Result<(), Fail> {
+    for row in 0..11 {
+        let (text, wanted) = case(row);
+        let found = read(rt.alloc(), text)?;
+        assert!(rt; found.as_slice() == wanted, "row {row}");
+    }
+    Ok(())
+}
+
+#[test]
+fn tells_notes_and_scopes(rt: HostRuntime) -> Result<(), Fail> {
+    let alloc = rt.alloc();
+    let text =
+        b"`include \"x.svh\"\nmodule m; default clocking c @(posedge k); endclocking default \
+              disable iff (r); bind m n u(.*); `N(assert) endmodule a: assert property (x);";
+    let mut macros = Macros::new(alloc);
+    let expansions = Expansions::of(alloc, text, &mut macros)?;
+    let tokens = expansions.tokens(alloc)?;
+    let file = File::of(alloc, tokens.as_slice())?;
+    assert!(rt; file.notes.len() == 3);
+    let kinds = file.notes[0].kind == NoteKind::Include
+        && file.notes[1].kind == NoteKind::Bind
+        && file.notes[2].kind == NoteKind::UnknownMacro;
+    assert!(rt; kinds);
+    assert!(rt; file.scopes.len() == 2);
+    let defaults = file.scopes[1].clock.is_some() && file.scopes[1].disable.is_some();
+    assert!(rt; defaults && file.scopes[0].clock.is_none());
+    assert!(rt; file.assertions.len() == 1);
+    assert!(rt; file.assertions[0].scope == ScopeId(0) && file.assertions[0].at == 134);
+    Ok(())
+}
