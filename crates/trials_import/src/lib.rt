@@ -1,4 +1,5 @@
-//! Trials of the front end of `svamon import`: trees and items of SystemVerilog texts.
+//! Trials of what reads a team's own file: trees and items of SystemVerilog texts, and that
+//! properties have rewritings.
 //!
 //! `trees`: how operators group, by tables 11-2 and 16-3 of IEEE 1800-2017, what numbers are worth,
 //! and at which token other texts go wrong, with which code. `items`: what becomes of each
@@ -16,5 +17,7 @@
 
 #[cfg(test)]
 mod items;
+#[cfg(test)]
+mod rewritings;
 #[cfg(test)]
 mod trees;
