@@ -77,6 +77,7 @@ explains c text w e told over told_in = record {
   suite = e.trace.suite;
   rows = e.trace.rows;
   traced = over.traced;
+  asked = over.asked;
   lines = e.trace.report.lines.items;
   lines_are = refl;
   explanations = e.explanations.items;

@@ -1,5 +1,6 @@
 -- Explanations of failed attempts of a text over a dump, and the report as a page.
-use Rattle.std.specs.Prelude.{◌≡◌, ℕ, Bool, false, List, Some, None, length, map, string_bytes}
+use Rattle.std.specs.Prelude.{◌≡◌, ℕ, Bool, true, false, List, length, map, string_bytes}
+use Rattle.std.specs.Prelude.{Option, Some, None}
 use Rattle.std.specs.List.{AllZip, list_any}
 use Rattle.std.specs.Option.{option_map}
 use Rattle.std.specs.Str.{bytes_eq}
@@ -42,6 +43,18 @@ pub record IsTraced (c : Contents) (text : List ℕ) (suite : Suite) (rows : Row
   pub counted : HasCounts suite.counters.items rows
   pub timed : TellsTimes c text report.clocks times
 
+-- an assertion of the suite has this name
+abbrev pub has_name : Suite → List ℕ → Bool
+has_name suite name = list_any (λ a. bytes_eq (string_bytes a.name) name) suite.assertions.items
+
+-- an assertion has the one name that is asked for, if one is
+abbrev pub has_asked : Suite → Option (List ℕ) → Bool
+has_asked suite None = true
+has_asked suite (Some name) = has_name suite name
+
+abbrev pub HasWanted : Suite → Wanted → Type 0
+HasWanted suite w = has_asked suite (option_map (λ t. t.now) w.only) ≡ true
+
 -- What is told of those failed attempts of the report on a text that are asked for: each is
 -- explained over the rows that the report is on.
 pub record Explains (c : Contents) (text : List ℕ) (w : Wanted) (report : ReportData)
@@ -49,6 +62,7 @@ pub record Explains (c : Contents) (text : List ℕ) (w : Wanted) (report : Repo
   pub suite : Suite
   pub rows : Rows
   pub traced : IsTraced c text suite rows report times
+  pub asked : HasWanted suite w
   pub lines : List Line
   pub lines_are : map line lines ≡ report.lines
   pub explanations : List Explanation
@@ -80,10 +94,6 @@ pub record IsPageOver (c : Contents) (text : List ℕ) (w : Wanted) (report : Re
 -- of each assertion the first failed attempts
 abbrev pub first_ones : ℕ → Wanted
 first_ones most = record { only = None; start = None; most = most }
-
--- an assertion of the suite has this name
-abbrev pub has_name : Suite → List ℕ → Bool
-has_name suite name = list_any (λ a. bytes_eq (string_bytes a.name) name) suite.assertions.items
 
 -- The one name that is asked for is that of no assertion.
 abbrev pub IsUnnamed : Suite → Wanted → Fault → Type 0
@@ -146,6 +156,7 @@ pub record IsExplainedOver (c : Contents) (text : List ℕ) (w : Wanted) (e : Ex
     Type 0 where
   pub traced :
       IsTraced c text e.trace.suite e.trace.rows (data_of e.trace.report) e.trace.times.items
+  pub asked : HasWanted e.trace.suite w
   pub explained :
       AreExplained e.trace.suite e.trace.rows w e.trace.report.lines.items e.explanations.items
 

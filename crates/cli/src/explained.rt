@@ -1,6 +1,6 @@
 //! Failed attempts of a text over a dump, explained.
 
-ghost use Rattle.std.specs.Prelude.{◌≡◌, IfOk, IfErr, map};
+ghost use Rattle.std.specs.Prelude.{◌≡◌, IfOk, IfErr, OnOk, map};
 ghost use Rattle.std.specs.List.{AllByRecursion};
 ghost use Rattle.vcd_reader.specs.Dump.{Contents};
 ghost use Rattle.vcd_reader.specs.Held.{HoldsContents};
@@ -10,6 +10,7 @@ ghost use Rattle.judging_reports.specs.Judged.{AreLinesOver};
 ghost use Rattle.explaining_reports.specs.Explained.{AreExplained};
 ghost use Rattle.explaining_reports.specs.Told.{HasLine};
 ghost use Rattle.cli.specs.Explained.{IsExplainedOver, WhyNotExplained, IsUnnamed, has_name};
+ghost use Rattle.cli.specs.Explained.{HasWanted};
 
 use crate::heads::{Heads, heads_of};
 use crate::text::file_of;
@@ -47,7 +48,8 @@ fn has_assertion(suite: &Suite, name: &str) -> bool
 
 /// N1 where the one assertion that is wanted isn't there.
 fn find_wanted(alloc: Global, suite: &Suite, wanted: &Wanted<'_>) -> Result<(), Fault<'static>>
-    ensures { IfErr result (IsUnnamed suite.now wanted.now) }
+    ensures found { OnOk result (HasWanted suite.now wanted.now) }
+    ensures refused { IfErr result (IsUnnamed suite.now wanted.now) }
 {
     let Some(only) = wanted.only else {
         return Ok(());

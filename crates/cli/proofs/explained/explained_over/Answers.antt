@@ -11,8 +11,11 @@ returns-in_err-find_wanted-clause-err g c = λ k holds.
     err_is c.from_residual-in_err-find_wanted.result fault (WhyNotExplained k text w)
     c.from_residual-in_err-find_wanted.ensures.1
     (unnamed k text w c.in_ok-trace.trace.suite (c.in_ok-trace.ensures.ok k holds).says fault
-    c.in_err-find_wanted.ensures)
+    c.in_err-find_wanted.ensures.refused)
 
 pub returns-clause-ok : goal.returns-clause-ok
-returns-clause-ok g c = λ k holds.
-    record { traced = c.in_ok-trace.ensures.ok k holds; explained = c.in_ok-explanations.ensures }
+returns-clause-ok g c = λ k holds. record {
+  traced = c.in_ok-trace.ensures.ok k holds;
+  asked = c.in_ok-find_wanted.ensures.found;
+  explained = c.in_ok-explanations.ensures;
+}
