@@ -13,7 +13,7 @@ UNPROVED := Builds svamon without proof, with run-time checks: what you see is u
 BYTECODE := crates/answers_bytecode/out/answers_bytecode
 VERIFIER := crates/answers_verifier/out/answers_verifier
 MACHINE := crates/answers_machine/out/answers_machine
-CORE := crates/answers_core/out/answers_core
+CORE := crates/answers_workers/out/answers_workers
 REFUSING := scripts/tools/fail_alloc 3 crates/svamon/out/svamon
 PROGRAM := examples/fails_at_its_tick/program.svm
 FILES = --vcd examples/$(1)/dump.vcd --sva examples/$(1)/assertion.sva
@@ -66,7 +66,7 @@ svamon:
 	cd crates/svamon && rm -f out/svamon && { rt run -- help; test -x out/svamon; }
 
 # Their runs by rt have no cases, and fail.
-answers_bytecode answers_verifier answers_machine answers_core:
+answers_bytecode answers_verifier answers_machine answers_workers:
 	cd crates/$@ && rm -f out/$@ && { rt run > /dev/null 2>&1; test -x out/$@; }
 
 bench: svamon answers_bytecode answers_verifier answers_machine
@@ -75,7 +75,7 @@ bench: svamon answers_bytecode answers_verifier answers_machine
 	bench/shapes
 	cd crates/answers_texts && rt run > /dev/null || test -x out/answers_texts
 	bench/texts
-	cd crates/answers_suites && rt run > /dev/null || test -x out/answers_suites
+	cd crates/answers_types && rt run > /dev/null || test -x out/answers_types
 	bench/suites
 	bench/bytecode
 	bench/verifier
@@ -87,7 +87,7 @@ bench: svamon answers_bytecode answers_verifier answers_machine
 	bench/core
 	bench/threads
 
-allocations: svamon answers_bytecode answers_verifier answers_core
+allocations: svamon answers_bytecode answers_verifier answers_workers
 	scripts/tools/bytecode_memory.py $(BYTECODE)
 	scripts/tools/verifier_memory $(VERIFIER)
 	$(REFUSING) check $(call FILES,fails_at_its_tick) --workers 2
@@ -100,7 +100,7 @@ allocations: svamon answers_bytecode answers_verifier answers_core
 	$(REFUSING) verify $(PROGRAM)
 	$(REFUSING) upgrade $(PROGRAM) --out /dev/null
 	$(REFUSING) run --vcd examples/fails_at_its_tick/dump.vcd --code $(PROGRAM)
-	awk 'BEGIN { RS = "\001"; ORS = "" } NR == 3' crates/answers_core/stdin > $(CORE).case
+	awk 'BEGIN { RS = "\001"; ORS = "" } NR == 3' crates/answers_workers/stdin > $(CORE).case
 	scripts/tools/fail_alloc -i $(CORE).case 1 $(CORE)
 
 random: svamon answers_bytecode answers_verifier answers_machine
@@ -119,4 +119,4 @@ soak: svamon
 	scripts/tools/soak crates/svamon/out/svamon $(SECONDS) $(SEED)
 
 .PHONY: help demo try test test-all edits install svamon bench allocations random soak
-.PHONY: answers_bytecode answers_verifier answers_machine answers_core
+.PHONY: answers_bytecode answers_verifier answers_machine answers_workers

@@ -1,7 +1,7 @@
 #!/usr/bin/env python3
 """Whether `check` and `judge` write the same: scripts/random/same_reports.py SVAMON
 
-Over each example, and each text of answers_suites and of answers_texts over a dump of random values of all the names in
+Over each example, and each text of answers_types and of answers_texts over a dump of random values of all the names in
 them, it compares what `svamon check` writes by 1, 4, 2 and 64 workers through windows of 1, 7, 1,000 and 65,536 clocks,
 and its status, with what `svamon judge` writes. A text that `check` can't compile (K1 to K4), or on which the slow
 `judge` takes over ten seconds, is counted apart.
@@ -68,7 +68,7 @@ def texts_of(file):
 
 def with_names(crate):
     widths = {}
-    if crate == "answers_suites":
+    if crate == "answers_types":
         for line in texts_of(f"{DATA}/{crate}/data/names.txt"):
             path, width = line.split(" ")
             widths[path] = int(width)
@@ -98,7 +98,7 @@ def main(svamon):
             told = compare(svamon, f"{folder}/dump.vcd", f"{folder}/assertion.sva", *ports)
             print(f"same_reports: {name}: {'a report' if told else 'REFUSED'}")
     with tempfile.TemporaryDirectory() as room:
-        compare_texts(svamon, "answers_suites", "suites.txt", room)
+        compare_texts(svamon, "answers_types", "suites.txt", room)
         compare_texts(svamon, "answers_texts", "texts.txt", room)
 
 

@@ -1,5 +1,5 @@
 #!/usr/bin/env python3
-"""Writes the texts of crates/answers_suites and what each must answer: scripts/random/texts_with_faults.py
+"""Writes the texts of crates/answers_types and what each must answer: scripts/random/texts_with_faults.py
 
 A fault's place is marked by a caret in the pieces below, and the answer is worked out from the marks and the order of
 the kinds alone: Y1, Y2, Y3, Y4, Y7, Y8, Y9, Y5, Y6, then the lowest byte. No program of this repository is asked.
@@ -7,7 +7,7 @@ the kinds alone: Y1, Y2, Y3, Y4, Y7, Y8, Y9, Y5, Y6, then the lowest byte. No pr
 import itertools
 import pathlib
 
-DATA = pathlib.Path(__file__).resolve().parents[2] / 'crates' / 'answers_suites'
+DATA = pathlib.Path(__file__).resolve().parents[2] / 'crates' / 'answers_types'
 ORDER = ['Y1 UnknownName', 'Y2 Duplicate', 'Y3 WiderThan128', 'Y4 SliceRange', 'Y7 OtherClock', 'Y8 CyclicSequence',
          'Y9 TooWide', 'Y5 Degenerate', 'Y6 AdmitsEmpty']
 NAMES = [('top.clk', 1), ('top.a', 1), ('top.b', 1), ('top.d', 8), ('top.w', 100), ('top.v', 128), ('g', 8)]

@@ -11,7 +11,7 @@ use Rattle.verdicts.specs.Lines.{ReportData}
 use Rattle.compiled_reports.specs.declared.fault.LinesFault.{LinesFault}
 use Rattle.compiled_reports.specs.Lines.{AreVariables, rows_at}
 use Rattle.compiled_reports.specs.Faults.{WhyNoLines}
-use Rattle.judging_reports.specs.Reported.{OverRows}
+use Rattle.judged_reports.specs.Reported.{OverRows}
 use Rattle.cli.specs.Programs.{lines_fault}
 use Rattle.cli.specs.Reported.{HasReport, SaysSuite}
 use Rattle.cli.specs.Outcomes.{WhyNoneByPrograms}

@@ -41,11 +41,11 @@ use Rattle.assertions.specs.declared.suite.Suite.{Suite}
 use Rattle.cli.specs.Dumps.{width_named}
 use Rattle.types_names.specs.Columns.{columns_of, is_listed}
 use Rattle.types_names.specs.Asked.{asked}
-use Rattle.types_suites.specs.declared.fault.TypeFault.{TypeFault}
-use Rattle.types_suites.specs.declared.fault.TypeFault.TheVariants as types
-use Rattle.types_suites.specs.Faults as faults
-use Rattle.types_suites.specs.Faults.{IsFirst, IsFaultless}
-use Rattle.types_suites.specs.Suites.{AreSignals, IsSuite}
+use Rattle.types_assertions.specs.declared.fault.TypeFault.{TypeFault}
+use Rattle.types_assertions.specs.declared.fault.TypeFault.TheVariants as types
+use Rattle.types_assertions.specs.Faults as faults
+use Rattle.types_assertions.specs.Faults.{IsFirst, IsFaultless}
+use Rattle.types_assertions.specs.Suites.{AreSignals, IsSuite}
 use Rattle.compiled_reports.specs.declared.fault.LinesFault.{LinesFault}
 use Rattle.compiled_reports.specs.declared.fault.LinesFault.TheVariants.{Program}
 use Rattle.compiled_reports.specs.declared.fault.LinesFault.TheVariants as lines
@@ -78,7 +78,7 @@ use Rattle.cli_faults.specs.declared.fault.Fault.TheVariants.{
   Memory,
 }
 use Rattle.cli.specs.Named.{scope_over}
-use Rattle.judging_reports.specs.Named.{AreNamed}
+use Rattle.judged_reports.specs.Named.{AreNamed}
 use Rattle.cli_faults.specs.Faults.{lex_fault, parse_fault, type_fault, window_fault}
 use Rattle.cli.specs.Programs.{lines_fault}
 use Rattle.cli.specs.Reported.{AreTokens, HasItems, IsTyped, SaysSuite}

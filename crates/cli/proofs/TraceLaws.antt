@@ -15,9 +15,9 @@ use Rattle.cycle_window.specs.Ticks.{ticks_of, row_of}
 use Rattle.cycle_window.specs.Times.{time_of_step}
 use Rattle.verdicts.specs.Lines.{ReportData, LineData}
 use Rattle.compiled_reports.specs.Lines.{IsWatched, AreVariables, rows_at}
-use Rattle.judging_reports.specs.Named.{AreNamed}
-use Rattle.judging_reports.specs.Judged.{AreLinesOver}
-use Rattle.judging_reports.specs.Reported.{OverRows, Reports, rows_of}
+use Rattle.judged_reports.specs.Named.{AreNamed}
+use Rattle.judged_reports.specs.Judged.{AreLinesOver}
+use Rattle.judged_reports.specs.Reported.{OverRows, Reports, rows_of}
 use Rattle.cli.specs.Reported.{SaysSuite, HasReport}
 use Rattle.cli.specs.Timed.{AreTimesIn, TellsTimes}
 use Rattle.cli.specs.Explained.{IsTraced}

@@ -16,13 +16,13 @@ use Rattle.verdicts.specs.declared.write.ReportFault.TheVariants as reports
 use Rattle.verdicts.specs.Lines.{ReportData, line}
 use Rattle.verdicts.specs.Shown.{data_of}
 use Rattle.report_forms.specs.Provenances.{ProvenanceData}
-use Rattle.judging_reports.specs.Reported.{Reports, rows_of}
-use Rattle.explaining_reports.specs.declared.explanation.Explanation.{Explanation}
-use Rattle.explaining_reports.specs.declared.failed_attempt.FailedAttempt.{FailedAttempt}
-use Rattle.explaining_reports.specs.declared.wanted.Wanted.{Wanted}
-use Rattle.explaining_reports.specs.Explained.{AreExplained}
-use Rattle.explaining_reports.specs.ExplainedText.{IsExplainedText}
-use Rattle.explaining_reports.specs.Told.{IsToldOf}
+use Rattle.judged_reports.specs.Reported.{Reports, rows_of}
+use Rattle.explained_reports.specs.declared.explanation.Explanation.{Explanation}
+use Rattle.explained_reports.specs.declared.failed_attempt.FailedAttempt.{FailedAttempt}
+use Rattle.explained_reports.specs.declared.wanted.Wanted.{Wanted}
+use Rattle.explained_reports.specs.Explained.{AreExplained}
+use Rattle.explained_reports.specs.ExplainedText.{IsExplainedText}
+use Rattle.explained_reports.specs.Told.{IsToldOf}
 use Rattle.report_page.specs.PageForm.{IsPage}
 use Rattle.cli_faults.specs.declared.fault.Fault.{Fault}
 use Rattle.cli_faults.specs.declared.fault.Fault.TheVariants.{NoAssertion, Report, Memory}

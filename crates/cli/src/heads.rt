@@ -3,7 +3,7 @@
 
 ghost use Rattle.std.specs.Prelude.{◌≡◌, IfOk, length};
 
-use explaining_reports::{Explanation, Standing};
+use explained_reports::{Explanation, Standing};
 use lexer::Token;
 use linting::place_of;
 use parser::File;

@@ -11,7 +11,7 @@ ghost use Rattle.cli_faults.specs.Runs.{run_of};
 use crate::text::{file_of, suite_of};
 use cli_faults::{Fault, written};
 use cycle_window::WindowSize;
-use judging_reports::report_by_judge;
+use judged_reports::report_by_judge;
 use signals::{Sink, Source};
 use std::alloc::Global;
 use vcd_reader::{Dump, read_dump};

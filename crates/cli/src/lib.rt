@@ -18,7 +18,7 @@
 //! The definitions: what a report on bytes and a text is in `specs/Reported.antt`, what a run comes
 //! to in `specs/Outcomes.antt`, the times of clocks in `specs/Timed.antt`, what a build comes to
 //! in `specs/Builds.antt`, what explanations and a page come to in `specs/Explained.antt`; the
-//! report on a suite in `judging_reports`, an explanation in `explaining_reports`, a page in
+//! report on a suite in `judged_reports`, an explanation in `explained_reports`, a page in
 //! `report_page`; faults, their lines and statuses in `cli_faults`.
 //!
 //! Not promised: that memory suffices; of calls that take a team, that they return, and that two
@@ -46,6 +46,6 @@ pub use cli_faults::{Fault, fault_line, status};
 pub use cli_words::{Request, WordsFault, read_words};
 pub use compiled_reports::{Gate, NoGate};
 pub use explain::explain_one;
-pub use explaining_reports::Wanted;
+pub use explained_reports::Wanted;
 pub use page::{PagedReport, Paths, page_over};
 pub use timed::{TimedReport, report_all, report_over};

@@ -9,7 +9,7 @@ ghost use Rattle.verdicts.specs.Shown.{data_of};
 ghost use Rattle.compiler.specs.Conditions.{FitsSuite};
 ghost use Rattle.compiled_reports.specs.Lines.{IsWatched, AreVariables, rows_at};
 ghost use Rattle.compiled_reports.specs.Faults.{WhyNoLines};
-ghost use Rattle.judging_reports.specs.Reported.{OverRows};
+ghost use Rattle.judged_reports.specs.Reported.{OverRows};
 ghost use Rattle.cli.specs.Programs.{lines_fault};
 
 use assertions::Suite;

@@ -6,7 +6,7 @@ ghost use Rattle.vcd_reader.specs.Held.{HoldsContents, variables_of};
 ghost use Rattle.expressions.specs.Rows.{HasCounts};
 ghost use Rattle.verdicts.specs.Lines.{line};
 ghost use Rattle.verdicts.specs.Shown.{data_of};
-ghost use Rattle.judging_reports.specs.Judged.{AreLinesOver};
+ghost use Rattle.judged_reports.specs.Judged.{AreLinesOver};
 ghost use Rattle.cli.specs.Explained.{IsTraced};
 ghost use Rattle.cli.specs.Outcomes.{WhyNoneByPrograms};
 
@@ -18,7 +18,7 @@ use cli_faults::Fault;
 use compiled_reports::{Gate, suite_report};
 use cycle_window::WindowSize;
 use expressions::Rows;
-use judging_reports::suite_rows;
+use judged_reports::suite_rows;
 use std::alloc::Global;
 use std::sync::Wait;
 use std::thread::Threads;

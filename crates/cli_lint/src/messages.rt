@@ -8,7 +8,7 @@ use lexer::LexFault;
 use linting::{CODES, MARKS, Refusal, SIGNS, WORDS, hint_at, hint_beside};
 use parser::ParseFault;
 use std::alloc::{AllocError, Global};
-use types_suites::TypeFault;
+use types_assertions::TypeFault;
 
 /// A refusal at a byte, with a hint after it if there is one.
 fn refusal_at(

@@ -41,11 +41,11 @@ use Rattle.vcd_reader.specs.Variables.{Declared, variable_named}
 use Rattle.vcd_reader.specs.Dump.{Contents, dump_of}
 use Rattle.verdicts.specs.Lines.{LineData, ReportData, line_data_of, report_of}
 use Rattle.cli.specs.Named.{scope_over}
-use Rattle.judging_reports.specs.Judged.{AreVerdictsOn, AreLines}
+use Rattle.judged_reports.specs.Judged.{AreVerdictsOn, AreLines}
 use Rattle.cli.specs.Reported.{SaysSuite, HasReport, IsReport}
-use Rattle.judging_reports.specs.Reported.{IsBound, rows_of, OverRows, Reports}
+use Rattle.judged_reports.specs.Reported.{IsBound, rows_of, OverRows, Reports}
 use Rattle.laws_reports.proofs.ItemLaws.{same_ok, other_suite}
-use Rattle.judging_reports.proofs.ReportLaws.{named_by, same_places}
+use Rattle.judged_reports.proofs.ReportLaws.{named_by, same_places}
 
 -- an attempt has one verdict
 one_verdict :

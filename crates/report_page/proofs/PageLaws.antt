@@ -7,8 +7,8 @@ use Rattle.verdicts.specs.Lines.{ReportData}
 use Rattle.report_forms.specs.Grown.{Grows}
 use Rattle.report_forms.specs.Provenances.{ProvenanceData}
 use Rattle.report_forms.proofs.PieceLaws.{and_then, flat_map-map}
-use Rattle.explaining_reports.specs.declared.failed_attempt.FailedAttempt.{FailedAttempt}
-use Rattle.explaining_reports.proofs.AllLaws.{zip_mapped}
+use Rattle.explained_reports.specs.declared.failed_attempt.FailedAttempt.{FailedAttempt}
+use Rattle.explained_reports.proofs.AllLaws.{zip_mapped}
 use Rattle.report_page.specs.PageForm.{head_of, intro_text, row_text, IsSection, IsSectionOf, IsPage}
 
 -- what was put together is a page

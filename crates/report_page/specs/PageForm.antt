@@ -11,7 +11,7 @@ use Rattle.report_forms.specs.Provenances.{ProvenanceData}
 use Rattle.report_forms.specs.Outcomes.{has_failed, is_untried}
 use Rattle.report_forms.specs.Escapes.{escaped}
 use Rattle.report_forms.specs.JunitForm.{number_text, clock_text}
-use Rattle.explaining_reports.specs.declared.failed_attempt.FailedAttempt.{FailedAttempt}
+use Rattle.explained_reports.specs.declared.failed_attempt.FailedAttempt.{FailedAttempt}
 
 -- where the report comes from, and its sums
 unfoldable pub intro_text : ProvenanceData → ReportData → List ℕ

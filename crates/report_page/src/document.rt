@@ -12,7 +12,7 @@ use crate::picture::section_of;
 use crate::pieces::{push_number, push_text};
 use crate::style::{END, HEAD, STYLE, TABLE, TABLE_END};
 use crate::table::push_row;
-use explaining_reports::FailedAttempt;
+use explained_reports::FailedAttempt;
 use report_forms::{Provenance, push_escaped};
 use std::alloc::{AllocError, Global};
 use verdicts::{Line, Report};

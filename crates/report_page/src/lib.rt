@@ -2,7 +2,7 @@
 //!
 //! ```text
 //! let from = Provenance { dump: "top.vcd", text: "rules.sva", times: times.as_slice() };
-//! let told = told_of(alloc, lines, &explanations, &standings)?;      // of `explaining_reports`
+//! let told = told_of(alloc, lines, &explanations, &standings)?;      // of `explained_reports`
 //! let bytes = page(alloc, &from, &report, told.as_slice())?;
 //! ```
 //!

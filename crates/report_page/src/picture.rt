@@ -10,8 +10,8 @@ use crate::canvas::{Anchor, push_begin, push_box, push_end, push_label, push_upr
 use crate::grid::Grid;
 use crate::pieces::{push_number, push_text};
 use crate::wave::{BASE, push_row};
+use explained_reports::FailedAttempt;
 use explaining::Sheet;
-use explaining_reports::FailedAttempt;
 use report_forms::{Provenance, push_escaped};
 use std::alloc::{AllocError, Global};
 use std::fmt::Write;

@@ -1,6 +1,6 @@
 //! That properties have rewritings, which no clause says: a body that refuses each would be proved.
 
-use import_properties::{Condition, Property, Sequence, goto_repetition};
+use import_meaning::{Condition, Property, Sequence, goto_repetition};
 use import_rewriting::{Refusal, rewritten};
 use std::alloc::{AllocError, Global};
 use std::test::Fail;

@@ -17,7 +17,7 @@
 //!
 //! `rt test` in this crate proves the tests and runs them. The definitions that the contracts cite
 //! stand in the crates that are tested: of tokens in `lexer`, of trees in `parser_grammar`, of
-//! names and widths in `types_names`, of suites in `types_suites`, each in its `specs/`.
+//! names and widths in `types_names`, of suites in `types_assertions`, each in its `specs/`.
 //!
 //! Not promised: that each fault of a text occurs here; this crate has no public functions.
 #![tactic(auto)]

@@ -6,7 +6,7 @@ use Rattle.std.specs.Str.{bytes_eq}
 use Rattle.std.proofs.lemmas.Bool.Decides.{nat_tests}
 use Rattle.vcd_reader.specs.Variables.{Declared, variable_at_place, is_bindable, if_bindable, variable_named, is_place}
 use Rattle.vcd_reader.specs.Variables.{paths_of, place_of, can_bind, has_no_digits}
-use Rattle.vcd_header.specs.Declarations.{Declaration, variable_of}
+use Rattle.vcd_declarations.specs.Declarations.{Declaration, variable_of}
 use Rattle.vcd_variables.specs.declared.note.Note.{Note}
 use Rattle.vcd_variables.specs.declared.note.Note.TheVariants.{Free, Real, Text, Event, NoBits, Wide, NoWords, Reserved}
 use Rattle.vcd_variables.specs.declared.note.Note.TheVariants.{Later}

@@ -3,7 +3,7 @@ use Rattle.std.proofs.Common.{◌≡◌, ℕ, zero, suc, ◌+◌, ◌-◌, ◌^�
 use Rattle.std.proofs.Common.{◌++◌, length, get_or, drop, map, refl, sym, ap, ◌∙◌, arith, append_assoc}
 use Rattle.std.proofs.lemmas.List.{append-nil}
 use Rattle.vcd_reader.specs.Variables.{Named, paths_of, variable_named, is_place, names_from}
-use Rattle.vcd_header.specs.Declarations.{Declaration, variable_of, range_of}
+use Rattle.vcd_declarations.specs.Declarations.{Declaration, variable_of, range_of}
 use Rattle.vcd_variables.specs.declared.filter.Filter.{Filter}
 use Rattle.vcd_variables.specs.Filters.{is_asked}
 use Rattle.vcd_variables.specs.Names.{names_next}

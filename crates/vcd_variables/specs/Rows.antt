@@ -5,8 +5,8 @@ use Rattle.std.specs.Fmt.{decimal}
 use Rattle.vcd_reader.specs.Variables.{Declared, path_of, variable_at_place, variable_named}
 use Rattle.vcd_reader.specs.Variables.{is_place}
 use Rattle.vcd_reader.specs.Header.{name_of}
-use Rattle.vcd_header.specs.Declarations.{Fields, Declaration, variable_of, range_of}
-use Rattle.vcd_header.specs.Views.{path_in, range_in}
+use Rattle.vcd_declarations.specs.Declarations.{Fields, Declaration, variable_of, range_of}
+use Rattle.vcd_declarations.specs.Views.{path_in, range_in}
 use Rattle.vcd_variables.specs.declared.filter.Filter.{Filter}
 use Rattle.vcd_variables.specs.declared.note.Note.{Note}
 use Rattle.vcd_variables.specs.declared.note.Note.TheVariants.{Free}

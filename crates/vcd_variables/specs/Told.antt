@@ -4,7 +4,7 @@ use Rattle.std.specs.Io.KnownBytes.{Appends}
 use Rattle.signals.specs.Source.{SourceState}
 use Rattle.signals.specs.Sink.{SinkState}
 use Rattle.vcd_reader.specs.Dump.{Contents, dump_of, Gave}
-use Rattle.vcd_header.specs.Declarations.{declarations}
+use Rattle.vcd_declarations.specs.Declarations.{declarations}
 use Rattle.vcd_variables.specs.declared.filter.Filter.{Filter}
 use Rattle.vcd_variables.specs.declared.table.Widths as declared
 use Rattle.vcd_variables.specs.Rows.{rows_told}

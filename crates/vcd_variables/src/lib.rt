@@ -20,7 +20,7 @@
 //! The definitions: `specs/Notes.antt` (why no rule names a variable), `specs/Spelled.antt` (which
 //! paths a rule can spell), `specs/Filters.antt` (which variables are asked for), `specs/Rows.antt`
 //! (what is told of each), `specs/Tables.antt` (the text). What a header declares is said by
-//! `vcd_header`, which path names what by `vcd_reader`, and what words are by `lexer` and
+//! `vcd_declarations`, which path names what by `vcd_reader`, and what words are by `lexer` and
 //! `parser_grammar`. By `note_law` a variable has no note exactly where a rule can spell its path
 //! and the path names it.
 //!

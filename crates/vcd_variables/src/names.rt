@@ -12,7 +12,7 @@ use crate::rows::told_in;
 use crate::table::table_of;
 use signals::{Counted, ReadAllError, Sink, Source, read_all, write_all};
 use std::alloc::{AllocError, Global};
-use vcd_header::declarations_law;
+use vcd_declarations::declarations_law;
 use vcd_reader::{Dump, VcdFault, read_dump};
 use verdicts::ReportFault;
 

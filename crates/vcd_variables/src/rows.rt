@@ -3,15 +3,15 @@
 ghost use Rattle.std.specs.Prelude.{◌≡◌, ◌^◌, ◌-◌, min, map, drop, length, IfOk, if◌then◌else◌};
 ghost use Rattle.vcd_reader.specs.Variables.{names_of};
 ghost use Rattle.vcd_reader.specs.Held.{variables_of, named_of};
-ghost use Rattle.vcd_header.specs.Declarations.{declarations, variable_of};
-ghost use Rattle.vcd_header.specs.Views.{path_in, range_in, fields_of};
+ghost use Rattle.vcd_declarations.specs.Declarations.{declarations, variable_of};
+ghost use Rattle.vcd_declarations.specs.Views.{path_in, range_in, fields_of};
 ghost use Rattle.vcd_variables.specs.Names.{names_next};
 ghost use Rattle.vcd_variables.specs.Rows.{row_data, row_with, rows_told};
 
 use crate::filter::Filter;
 use crate::note::{Note, note_of};
 use std::alloc::{AllocError, Global};
-use vcd_header::{Header, Spelling, Variable};
+use vcd_declarations::{Header, Spelling, Variable};
 use vcd_reader::{Dump, Name};
 
 /// What is told of a variable.

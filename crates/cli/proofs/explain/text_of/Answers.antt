@@ -2,8 +2,8 @@ use Rattle.std.proofs.Common.{◌∙◌, List, length, sym, ap, subst}
 use Rattle.std.specs.List.{AllZip}
 use Rattle.std.proofs.lemmas.Slice.Zip.{AllZip-long}
 use Rattle.verdicts.specs.declared.line.Line.{Line}
-use Rattle.explaining_reports.specs.declared.explanation.Explanation.{Explanation}
-use Rattle.explaining_reports.specs.Told.{IsToldOf}
+use Rattle.explained_reports.specs.declared.explanation.Explanation.{Explanation}
+use Rattle.explained_reports.specs.Told.{IsToldOf}
 use Rattle.cli.specs.Explained.{IsToldIn}
 use Rattle.cli.proofs.ExplainedLaws.{text_told}
 use Rattle.cli.proofs.explain.text_of.Goals as goal

@@ -1,6 +1,6 @@
 use Rattle.std.proofs.Common.{subst}
 use Rattle.report_forms.specs.Provenances.{provenance_of}
-use Rattle.explaining_reports.specs.declared.failed_attempt.FailedAttempt.{FailedAttempt}
+use Rattle.explained_reports.specs.declared.failed_attempt.FailedAttempt.{FailedAttempt}
 use Rattle.report_page.specs.PageForm.{IsSectionOf}
 use Rattle.explaining.proofs.ZipLaws.{zip_more}
 use Rattle.report_page.proofs.document.sections_of.Goals as goal

@@ -1,7 +1,7 @@
 use Rattle.std.proofs.Common.{◌∙◌, ℕ, List, sym, ap}
 use Rattle.std.specs.Prelude.{nat_eq}
 use Rattle.std.specs.List.{starts_with}
-use Rattle.vcd_header.proofs.TextLaws.{slice-rest}
+use Rattle.vcd_declarations.proofs.TextLaws.{slice-rest}
 use Rattle.vcd_variables.proofs.TextLaws.{has-here, has-later, has-none}
 use Rattle.vcd_variables.proofs.filter.has_text.Goals as goal
 

@@ -1,6 +1,6 @@
 use Rattle.std.proofs.Common.{◌∙◌, ℕ, List, length, sym, ap, arith}
 use Rattle.std.proofs.lemmas.List.{length-map}
-use Rattle.vcd_header.specs.Declarations.{declarations}
+use Rattle.vcd_declarations.specs.Declarations.{declarations}
 use Rattle.vcd_variables.specs.Rows.{RowData, row_data, rows_told}
 use Rattle.vcd_variables.specs.Tables.{table_text}
 use Rattle.vcd_variables.proofs.names.table_in.Goals as goal

@@ -2,8 +2,8 @@ use Rattle.std.proofs.Common.{◌≡◌, ◌∙◌, ◌++◌, ◌∷◌, [], ℕ
 use Rattle.std.proofs.lemmas.List.{map-append}
 use Rattle.vcd_reader.specs.Variables.{names_of}
 use Rattle.vcd_reader.specs.Held.{named_of}
-use Rattle.vcd_header.specs.Declarations.{Declaration, declarations}
-use Rattle.vcd_header.specs.Views.{left_in, scopes_in, fields_of, range_in}
+use Rattle.vcd_declarations.specs.Declarations.{Declaration, declarations}
+use Rattle.vcd_declarations.specs.Views.{left_in, scopes_in, fields_of, range_in}
 use Rattle.vcd_variables.specs.Filters.{is_asked}
 use Rattle.vcd_variables.specs.Names.{names_next}
 use Rattle.vcd_variables.specs.Rows.{path_told, row_with, row_data}

@@ -1,7 +1,7 @@
 use Rattle.std.proofs.Common.{map, length}
 use Rattle.vcd_reader.specs.Held.{named_of}
-use Rattle.vcd_header.specs.Declarations.{declarations}
-use Rattle.vcd_header.specs.Views.{left_in}
+use Rattle.vcd_declarations.specs.Declarations.{declarations}
+use Rattle.vcd_declarations.specs.Views.{left_in}
 use Rattle.vcd_variables.specs.Rows.{row_data}
 use Rattle.vcd_variables.proofs.RowLaws.{IsAlong}
 use Rattle.vcd_variables.proofs.rows.told_among.Given as goal

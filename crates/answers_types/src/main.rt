@@ -1,0 +1,120 @@
+//! Tells which texts say a suite, and what their assertions come to, against answers from outside.
+//!
+//! Of each text of `data/suites.txt`, one a line, over the signals of `data/names.txt`, it prints
+//! how many assertions its suite has, or else its first fault. Then it prints the verdicts, each
+//! with its clock, on the assertions of `data/verdicts.txt` over the rows that stand there.
+//!
+//! ```text
+//! r: assert property (@(posedge top.clk) top.a |-> top.b);    assertions 1
+//! sequence s; top.y endsequence r: assert ..                  Y1 UnknownName 12
+//! ```
+//!
+//! The gate compares that with `stdout`: `scripts/random/texts_with_faults.py` made texts with
+//! their faults, and the verdicts were worked out by hand from IEEE 1800-2017, 16.9 to 16.12. With
+//! two files' names as its words it checks the second file as one text over the paths of the first,
+//! a path and a width a line, and prints how long that took (`bench/suites`).
+//!
+//! What is answered is said by the contracts of `types::check` and `judging::judge`; the
+//! definitions stand in `types/specs` (`Faults.antt`), `types_assertions/specs` (`Suites.antt`) and
+//! `assertions/specs` (`Verdicts.antt`).
+//!
+//! Not promised: which of several faults of one kind is told but the one at the lowest byte.
+#![tactic(auto)]
+
+mod verdicts;
+
+use anyhow::{Context, Result, bail};
+use lexer::lex;
+use parser::{File, parse};
+use std::alloc::{AllocError, Global};
+use std::time::Instant;
+use std::{env, fs};
+use types::{Names, TypeFault, check};
+
+/// Paths with their widths, one a line.
+fn names_of(alloc: Global, lines: &str) -> Result<Names> {
+    let mut names = Names::new(alloc);
+    for line in lines.lines() {
+        let (path, width) = line.split_once(' ').context("a path without a width")?;
+        let Ok(width @ 1..=128) = width.parse::<u8>() else {
+            bail!("no such width");
+        };
+        names.push(alloc, path, width)?;
+    }
+    Ok(names)
+}
+
+/// How many assertions the suite of a file has, or its first fault.
+fn count_of(alloc: Global, names: &Names, file: &File) -> Result<usize, TypeFault> {
+    match check(alloc, file, names) {
+        Ok(suite) => Ok(suite.assertions.len()),
+        Err(fault) => Err(fault),
+    }
+}
+
+/// The same of a text, if it is read.
+fn count_in(alloc: Global, names: &Names, text: &str) -> Option<Result<usize, TypeFault>> {
+    let Ok(tokens) = lex(alloc, text) else {
+        return None;
+    };
+    let Ok(file) = parse(alloc, tokens.as_slice()) else {
+        return None;
+    };
+    Some(count_of(alloc, names, &file))
+}
+
+/// How many assertions there are, or the fault.
+fn told(alloc: Global, counted: Result<usize, TypeFault>) -> Result<String, AllocError> {
+    match counted {
+        Ok(count) => format!(in alloc; "assertions {count}"),
+        Err(fault) => format!(in alloc; "{fault}"),
+    }
+}
+
+/// What is told of a text.
+fn verdict(alloc: Global, names: &Names, text: &str) -> Result<String> {
+    let counted = count_in(alloc, names, text).context("a text is not read")?;
+    Ok(told(alloc, counted)?)
+}
+
+/// Checks a file, lets go of its suite, and prints how long that took.
+fn time_file(rt: &HostRuntime, names: &Names, file: &File) -> Result<()> {
+    let start = Instant::now(rt)?;
+    let counted = count_of(rt.alloc(), names, file);
+    let took = start.elapsed(rt)?.as_micros();
+    let told = told(rt.alloc(), counted)?;
+    println!(rt; "check {took} us {told}")?;
+    Ok(())
+}
+
+/// Checks a text, and prints how long that took.
+fn time_text(rt: &HostRuntime, names: &Names, text: &str) -> Result<()> {
+    let Ok(tokens) = lex(rt.alloc(), text) else {
+        bail!("the text is not cut into tokens");
+    };
+    let Ok(file) = parse(rt.alloc(), tokens.as_slice()) else {
+        bail!("the text is not read");
+    };
+    time_file(rt, names, &file)
+}
+
+fn main(rt: HostRuntime) -> Result<()> {
+    let mut args = env::args(&rt)?;
+    let _name = args.next();
+    if let Some(path) = args.next() {
+        let lines = fs::read_to_string(&rt, path.as_str())?;
+        let names = names_of(rt.alloc(), lines.as_str())?;
+        let path = args.next().context("no text")?;
+        let text = fs::read_to_string(&rt, path.as_str())?;
+        return time_text(&rt, &names, text.as_str());
+    }
+    let lines = fs::read_to_string(&rt, "names.txt")?;
+    let names = names_of(rt.alloc(), lines.as_str())?;
+    let texts = fs::read_to_string(&rt, "suites.txt")?;
+    for text in texts.lines() {
+        let verdict = verdict(rt.alloc(), &names, text)?;
+        println!(rt; "{verdict}")?;
+    }
+    let lines = fs::read_to_string(&rt, "verdicts.txt")?;
+    verdicts::show(&rt, lines.as_str())
+}

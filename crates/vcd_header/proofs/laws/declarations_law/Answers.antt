@@ -1,5 +1,0 @@
-use Rattle.vcd_header.proofs.PartLaws.{dump-declares}
-use Rattle.vcd_header.proofs.laws.declarations_law.Goals as goal
-
-pub returns : goal.returns
-returns c = λ bytes contents read. dump-declares bytes contents ((c.grammar_law.ensures bytes contents).1 read)
