@@ -95,7 +95,7 @@ class Drawn:
     """An assertion: its line, its sides as functions, and the booleans of both and of disable iff."""
 
     def __init__(self, place, names, bodies, trace):
-        kind = draw.choice(['|->', '|=>', ''])
+        self.kind = kind = draw.choice(['|->', '|=>', ''])
         self.off = values.expression(names, 1) if draw.randrange(3) == 0 else None
         self.label = 'a%d' % place
         sides, self.first = [], judge.TRUE
@@ -112,6 +112,15 @@ class Drawn:
         self.booleans = [it for side in sides for it in booleans(side, bodies)] + ([self.off] if self.off else [])
         off = 'disable iff (%s) ' % drawn.plain(self.off) if self.off else ''
         self.line = '%s: assert property (@(posedge tb.clk) %s%s);' % (self.label, off, shape % drawn.written(tree))
+
+    def reach(self):
+        """How many clocks back the booleans look, and at least one."""
+        def of(tree):
+            inner = max((of(part) for part in tree if isinstance(part, (tuple, list))), default=0)
+            if isinstance(tree, tuple) and tree and tree[0] == 'past':
+                return inner + tree[2]
+            return inner + (isinstance(tree, tuple) and bool(tree) and tree[0] == 'change')
+        return max([1] + [of(tree) for tree in self.booleans])
 
     def failures(self, trace, total):
         """The failed attempts: the clock that decided and the start."""
@@ -204,18 +213,22 @@ def check_told(block, made, count, failure, text, trace, counters):
     numbers = list(re.finditer(r'\S+', block[1]))[1:]
     edges = [it.end() for it in numbers]
     clocks = [None if it[0] == '..' else int(it[0]) for it in numbers]
-    whole = list(range(max(0, start - 1), clock + 1))
+    whole = list(range(max(0, start - made.reach()), clock + 1))
     if [it for it in clocks if it is not None] != (whole if len(whole) <= 16 else whole[:8] + whole[-8:]):
         return 'other clocks: ' + block[1]
     if cells(block[2], edges) != ['..' if it is None else '%d' % time(it) for it in clocks]:
         return 'other times: ' + block[2]
     ends, broken = made.cause(start, clock)
-    many = len(ends) > 1
+    many, back = len(ends) > 1, int(made.kind == '|=>')
     last = '  antecedent ended at clock%s %s; from %s no match of the consequent is possible after clock %d' % (
-        's' if many else '', ', '.join(map(str, ends)), 'clock %d' % broken if many else 'there', clock)
+        's' if many else '', ', '.join('%d' % max(0, end - back) for end in ends),
+        'clock %d' % broken if many or back else 'there', clock)
+    if not made.kind:
+        last = '  no match is possible after clock %d' % clock
     if block[-1] != last:
         return '%s\nnot%s' % (block[-1], last)
-    rows, many = block[3:-1], name_rows(block[3:-1])
+    rows = [line for line in block[3:-1] if line != '  booleans:']
+    many = name_rows(rows)
     names, wrong = check_names(rows[:many], edges, clocks, read_names(made.booleans, counters), trace)
     if wrong:
         return wrong

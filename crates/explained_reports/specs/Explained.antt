@@ -3,7 +3,7 @@ use Rattle.std.specs.Prelude.{◌≡◌, ℕ, ◌+◌, List, Some, map, slice_ge
 use Rattle.std.specs.List.{AllByRecursion}
 use Rattle.assertions.specs.declared.assertion.Assertion.{Assertion}
 use Rattle.assertions.specs.declared.suite.Suite.{Suite}
-use Rattle.assertions.specs.Shapes.{shape}
+use Rattle.assertions.specs.Shapes.{shape, written_form}
 use Rattle.assertions.specs.Verdicts.{antecedent_of}
 use Rattle.expressions.specs.declared.rows.Rows.{Rows}
 use Rattle.judging.specs.Causes.{IsCause}
@@ -15,6 +15,7 @@ use Rattle.explained_reports.specs.declared.choices.Choice.{Choice}
 use Rattle.explained_reports.specs.declared.wanted.Wanted.{Wanted}
 use Rattle.explained_reports.specs.declared.explanation.Explanation.{Explanation}
 use Rattle.explained_reports.specs.declared.explanation.Reason.{Reason}
+use Rattle.explained_reports.specs.Arrows.{arrow_of}
 use Rattle.explained_reports.specs.Chosen.{choice_at, chosen_from}
 use Rattle.explained_reports.specs.Told.{HasLine}
 
@@ -35,6 +36,7 @@ pub record IsReason (suite : Suite) (rows : Rows) (a : Assertion) (f : Failure) 
 pub record IsExplained (suite : Suite) (rows : Rows) (e : Explanation) : Type 0 where
   pub assertion : Assertion
   pub is_there : slice_get suite.assertions.items e.place ≡ Some assertion
+  pub arrow : e.arrow ≡ arrow_of (written_form assertion.antecedent)
   pub reason : IsReason suite rows assertion e.failure e.reason
 
 -- Explanations of those failed attempts that are asked for, in the order of the lines.

@@ -1,10 +1,14 @@
 -- Explanations as text.
-use Rattle.std.specs.Prelude.{◌≡◌, ℕ, List, [], ◌∷◌, ◌++◌, Bool, true, false, not, ◌==◌, nat_lt}
+use Rattle.std.specs.Prelude.{◌≡◌, ℕ, ◌+◌, ◌-◌, List, [], ◌∷◌, ◌++◌, Bool, true, false, not, ◌==◌}
+use Rattle.std.specs.Prelude.{nat_lt}
 use Rattle.std.specs.Prelude.{length, codes, string_bytes, String}
 use Rattle.std.specs.Global.{Global}
 use Rattle.std.specs.List.{AllZip, flat_map}
 use Rattle.report_forms.specs.JunitForm.{number_text, clock_text}
 use Rattle.report_forms.specs.Provenances.{ProvenanceData}
+use Rattle.explained_reports.specs.declared.arrow.Arrow.{Arrow}
+use Rattle.explained_reports.specs.declared.arrow.Arrow.TheVariants.{Alone, Overlapped, Following}
+use Rattle.explained_reports.specs.Arrows.{back_of}
 use Rattle.explained_reports.specs.declared.failed_attempt.FailedAttempt.{FailedAttempt}
 
 -- the letter of a plural
@@ -23,13 +27,14 @@ head_text p a =
     ++ codes "\n"
 
 -- an end after another one
-abbrev pub next_end : ℕ → List ℕ
-next_end end = number_text (codes ", ") end
+abbrev pub next_end : ℕ → ℕ → List ℕ
+next_end back end = number_text (codes ", ") (end - back)
 
--- the ends of the antecedent
-abbrev pub ends_text : List ℕ → List ℕ
-ends_text [] = []
-ends_text (end ∷ ends) = number_text (codes " ") end ++ flat_map next_end ends
+-- the ends of the antecedent, so many clocks before those from which the consequent was asked
+abbrev pub ends_text : ℕ → List ℕ → List ℕ
+ends_text back [] = []
+ends_text back (end ∷ ends) =
+    number_text (codes " ") (end - back) ++ flat_map (next_end back) ends
 
 -- from where no match of the consequent is possible any more
 abbrev pub from_text : Bool → ℕ → List ℕ
@@ -37,12 +42,27 @@ from_text true broken = number_text (codes "; from clock ") broken
 from_text false broken = codes "; from there"
 
 -- which ends the antecedent had, and from which of them the consequent can't match any more
-unfoldable pub cause_text : FailedAttempt → List ℕ
-cause_text a =
+unfoldable pub led_text : FailedAttempt → List ℕ
+led_text a =
     codes "  antecedent ended at clock" ++ plural (nat_lt 1 (length a.ends.now))
-    ++ ends_text a.ends.now ++ from_text (nat_lt 1 (length a.ends.now)) a.broken
+    ++ ends_text (back_of a.arrow) a.ends.now
+    ++ from_text (nat_lt 1 (length a.ends.now + back_of a.arrow)) a.broken
     ++ number_text (codes " no match of the consequent is possible after clock ") a.failure.clock
     ++ codes "\n"
+
+-- where there is no antecedent
+unfoldable pub alone_text : FailedAttempt → List ℕ
+alone_text a =
+    number_text (codes "  no match is possible after clock ") a.failure.clock ++ codes "\n"
+
+abbrev pub cause_by : Arrow → FailedAttempt → List ℕ
+cause_by Alone a = alone_text a
+cause_by Overlapped a = led_text a
+cause_by Following a = led_text a
+
+-- why the attempt failed
+abbrev pub cause_text : FailedAttempt → List ℕ
+cause_text a = cause_by a.arrow a
 
 -- The text of a failed attempt: its head, its sheet, and why it failed.
 pub record IsSection (p : ProvenanceData) (a : FailedAttempt) (section : List ℕ) : Type 0 where

@@ -1,3 +1,4 @@
+pub mod Arrows
 pub mod Chosen
 pub mod Explained
 pub mod Failed

@@ -14,6 +14,7 @@ pub record IsToldBy (line : Line) (e : Explanation) (told : FailedAttempt) : Typ
   pub name : told.name.now ≡ string_bytes line.name
   pub failed : told.failed ≡ line.counts.fails
   pub failure : told.failure ≡ e.failure
+  pub arrow : told.arrow ≡ e.arrow
   pub ends : told.ends.now ≡ e.reason.cause.ends.items
   pub broken : told.broken ≡ e.reason.cause.broken
   pub sheet : told.sheet.now ≡ e.reason.sheet

@@ -13,6 +13,7 @@ ghost use Rattle.explained_reports.specs.Explained.{IsReason, IsExplained, AreEx
 ghost use Rattle.explained_reports.specs.Explained.{choice_of};
 ghost use Rattle.explained_reports.specs.Failed.{HasFailed, IsOfFailed};
 
+use crate::arrow::{Arrow, arrow_of};
 use crate::choices::{Choice, choices_of};
 use crate::wanted::Wanted;
 use assertions::{Assertion, Suite};
@@ -34,6 +35,8 @@ pub struct Reason {
 pub struct Explanation {
     pub place: usize,
     pub failure: Failure,
+    /// What stands between the assertion's sides.
+    pub arrow: Arrow,
     pub reason: Reason,
 }
 
@@ -119,6 +122,7 @@ fn explanation_of(
     Ok(Explanation {
         place: choice.place,
         failure: choice.failure,
+        arrow: arrow_of(assertion),
         reason,
     })
 }

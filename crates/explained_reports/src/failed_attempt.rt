@@ -5,6 +5,7 @@ ghost use Rattle.std.specs.List.{AllByRecursion, AllZip};
 ghost use Rattle.verdicts.specs.Lines.{line};
 ghost use Rattle.explained_reports.specs.Told.{IsToldBy, IsToldOf, StandsAt, HasLine};
 
+use crate::arrow::Arrow;
 use crate::explanation::Explanation;
 use explaining::Sheet;
 use std::alloc::{AllocError, Global};
@@ -28,7 +29,9 @@ pub struct FailedAttempt<'a> {
     /// How many attempts of the assertion failed.
     pub failed: u64,
     pub failure: Failure,
-    /// The clocks at which the antecedent ended, and the one from which the consequent is broken.
+    /// What stands between the assertion's sides.
+    pub arrow: Arrow,
+    /// The clocks from which the consequent was asked, and the one from which it is broken.
     pub ends: &'a [usize],
     pub broken: usize,
     /// The values that the attempt saw.
@@ -49,6 +52,7 @@ fn told_by<'a>(
         standing,
         failed: line.counts.fails,
         failure: explanation.failure,
+        arrow: explanation.arrow,
         ends: explanation.reason.cause.ends.as_slice(),
         broken: explanation.reason.cause.broken,
         sheet: &explanation.reason.sheet,

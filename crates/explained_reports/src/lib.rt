@@ -14,7 +14,8 @@
 //! and its sheet, which shows the values of what the assertion reads.
 //!
 //! The definitions: which attempts are asked for, in `specs/Chosen.antt`; what an explanation says,
-//! in `specs/Explained.antt`; what is told of it, in `specs/Told.antt`; and as text, in
+//! in `specs/Explained.antt`; what stands between an assertion's sides, in `specs/Arrows.antt`;
+//! what is told of it, in `specs/Told.antt`; and as text, in
 //! `specs/ExplainedText.antt`. Lines are those of `judged_reports`, causes those of `judging`, and
 //! sheets those of `explaining`.
 //!
@@ -22,12 +23,14 @@
 //! laid out.
 #![tactic(auto)]
 
+mod arrow;
 mod choices;
 mod explanation;
 mod failed_attempt;
 mod text;
 mod wanted;
 
+pub use arrow::Arrow;
 pub use choices::Choice;
 pub use explanation::{Explanation, Judged, Reason, explain};
 pub use failed_attempt::{FailedAttempt, Standing, told_of};

@@ -6,9 +6,11 @@ ghost use Rattle.report_forms.specs.Grown.{Grows};
 ghost use Rattle.report_forms.specs.JunitForm.{number_text, clock_text};
 ghost use Rattle.report_forms.specs.Provenances.{provenance_of};
 ghost use Rattle.explained_reports.specs.ExplainedText.{head_text, ends_text, next_end};
+ghost use Rattle.explained_reports.specs.ExplainedText.{from_text};
 ghost use Rattle.explained_reports.specs.ExplainedText.{IsSection, IsSectionOf, IsExplainedText};
-ghost use Rattle.explained_reports.specs.ExplainedText.{cause_text, plural, from_text};
+ghost use Rattle.explained_reports.specs.ExplainedText.{cause_text, led_text, alone_text, plural};
 
+use crate::arrow::Arrow;
 use crate::failed_attempt::FailedAttempt;
 use explaining::{Sheet, push_sheet};
 use report_forms::Provenance;
@@ -82,26 +84,27 @@ fn push_head(
 }
 
 /// Adds the ends after the first one.
-fn push_next_ends(text: &mut String, ends: &[usize]) -> Result<(), AllocError>
+fn push_next_ends(text: &mut String, back: usize, ends: &[usize]) -> Result<(), AllocError>
     ensures { OnOk result (Grows (string_bytes text.old) (string_bytes text.new)
-        (flat_map next_end ends.now)) }
+        (flat_map (next_end back) ends.now)) }
 {
     for end in ends {
-        push_number(text, ", ", *end as u64)?;
+        push_number(text, ", ", end.saturating_sub(back) as u64)?;
     }
     Ok(())
 }
 
-/// Adds the ends of the antecedent.
-fn push_ends(text: &mut String, ends: &[usize]) -> Result<(), AllocError>
+/// Adds the ends of the antecedent, so many clocks before those from which the consequent was
+/// asked.
+fn push_ends(text: &mut String, back: usize, ends: &[usize]) -> Result<(), AllocError>
     ensures { OnOk result (Grows (string_bytes text.old) (string_bytes text.new)
-        (ends_text ends.now)) }
+        (ends_text back ends.now)) }
 {
     match ends {
         [] => Ok(()),
         [first, rest @ ..] => {
-            push_number(text, " ", *first as u64)?;
-            push_next_ends(text, rest)
+            push_number(text, " ", first.saturating_sub(back) as u64)?;
+            push_next_ends(text, back, rest)
         }
     }
 }
@@ -119,15 +122,16 @@ fn push_from(text: &mut String, several: bool, broken: usize) -> Result<(), Allo
 }
 
 /// Adds the line of the ends of the antecedent and of the obligation that broke.
-fn push_cause(text: &mut String, attempt: &FailedAttempt<'_>) -> Result<(), AllocError>
+fn push_led(text: &mut String, attempt: &FailedAttempt<'_>) -> Result<(), AllocError>
     ensures { OnOk result (Grows (string_bytes text.old) (string_bytes text.new)
-        (cause_text attempt.now)) }
+        (led_text attempt.now)) }
 {
     let several = attempt.ends.len() > 1;
+    let back = attempt.arrow.back();
     push_text(text, "  antecedent ended at clock")?;
     push_text(text, plural(several))?;
-    push_ends(text, attempt.ends)?;
-    push_from(text, several, attempt.broken)?;
+    push_ends(text, back, attempt.ends)?;
+    push_from(text, attempt.ends.len() + back > 1, attempt.broken)?;
     push_number(
         text,
         " no match of the consequent is possible after clock ",
@@ -135,6 +139,32 @@ fn push_cause(text: &mut String, attempt: &FailedAttempt<'_>) -> Result<(), Allo
     )?;
     push_text(text, "\n")?;
     Ok(())
+}
+
+/// Adds the line of an attempt whose assertion has no antecedent.
+fn push_alone(text: &mut String, attempt: &FailedAttempt<'_>) -> Result<(), AllocError>
+    ensures { OnOk result (Grows (string_bytes text.old) (string_bytes text.new)
+        (alone_text attempt.now)) }
+{
+    push_number(
+        text,
+        "  no match is possible after clock ",
+        attempt.failure.clock,
+    )?;
+    push_text(text, "\n")?;
+    Ok(())
+}
+
+/// Adds why the attempt failed.
+fn push_cause(text: &mut String, attempt: &FailedAttempt<'_>) -> Result<(), AllocError>
+    ensures { OnOk result (Grows (string_bytes text.old) (string_bytes text.new)
+        (cause_text attempt.now)) }
+{
+    match attempt.arrow {
+        Arrow::Alone => push_alone(text, attempt),
+        Arrow::Overlapped => push_led(text, attempt),
+        Arrow::Following => push_led(text, attempt),
+    }
 }
 
 /// The times of a sheet's clocks.

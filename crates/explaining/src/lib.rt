@@ -7,18 +7,19 @@
 //! push_sheet(alloc, &mut text, &sheet, times.as_slice())?;            // a line for each row
 //! ```
 //!
-//! A sheet has the clocks from the one before the attempt's first up to that of the decision, of
-//! which a long run is cut in its middle. It has a row for each signal and each counter that the
-//! assertion reads, also through other counters, and then one for each of its booleans. Each row
-//! has a cell for each clock: the value there, or none where a boolean is not asked. A boolean is
-//! asked at those clocks at which some match of its side could come to it.
+//! A sheet has the clocks from as many before the attempt's first as the booleans look back, and at
+//! least one, up to that of the decision, of which a long run is cut in its middle. It has a row
+//! for each signal and each counter that the assertion reads, also through other counters, and then
+//! one for each of its booleans. Each row has a cell for each clock: the value there, or none where
+//! a boolean is not asked. A boolean is asked at those clocks at which some match of its side could
+//! come to it.
 //!
 //! The definitions: where the values of a row come from, and that a row shows them, in
 //! `specs/Shown.antt`. What is read is that of `assertions`, values are those of `expressions`,
 //! and causes those of `judging`.
 //!
-//! Not promised: that memory suffices, at which clocks a boolean is asked, how wide a column of the
-//! text is, and which brackets the text of an expression has.
+//! Not promised: that memory suffices, with which clock a sheet begins, at which clocks a boolean
+//! is asked, how wide a column of the text is, and which brackets the text of an expression has.
 #![tactic(auto)]
 
 mod asked;
@@ -26,6 +27,7 @@ mod cells;
 mod columns;
 mod expression_text;
 mod interval;
+mod reach;
 mod sheet;
 mod sheet_text;
 mod value_text;

@@ -9,6 +9,7 @@ ghost use Rattle.explaining.specs.Shown.{IsSheet};
 use crate::asked::{Asked, Attempt};
 use crate::cells::{Read, RowSource, cells_of};
 use crate::expression_text::{Names, expression_text};
+use crate::reach::reach;
 use assertions::{marked_places, marks_of, names_read};
 use expressions::{Name, Origin};
 use std::alloc::{AllocError, Global};
@@ -38,10 +39,10 @@ pub struct Sheet {
 /// How many clocks are shown at each end of a run that is cut.
 const SIDE: usize = 8;
 
-/// The clocks from the one before the attempt's first up to its last; of a long run those at both
+/// The clocks from so many before the attempt's first up to its last; of a long run those at both
 /// ends.
-fn clocks_of(alloc: Global, attempt: Attempt) -> Result<Vec<usize>, AllocError> {
-    let first = attempt.start.saturating_sub(1);
+fn clocks_of(alloc: Global, attempt: Attempt, before: usize) -> Result<Vec<usize>, AllocError> {
+    let first = attempt.start.saturating_sub(before);
     let mut clocks = Vec::new(alloc);
     for clock in first..attempt.end {
         if clock - first < SIDE || attempt.end - clock <= SIDE {
@@ -228,7 +229,7 @@ pub fn sheet_of(
     ensures { IfOk result
         (IsSheet read.now.suite.now read.now.assertion.now read.now.rows.now) }
 {
-    let clocks = clocks_of(alloc, attempt)?;
+    let clocks = clocks_of(alloc, attempt, reach(read))?;
     let sources = sources_of(alloc, read)?;
     let asked = Asked::of(alloc, read.assertion, attempt)?;
     let names = Names {

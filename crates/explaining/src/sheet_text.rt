@@ -1,5 +1,6 @@
 //! Sheets as text.
 
+use crate::cells::RowSource;
 use crate::columns::{Line, push_lines};
 use crate::sheet::{Sheet, SheetRow};
 use crate::value_text::push_value;
@@ -8,6 +9,9 @@ use std::fmt::Write;
 
 /// What stands in the column of clocks that are left out.
 const GAP: &str = "..";
+
+/// What stands above the booleans, where one has the text of a signal.
+const HEADING: &str = "booleans:";
 
 /// The line of numbers, one for each clock, with a column for clocks that are left out.
 fn numbers_line(
@@ -102,6 +106,53 @@ fn clock_numbers(alloc: Global, clocks: &[usize]) -> Result<Vec<u64>, AllocError
     Ok(numbers)
 }
 
+/// Whether a row is of a boolean.
+fn is_boolean(row: &SheetRow) -> bool {
+    matches!(row.source, RowSource::Listed(_))
+}
+
+/// Whether a row before this one has the same label.
+fn is_named_before(rows: &[SheetRow], row: &SheetRow) -> bool {
+    for other in rows {
+        if !is_boolean(other) && other.label.as_str() == row.label.as_str() {
+            return true;
+        }
+    }
+    false
+}
+
+/// Whether a signal or a counter has the text of a boolean.
+fn has_doubles(rows: &[SheetRow]) -> bool {
+    for row in rows {
+        if is_boolean(row) && is_named_before(rows, row) {
+            return true;
+        }
+    }
+    false
+}
+
+/// The line between the signals and counters and the booleans.
+fn heading_line(alloc: Global) -> Result<Line, AllocError> {
+    Ok(Line {
+        label: String::from_str(alloc, HEADING)?,
+        cells: Vec::new(alloc),
+    })
+}
+
+/// Adds the lines of rows; where a boolean has the text of a signal or a counter, a heading stands
+/// before the booleans.
+fn push_rows(alloc: Global, lines: &mut Vec<Line>, sheet: &Sheet) -> Result<(), AllocError> {
+    let mut is_parted = !has_doubles(&sheet.rows);
+    for row in &sheet.rows {
+        if !is_parted && is_boolean(row) {
+            lines.push(heading_line(alloc)?)?;
+            is_parted = true;
+        }
+        lines.push(row_line(alloc, row, &sheet.clocks)?)?;
+    }
+    Ok(())
+}
+
 /// Adds a sheet: the clocks, their times, and its rows.
 pub fn push_sheet(
     alloc: Global,
@@ -114,9 +165,7 @@ pub fn push_sheet(
     let mut lines = Vec::new(alloc);
     lines.push(numbers_line(alloc, "clock", numbers.as_slice(), clocks)?)?;
     lines.push(numbers_line(alloc, "time", times, clocks)?)?;
-    for row in &sheet.rows {
-        lines.push(row_line(alloc, row, clocks)?)?;
-    }
+    push_rows(alloc, &mut lines, sheet)?;
     push_lines(
         alloc,
         text,

@@ -10,7 +10,7 @@ use crate::canvas::{Anchor, push_begin, push_box, push_end, push_label, push_upr
 use crate::grid::Grid;
 use crate::pieces::{push_number, push_text};
 use crate::wave::{BASE, push_row};
-use explained_reports::FailedAttempt;
+use explained_reports::{Arrow, FailedAttempt};
 use explaining::Sheet;
 use report_forms::{Provenance, push_escaped};
 use std::alloc::{AllocError, Global};
@@ -89,14 +89,18 @@ fn push_band(
     push_box(text, "at", left, 0, width, grid.height())
 }
 
-/// Adds a line at each clock at which the antecedent ended.
+/// Adds a line at each clock at which the antecedent ended, if there is one.
 fn push_ends(
     text: &mut String,
     picture: &FailedAttempt<'_>,
     grid: &Grid,
 ) -> Result<(), AllocError> {
+    if picture.arrow == Arrow::Alone {
+        return Ok(());
+    }
     for end in picture.ends {
-        let x = grid.right(place_of(picture.sheet, *end));
+        let end = end.saturating_sub(picture.arrow.back());
+        let x = grid.right(place_of(picture.sheet, end));
         push_upright(text, "end", x, 0, grid.height())?;
     }
     Ok(())
@@ -158,19 +162,29 @@ fn push_rows(
 }
 
 /// Adds the clocks at which the antecedent ended.
-fn push_end_clocks(text: &mut String, ends: &[usize]) -> Result<(), AllocError> {
+fn push_end_clocks(text: &mut String, back: usize, ends: &[usize]) -> Result<(), AllocError> {
     let mut sign = " ";
     for end in ends {
+        let end = end.saturating_sub(back);
         write!(text, "{sign}{end}")?;
         sign = ", ";
     }
     Ok(())
 }
 
+/// Adds why an attempt failed whose assertion has no antecedent.
+fn push_alone(text: &mut String, clock: u64) -> Result<(), AllocError> {
+    text.push_str("<p class=\"told\">No match is possible after clock ")?;
+    write!(text, "{clock}.</p>\n</section>\n")
+}
+
 /// Adds why the attempt failed, in words.
 fn push_cause(text: &mut String, picture: &FailedAttempt<'_>) -> Result<(), AllocError> {
+    if picture.arrow == Arrow::Alone {
+        return push_alone(text, picture.failure.clock);
+    }
     text.push_str("<p class=\"told\">The antecedent ended at clock")?;
-    push_end_clocks(text, picture.ends)?;
+    push_end_clocks(text, picture.arrow.back(), picture.ends)?;
     let broken = picture.broken;
     let clock = picture.failure.clock;
     write!(

@@ -122,8 +122,9 @@ fn a_failure_is_explained(rt: HostRuntime) -> Result<(), Fail> {
     let suite = suite_of(alloc)?;
     let rows = rows_of(alloc, &suite)?;
     let text = explained(alloc, &suite, &rows)?;
-    let wanted = "second\n  clock  0   1   2\n  time   5  15  25\n  t.a    1   0   0\n  \
-        t.b    0   1   0\n  t.a    1\n  t.b            0\n";
+    let wanted = "second\n  clock      0   1   2\n  time       5  15  25\n  \
+        t.a        1   0   0\n  t.b        0   1   0\n  booleans:\n  \
+        t.a        1\n  t.b                0\n";
     assert!(rt; text.as_str() == wanted, "{text}");
     Ok(())
 }

@@ -24,5 +24,6 @@ returns-clause-says c =
     record {
       assertion = c.index-assertion.result.now;
       is_there = c.requires.is_there ∙ ap (λ (a : Assertion). Some a) (sym same);
+      arrow = c.arrow_of.ensures;
       reason = c.in_ok-reason.ensures;
     }

@@ -9,10 +9,10 @@ loop-end-init c = record { is = sym (append-nil (string_bytes c.args.text.now)) 
 
 pub loop-end-preserved : goal.loop-end-preserved
 loop-end-preserved c =
-    piece_more next_end c.args.ends.now c.loop-end.end-index 0 _ _ _ [] c.loop-end-test.true
-    c.loop-end.invariant c.in_ok-push_number.ensures
+    piece_more (next_end c.args.back) c.args.ends.now c.loop-end.end-index 0 _ _ _ [] c.loop-end-test.true
+    c.loop-end.invariant (rw c.saturating_sub.ensures at c.in_ok-push_number.ensures)
 
 pub returns : goal.returns
 returns c =
     let done : c.loop-end.end-index ≡ length c.args.ends.now = omega arith in
-    pieces_all next_end c.args.ends.now c.loop-end.end-index _ _ [] done c.loop-end.invariant
+    pieces_all (next_end c.args.back) c.args.ends.now c.loop-end.end-index _ _ [] done c.loop-end.invariant

@@ -7,4 +7,4 @@ use Rattle.explained_reports.proofs.text.push_next_ends.Given as goal
 -- the ends so far
 abbrev pub invariant-loop-end : goal.invariant-loop-end
 invariant-loop-end l =
-    Grows (string_bytes l.fn.text) (string_bytes l.text) (flat_map next_end (take l.end-index l.ends))
+    Grows (string_bytes l.fn.text) (string_bytes l.text) (flat_map (next_end l.back) (take l.end-index l.ends))

@@ -1,11 +1,11 @@
 use Rattle.report_forms.proofs.PieceLaws.{and_then}
-use Rattle.explained_reports.specs.ExplainedText.{cause_text}
-use Rattle.explained_reports.proofs.text.push_cause.Goals as goal
+use Rattle.explained_reports.specs.ExplainedText.{led_text}
+use Rattle.explained_reports.proofs.text.push_led.Goals as goal
 
 pub returns : goal.returns
-unfolding cause_text
+unfolding led_text
 returns c =
     let all =
     and_then (and_then (and_then (and_then (and_then c.in_ok-push_text.ensures c.in_ok-push_text-2.ensures)
     c.in_ok-push_ends.ensures) c.in_ok-push_from.ensures) c.in_ok-push_number.ensures) c.in_ok-push_text-3.ensures in
-    rw c.plural.ensures at all
+    rw c.back-back.ensures at (rw c.plural.ensures at all)
