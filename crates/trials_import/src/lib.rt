@@ -18,6 +18,10 @@
 #[cfg(test)]
 mod items;
 #[cfg(test)]
+mod lowerings;
+#[cfg(test)]
+mod openings;
+#[cfg(test)]
 mod rewritings;
 #[cfg(test)]
 mod trees;

@@ -1,0 +1,148 @@
+//! Clocks of assertions (IEEE 1800-2017, 14.12, 16.13 and 16.15).
+
+use crate::environment::{EnvironmentId, declaration_at, declaration_of};
+use crate::meaning::Meaning;
+use crate::opener::{Opener, placed, refused};
+use crate::refused::Refused;
+use import_scopes::{DeclarationId, DeclarationKind, DefaultClock, ScopeId};
+use import_tokens::{Keyword, Kind, Token};
+use import_trees::{Clock, Path, Refusal, Specification};
+
+/// Whether two paths are written alike.
+fn is_same(first: Path, second: Path) -> bool {
+    if first.tokens.len() != second.tokens.len() {
+        return false;
+    }
+    for (place, token) in first.tokens.iter().enumerate() {
+        match second.tokens.get(place) {
+            Some(other) if other.text == token.text => {}
+            _ => return false,
+        }
+    }
+    true
+}
+
+impl<'f, 't> Opener<'f, 't> {
+    /// What stands before the body of an assertion or a declaration: its clock, and `disable iff`,
+    /// which may stand at the top alone.
+    pub(crate) fn begin_body(
+        &mut self,
+        said: Specification<'t>,
+        environment: EnvironmentId,
+        top: bool,
+        at: usize,
+    ) -> Result<(), Refused> {
+        if let Some(clock) = said.clock {
+            let path = self.clock_path(clock, environment, at)?;
+            self.meet_clock(path, at)?;
+        }
+        if let Some(disable) = said.disable {
+            if !top || self.disable.is_some() {
+                return Err(refused(Refusal::Outside, at));
+            }
+            self.disable = Some((disable, environment));
+        }
+        Ok(())
+    }
+
+    /// Takes up a clock; refused where it is another one than before.
+    fn meet_clock(&mut self, path: Path<'t>, at: usize) -> Result<(), Refused> {
+        match self.clock {
+            Some(own) if !is_same(own, path) => Err(refused(Refusal::SecondClock, at)),
+            _ => {
+                self.clock = Some(path);
+                Ok(())
+            }
+        }
+    }
+
+    /// The path of a clocking event.
+    fn clock_path(
+        &mut self,
+        clock: Clock<'t>,
+        environment: EnvironmentId,
+        at: usize,
+    ) -> Result<Path<'t>, Refused> {
+        match clock {
+            Clock::Rising(path) => match self.meaning(path, environment) {
+                Meaning::Actual(tokens, _) => Ok(Path { tokens }),
+                Meaning::Signal => Ok(path),
+                _ => Err(refused(Refusal::ClockForm, at)),
+            },
+            Clock::Named(path) => match self.meaning(path, environment) {
+                Meaning::Actual(tokens, _) => rising_path(tokens, at),
+                Meaning::Declared(id) => self.block_path(id, at),
+                _ => Err(refused(Refusal::ClockForm, at)),
+            },
+        }
+    }
+
+    /// The path of a clocking block.
+    fn block_path(&mut self, id: DeclarationId, at: usize) -> Result<Path<'t>, Refused> {
+        match declaration_at(self.file, id) {
+            Some(declaration) if declaration.kind == DeclarationKind::Clocking => {
+                self.event_path(declaration.body, at)
+            }
+            _ => Err(refused(Refusal::ClockForm, at)),
+        }
+    }
+
+    /// The path of an event's tokens.
+    fn event_path(&mut self, tokens: &'t [Token<'t>], at: usize) -> Result<Path<'t>, Refused> {
+        match self.parser.clock(tokens) {
+            Ok(Clock::Rising(path)) => Ok(path),
+            Ok(Clock::Named(_)) => Err(refused(Refusal::ClockForm, at)),
+            Err(fault) => Err(placed(fault, tokens, at)),
+        }
+    }
+
+    /// The path of the default clocking of a scope, or of one round it.
+    pub(crate) fn default_path(&mut self, scope: ScopeId, at: usize) -> Result<Path<'t>, Refused> {
+        let Some((clock, owner)) = self.default_clock(scope) else {
+            return Err(refused(Refusal::NoClock, at));
+        };
+        match clock {
+            DefaultClock::Event(tokens) => self.event_path(tokens, at),
+            DefaultClock::Block(name) => match declaration_of(self.file, owner, name) {
+                Some(id) => self.block_path(id, at),
+                None => Err(refused(Refusal::ClockForm, at)),
+            },
+        }
+    }
+
+    /// The default clocking of a scope, or of one round it, and whose it is.
+    fn default_clock(&self, scope: ScopeId) -> Option<(DefaultClock<'t>, ScopeId)> {
+        let mut at = scope;
+        for _ in 0..self.file.scopes.len() {
+            let here = self.file.scopes.get(at.0)?;
+            if let Some(clock) = here.clock {
+                return Some((clock, at));
+            }
+            at = here.around?;
+        }
+        None
+    }
+
+    /// The tokens of the default `disable iff` of a scope, or of one round it.
+    pub(crate) fn default_disable(&self, scope: ScopeId) -> Option<&'t [Token<'t>]> {
+        let mut at = scope;
+        for _ in 0..self.file.scopes.len() {
+            let here = self.file.scopes.get(at.0)?;
+            if here.disable.is_some() {
+                return here.disable;
+            }
+            at = here.around?;
+        }
+        None
+    }
+}
+
+/// The path of an argument that is a clocking event, or a name.
+fn rising_path<'t>(tokens: &'t [Token<'t>], at: usize) -> Result<Path<'t>, Refused> {
+    match tokens.first() {
+        Some(token) if token.kind == Kind::Keyword(Keyword::PosEdge) => Ok(Path {
+            tokens: tokens.get(1..).unwrap_or(&[]),
+        }),
+        _ => Err(refused(Refusal::ClockForm, at)),
+    }
+}

@@ -1,0 +1,308 @@
+//! Names in expressions, and what they stand for.
+
+use crate::arguments::argument_count;
+use crate::environment::{Environment, EnvironmentId, declaration_at, environment_in};
+use crate::folding::{counted, plain, resized};
+use crate::meaning::Meaning;
+use crate::opener::{MOST_OPENED, Opener, placed, refused};
+use crate::refused::Refused;
+use crate::value::{Value, ValueId};
+use import_scopes::{Declaration, DeclarationId, DeclarationKind};
+use import_tokens::{Keyword, Kind, Symbol, Token};
+use import_trees::{Actuals, Expected, ExpressionId, Form, FormId, Number, Path, Refusal};
+
+/// The place of an opening square bracket, if one stands there.
+fn bracket_in(tokens: &[Token]) -> Option<usize> {
+    for (index, token) in tokens.iter().enumerate() {
+        if token.kind == Kind::Symbol(Symbol::OpenSquare) {
+            return Some(index);
+        }
+    }
+    None
+}
+
+/// The tokens from a place on.
+fn rest_of<'t>(tokens: &'t [Token<'t>], first: usize) -> &'t [Token<'t>] {
+    &tokens[first.min(tokens.len())..]
+}
+
+/// The width of a type without brackets, and whether it has a sign (IEEE 1800-2017, 6.11).
+fn plain_width(tokens: &[Token]) -> Option<(u8, bool)> {
+    for token in tokens {
+        match token.kind {
+            Kind::Keyword(Keyword::Int | Keyword::Integer) => return Some((32, true)),
+            Kind::Keyword(Keyword::Logic | Keyword::Bit | Keyword::Reg) => {
+                return Some((1, false));
+            }
+            _ => {}
+        }
+    }
+    None
+}
+
+impl<'f, 't> Opener<'f, 't> {
+    /// What a name in an expression stands for.
+    #[cycle(opened)]
+    pub(crate) fn named(
+        &mut self,
+        path: Path<'t>,
+        actuals: Option<Actuals<'t>>,
+        environment: EnvironmentId,
+        at: usize,
+        depth: usize,
+    ) -> Result<ValueId, Refused> {
+        if !self.may_go_on(depth) {
+            return Err(refused(Refusal::TooHeavy, at));
+        }
+        match self.meaning(path, environment) {
+            Meaning::Local(local) => self.keep(Value::Local(local), at),
+            Meaning::Actual(tokens, caller) => self.actual_value(tokens, caller, at, depth - 1),
+            Meaning::NoActual => Err(refused(Refusal::Arguments, at)),
+            Meaning::LocalFormal => Err(refused(Refusal::Outside, at)),
+            Meaning::Declared(id) => {
+                self.declared_value(id, actuals, environment, at, depth - 1)
+            }
+            Meaning::Signal if actuals.is_some() => Err(refused(Refusal::Function, at)),
+            Meaning::Signal => self.keep(Value::Signal(path), at),
+        }
+    }
+
+    /// The sequence or property that tokens of an argument are.
+    pub(crate) fn argument(
+        &mut self,
+        tokens: &'t [Token<'t>],
+        at: usize,
+    ) -> Result<FormId, Refused> {
+        match self.parser.argument(tokens) {
+            Ok(form) => Ok(form),
+            Err(fault) => Err(placed(fault, tokens, at)),
+        }
+    }
+
+    /// The expression at the front of tokens, and how many it takes.
+    pub(crate) fn expression(
+        &mut self,
+        tokens: &'t [Token<'t>],
+        at: usize,
+    ) -> Result<(ExpressionId, usize), Refused> {
+        match self.parser.expression_of(tokens) {
+            Ok(read) => Ok(read),
+            Err(fault) => Err(placed(fault, tokens, at)),
+        }
+    }
+
+    /// The expression that a form is.
+    fn boolean_of(&self, form: FormId, at: usize) -> Result<ExpressionId, Refused> {
+        match self.parser.trees().forms.get(form.0) {
+            Some(node) => match node.form {
+                Form::Boolean(expression) => Ok(expression),
+                _ => Err(refused(Refusal::Expected(Expected::Expression), at)),
+            },
+            None => Err(refused(Refusal::Expected(Expected::Expression), at)),
+        }
+    }
+
+    /// The value of an argument, where it stands.
+    #[cycle(opened)]
+    fn actual_value(
+        &mut self,
+        tokens: &'t [Token<'t>],
+        caller: EnvironmentId,
+        at: usize,
+        depth: usize,
+    ) -> Result<ValueId, Refused> {
+        if !self.may_go_on(depth) {
+            return Err(refused(Refusal::TooHeavy, at));
+        }
+        let form = self.argument(tokens, at)?;
+        let expression = self.boolean_of(form, at)?;
+        self.value(expression, caller, depth - 1)
+    }
+
+    /// Goes into a declaration: the environment of its body.
+    pub(crate) fn enter(
+        &mut self,
+        declaration: Declaration<'t>,
+        actuals: Option<Actuals<'t>>,
+        locals: &'t [Token<'t>],
+        caller: EnvironmentId,
+        at: usize,
+    ) -> Result<EnvironmentId, Refused> {
+        match actuals {
+            Some(actuals) => self.enter_with(declaration, actuals.tokens, locals, caller, at),
+            None => self.enter_with(declaration, &declaration.formals[..0], locals, caller, at),
+        }
+    }
+
+    /// The same, with the tokens of its arguments.
+    fn enter_with(
+        &mut self,
+        declaration: Declaration<'t>,
+        actuals: &'t [Token<'t>],
+        locals: &'t [Token<'t>],
+        caller: EnvironmentId,
+        at: usize,
+    ) -> Result<EnvironmentId, Refused> {
+        let depth = self.depth_in(caller);
+        if depth > MOST_OPENED {
+            return Err(refused(Refusal::Recursive, at));
+        }
+        if argument_count(actuals) > argument_count(declaration.formals) {
+            return Err(refused(Refusal::Arguments, at));
+        }
+        self.push_environment(Environment {
+            scope: declaration.scope,
+            formals: declaration.formals,
+            actuals,
+            caller,
+            locals,
+            first_local: 0,
+            depth,
+        })
+    }
+
+    /// Goes into the scope of a declaration without arguments.
+    fn enter_scope(
+        &mut self,
+        declaration: Declaration<'t>,
+        caller: EnvironmentId,
+        at: usize,
+    ) -> Result<EnvironmentId, Refused> {
+        let depth = self.depth_in(caller);
+        if depth > MOST_OPENED {
+            return Err(refused(Refusal::Recursive, at));
+        }
+        let mut inside = environment_in(declaration.scope, &declaration.formals[..0]);
+        inside.caller = caller;
+        inside.depth = depth;
+        self.push_environment(inside)
+    }
+
+    /// The value of a declared name.
+    #[cycle(opened)]
+    fn declared_value(
+        &mut self,
+        id: DeclarationId,
+        actuals: Option<Actuals<'t>>,
+        caller: EnvironmentId,
+        at: usize,
+        depth: usize,
+    ) -> Result<ValueId, Refused> {
+        if !self.may_go_on(depth) {
+            return Err(refused(Refusal::TooHeavy, at));
+        }
+        let Some(declaration) = declaration_at(self.file, id) else {
+            return Err(refused(Refusal::Outside, at));
+        };
+        match declaration.kind {
+            DeclarationKind::Let => {
+                let none = &declaration.formals[..0];
+                let inside = self.enter(declaration, actuals, none, caller, at)?;
+                let (expression, _taken) = self.expression(declaration.body, at)?;
+                self.value(expression, inside, depth - 1)
+            }
+            DeclarationKind::Constant => {
+                let number = self.constant_of(declaration, caller, at, depth - 1)?;
+                let number = self.typed(declaration, number, caller, at, depth - 1)?;
+                self.keep(Value::Number(number), at)
+            }
+            DeclarationKind::Member(_) => {
+                let number = self.member(id, caller, at, depth - 1)?;
+                let number = self.typed(declaration, number, caller, at, depth - 1)?;
+                self.keep(Value::Number(number), at)
+            }
+            DeclarationKind::Property | DeclarationKind::Sequence => {
+                Err(refused(Refusal::Expected(Expected::Expression), at))
+            }
+            DeclarationKind::Clocking => Err(refused(Refusal::Outside, at)),
+        }
+    }
+
+    /// The number that the body of a declaration is.
+    #[cycle(opened)]
+    fn constant_of(
+        &mut self,
+        declaration: Declaration<'t>,
+        caller: EnvironmentId,
+        at: usize,
+        depth: usize,
+    ) -> Result<Number, Refused> {
+        if !self.may_go_on(depth) {
+            return Err(refused(Refusal::TooHeavy, at));
+        }
+        let inside = self.enter_scope(declaration, caller, at)?;
+        let (expression, _taken) = self.expression(declaration.body, at)?;
+        let value = self.value(expression, inside, depth - 1)?;
+        match self.number_of(value) {
+            Some(number) => Ok(number),
+            None => Err(refused(Refusal::NotConstant, at)),
+        }
+    }
+
+    /// The number of a member of an enumeration (6.19.2): its own, or so many more than the last
+    /// one before it that has its own.
+    #[cycle(opened)]
+    fn member(
+        &mut self,
+        id: DeclarationId,
+        caller: EnvironmentId,
+        at: usize,
+        depth: usize,
+    ) -> Result<Number, Refused> {
+        if !self.may_go_on(depth) {
+            return Err(refused(Refusal::TooHeavy, at));
+        }
+        let mut place = id;
+        let mut more = 0u32;
+        for _ in 0..self.file.declarations.len() {
+            let Some(declaration) = declaration_at(self.file, place) else {
+                return Err(refused(Refusal::Outside, at));
+            };
+            if !declaration.body.is_empty() {
+                let number = self.constant_of(declaration, caller, at, depth - 1)?;
+                let base = counted(number).ok_or(refused(Refusal::NotConstant, at))?;
+                return Ok(plain(base.wrapping_add(more)));
+            }
+            let DeclarationKind::Member(Some(before)) = declaration.kind else {
+                return Ok(plain(more));
+            };
+            place = before;
+            more = more.wrapping_add(1);
+        }
+        Ok(plain(more))
+    }
+
+    /// A number, as wide as the type of its declaration says.
+    #[cycle(opened)]
+    fn typed(
+        &mut self,
+        declaration: Declaration<'t>,
+        number: Number,
+        caller: EnvironmentId,
+        at: usize,
+        depth: usize,
+    ) -> Result<Number, Refused> {
+        if !self.may_go_on(depth) {
+            return Err(refused(Refusal::TooHeavy, at));
+        }
+        let Some(bracket) = bracket_in(declaration.formals) else {
+            return Ok(match plain_width(declaration.formals) {
+                Some((width, signed)) => resized(number, width, signed),
+                None => number,
+            });
+        };
+        let inside = self.enter_scope(declaration, caller, at)?;
+        let first = bracket.saturating_add(1);
+        let after = rest_of(declaration.formals, first);
+        let (high, taken) = self.expression(after, at)?;
+        let rest = rest_of(after, taken.saturating_add(1));
+        let (low, _taken) = self.expression(rest, at)?;
+        let high = self.constant(high, inside, depth - 1)?;
+        let low = self.constant(low, inside, depth - 1)?;
+        let width = high.checked_sub(low).ok_or(refused(Refusal::BadBound, at))?;
+        match u8::try_from(width.saturating_add(1)) {
+            Ok(width) if width <= 128 => Ok(resized(number, width, false)),
+            _ => Err(refused(Refusal::WiderThan128, at)),
+        }
+    }
+}
