@@ -14,7 +14,7 @@ use Rattle.clap.specs.declared.builder.value_parser.ValueParser.TheVariants.{Uns
 use Rattle.cli_words.specs.declared.request.Request.{Request}
 use Rattle.cli_words.specs.declared.request.Request.TheVariants.{Check, Build, Verify}
 use Rattle.cli_words.specs.declared.request.Request.TheVariants.{Run, Judge, Rules, Upgrade}
-use Rattle.cli_words.specs.declared.request.Request.TheVariants.{Explain, Lint, Names}
+use Rattle.cli_words.specs.declared.request.Request.TheVariants.{Explain, Lint, Names, Import}
 
 -- an option `--name`, of one value
 abbrev pub option_rule : Text → Rule
@@ -39,6 +39,10 @@ file_rule name = record (option_rule name) { required = true }
 -- a file that a word alone names, which has to be given
 abbrev pub word_rule : Text → Rule
 word_rule name = record (new_rule name) { value_names = 1; required = true }
+
+-- files that words alone name, of which there has to be one
+abbrev pub words_rule : Text → Rule
+words_rule name = record (word_rule name) { action = Some Append }
 
 -- a port file, which may be left out
 abbrev pub axi_rule : Rule
@@ -72,6 +76,10 @@ start_rule = record (option_rule (codes "start")) {
 -- how many attempts are explained at most, 1 to 65,536, 1 where it isn't given
 abbrev pub most_rule : Rule
 most_rule = number_rule (codes "most") (codes "1") 65536
+
+-- what stands for an open end, 1 to 127, which may be left out
+abbrev pub bound_rule : Rule
+bound_rule = record (option_rule (codes "bound")) { parser = Some (Unsigned 1 127) }
 
 -- a command with an option for the dump, and another one
 abbrev pub dump_app : Text → Rule → App
@@ -123,6 +131,19 @@ names_app =
     with_rule (with_rule (with_rule (new_app (codes "names")) (file_rule (codes "vcd")))
     (option_rule (codes "match"))) (option_rule (codes "scope"))
 
+-- with the files, and how names in them are looked up
+abbrev pub scoped_app : App
+scoped_app =
+    with_rule
+    (with_rule (with_rule (new_app (codes "import")) (words_rule (codes "files")))
+    (option_rule (codes "scope"))) bound_rule
+
+abbrev pub import_app : App
+import_app =
+    with_rule
+    (with_rule (with_rule scoped_app (option_rule (codes "vcd"))) (option_rule (codes "clock")))
+    (many_rule (codes "define"))
+
 abbrev pub rules_app : App
 rules_app = with_rule (new_app (codes "rules")) (file_rule (codes "axi"))
 
@@ -150,7 +171,8 @@ svamon_app =
     let first_six = with_subcommand (with_subcommand first_four judge_app.top) rules_app.top in
     let first_eight =
     with_subcommand (with_subcommand first_six upgrade_app.top) explain_app.top in
-    with_subcommand (with_subcommand first_eight lint_app.top) names_app.top
+    let first_ten = with_subcommand (with_subcommand first_eight lint_app.top) names_app.top in
+    with_subcommand first_ten import_app.top
 
 -- what the rows give for an option, which is there or not
 abbrev pub Gives : Text → List Row → Option (String Global) → Type 0
@@ -179,6 +201,12 @@ GivesNumber name rows None = first_of name rows ≡ None
 GivesNumber name rows (Some number) =
     (text : Text) × (one_of name rows ≡ Some text)
     × ParsesUnsigned {E = Unit {0}} 64 10 text (Ok number)
+
+-- what the rows give for an open end, from 1 to 127, where they give it
+abbrev pub GivesBound : List Row → Option ℕ → Type 0
+GivesBound rows None = GivesNumber (codes "bound") rows None
+GivesBound rows (Some number) =
+    GivesNumber (codes "bound") rows (Some number) × (1 ≤ number) × (number ≤ 127)
 
 -- how many workers there are to be, and how many clocks a window is to have
 abbrev pub HasTeam : List Row → ℕ → ℕ → Type 0
@@ -215,6 +243,20 @@ HasNames rows vcd matching scope =
     Gives (codes "vcd") rows (Some vcd) × Gives (codes "match") rows matching
     × Gives (codes "scope") rows scope
 
+-- files, and how the names in them are looked up: in which scope, and by which dump, if any
+abbrev pub HasFiles : List Row → List (String Global) → Option (String Global)
+    → Option (String Global) → Type 0
+HasFiles rows files scope vcd =
+    GivesAll (codes "files") rows files × Gives (codes "scope") rows scope
+    × Gives (codes "vcd") rows vcd
+
+-- how they are read: what an open end is, whose clock counts, and which macros are defined
+abbrev pub HasReading : List Row → Option ℕ → Option (String Global) → List (String Global)
+    → Type 0
+HasReading rows bound clock define =
+    GivesBound rows bound × Gives (codes "clock") rows clock
+    × GivesAll (codes "define") rows define
+
 -- the files into which other forms of the report are written, if there are any
 abbrev pub HasForms : List Row → Option (String Global) → Option (String Global)
     → Option (String Global) → Type 0
@@ -237,6 +279,7 @@ command_of (Judge vcd sva axi) = codes "judge"
 command_of (Explain vcd sva axi only start most) = codes "explain"
 command_of (Lint vcd sva axi) = codes "lint"
 command_of (Names vcd matching scope) = codes "names"
+command_of (Import files scope bound vcd clock define) = codes "import"
 command_of (Rules axi) = codes "rules"
 command_of (Upgrade code out) = codes "upgrade"
 
@@ -255,6 +298,8 @@ IsGiven rows (Explain vcd sva axi only start most) =
     HasText rows vcd sva.items axi × HasWanted rows only start most
 IsGiven rows (Lint vcd sva axi) = HasText rows vcd sva.items axi
 IsGiven rows (Names vcd matching scope) = HasNames rows vcd matching scope
+IsGiven rows (Import files scope bound vcd clock define) =
+    HasFiles rows files.items scope vcd × HasReading rows bound clock define.items
 IsGiven rows (Rules axi) = Gives (codes "axi") rows (Some axi)
 IsGiven rows (Upgrade code out) =
     Gives (codes "code") rows (Some code) × Gives (codes "out") rows (Some out)

@@ -9,7 +9,7 @@ ghost use Rattle.cli_words.specs.Words.{text_app, check_app, build_app, verify_a
 ghost use Rattle.cli_words.specs.Words.{judge_app, lint_app, rules_app, upgrade_app, first_app};
 ghost use Rattle.cli_words.specs.Words.{chosen_app};
 ghost use Rattle.cli_words.specs.Words.{explain_app, names_app, only_rule, start_rule, most_rule};
-ghost use Rattle.cli_words.specs.Words.{svamon_app};
+ghost use Rattle.cli_words.specs.Words.{svamon_app, words_rule, bound_rule, scoped_app, import_app};
 
 use crate::release::VERSION;
 use clap::{Arg, ArgAction, Command, value_parser};
@@ -43,6 +43,18 @@ fn file_word<'a>(alloc: Global, name: &'a str, help: &'a str) -> Arg<'a>
     Arg::new(alloc, name)
         .value_name("FILE")
         .required(true)
+        .help(help)
+}
+
+/// Files that are named by words alone, of which there has to be one.
+fn file_words<'a>(alloc: Global, name: &'a str, help: &'a str) -> Arg<'a>
+    ensures rule { rule_of result ≡ words_rule name.entry.now }
+    ensures local { result.global ≡ false }
+{
+    Arg::new(alloc, name)
+        .value_name("FILE")
+        .required(true)
+        .action(ArgAction::Append)
         .help(help)
 }
 
@@ -179,6 +191,25 @@ fn most_option<'a>(alloc: Global) -> Arg<'a>
     within_sizes(option)
 }
 
+/// The option with a number from 1 to 127 as its value.
+fn within_bounds<'a>(option: Arg<'a>) -> Arg<'a>
+    ensures { result ≡ record option.entry { value_parser = Some (Unsigned 1 127) } }
+{
+    option.value_parser(value_parser!(u64).range(1..128))
+}
+
+/// The option for what stands for `$` in a range, which may be left out.
+fn bound_option<'a>(alloc: Global) -> Arg<'a>
+    ensures rule { rule_of result ≡ bound_rule }
+    ensures local { result.global ≡ false }
+{
+    let option = Arg::new(alloc, "bound")
+        .long("bound")
+        .value_name("TICKS")
+        .help("What stands for $ in a range, and how long until waits, from 1 to 127");
+    within_bounds(option)
+}
+
 /// The option for a file into which another form of the report is written, which may be left out.
 fn form_option<'a>(alloc: Global, name: &'a str, help: &'a str) -> Arg<'a>
     ensures rule { rule_of result ≡ option_rule name.entry.now }
@@ -311,6 +342,34 @@ fn names_command<'a>(alloc: Global) -> Result<Command<'a>, AllocError>
         .arg(free_option(alloc, "scope", "PATH", scope))
 }
 
+/// `import`, with its files and how names are looked up.
+fn scoped_command<'a>(alloc: Global) -> Result<Command<'a>, AllocError>
+    ensures { IfOk result (λ c. app_of c ≡ scoped_app) }
+{
+    let scope = "The scope of the dump in which the files' names stand";
+    Command::new(alloc, "import")
+        .about("Writes a team's SystemVerilog assertions as a text for --sva")
+        .arg(file_words(
+            alloc,
+            "files",
+            "SystemVerilog files, which are joined in this order",
+        ))?
+        .arg(free_option(alloc, "scope", "PATH", scope))?
+        .arg(bound_option(alloc))
+}
+
+fn import_command<'a>(alloc: Global) -> Result<Command<'a>, AllocError>
+    ensures { IfOk result (λ c. app_of c ≡ import_app) }
+{
+    let vcd = "A dump, which has the widths of names";
+    let clock = "Writes the assertions of this clock; without it, of the first one";
+    let define = "Defines a macro; may be given again and again";
+    scoped_command(alloc)?
+        .arg(free_option(alloc, "vcd", "FILE", vcd))?
+        .arg(free_option(alloc, "clock", "PATH", clock))?
+        .arg(many_option(alloc, "define", "NAME[=TEXT]", define))
+}
+
 fn rules_command<'a>(alloc: Global) -> Result<Command<'a>, AllocError>
     ensures { IfOk result (λ c. app_of c ≡ rules_app) }
 {
@@ -363,5 +422,6 @@ pub(crate) fn svamon_command<'a>(alloc: Global) -> Result<Command<'a>, AllocErro
     let svamon = with_subcommand(svamon, upgrade_command(alloc))?;
     let svamon = with_subcommand(svamon, explain_command(alloc))?;
     let svamon = with_subcommand(svamon, lint_command(alloc))?;
-    with_subcommand(svamon, names_command(alloc))
+    let svamon = with_subcommand(svamon, names_command(alloc))?;
+    with_subcommand(svamon, import_command(alloc))
 }

@@ -10,6 +10,7 @@
 //!     Ok(Request::Explain { vcd, sva, axi, only, start, most }) => ..,
 //!     Ok(Request::Lint { vcd, sva, axi }) => ..,
 //!     Ok(Request::Names { vcd, matching, scope }) => ..,
+//!     Ok(Request::Import { files, scope, bound, vcd, clock, define }) => ..,
 //!     Ok(Request::Rules { axi }) => ..,
 //!     Ok(Request::Upgrade { code, out }) => ..,
 //!     Err(WordsFault::Words(error)) => ..,             // `{error}` is the text to show
@@ -19,14 +20,15 @@
 //!
 //! The words are read by `clap`, and what they give is `clap`'s own definition of that
 //! (`subcommand_of`, for a command written out in `specs/Words.antt`): the command that is named,
-//! and for each of its options the value after it or else its default; the file of `verify` and
-//! that of `upgrade` is a word alone. `--axi` may be left out where a text is read, as may
-//! `--junit`, `--json` and `--html` of `check` and both options of `names` but the dump, which
-//! gives None. `--sva`, and `--only` of `check`, may be given again and again. The contract of
-//! `read_words` says that a request is that command with those values, in their order, that there
-//! are 1 to 64 workers, that a window has from 1 to 65,536 clocks, and that so many attempts are
-//! explained at most. Words of which `asks_for_version` holds are answered with `VERSION`, and ask
-//! for nothing else. Not promised: which words are refused, and with what text; tests show that.
+//! and for each of its options the value after it or else its default; the files of `verify`,
+//! `upgrade` and `import` are words alone. `--axi` may be left out where a text is read, as may
+//! `--junit`, `--json` and `--html` of `check`, and all options of `names` but the dump and of
+//! `import`, which gives None. `--sva`, `--only` of `check`, and the files and `--define` of
+//! `import` may be given again and again. The contract of `read_words` says that a request is that
+//! command with those values, in their order, that there are 1 to 64 workers, that a window has
+//! from 1 to 65,536 clocks, that so many attempts are explained at most, and that a bound is from 1
+//! to 127. Words of which `asks_for_version` holds are answered with `VERSION`, and ask for nothing
+//! else. Not promised: which words are refused, and with what text; tests show that.
 #![tactic(auto)]
 
 mod command;

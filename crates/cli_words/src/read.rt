@@ -3,6 +3,7 @@
 ghost use Rattle.std.specs.Prelude.{◌≡◌, IfOk, Some, codes, map, string_bytes};
 ghost use Rattle.clap.specs.Words.{found_of, rows_of};
 ghost use Rattle.cli_words.specs.Words.{Gives, GivesAll, GivesFlag, IsNumber, GivesNumber};
+ghost use Rattle.cli_words.specs.Words.{GivesBound};
 ghost use Rattle.cli_words.specs.Words.{IsRequest, IsNamed, IsAsked};
 
 use crate::command::svamon_command;
@@ -187,6 +188,35 @@ fn names_request(alloc: Global, options: &ArgMatches) -> Result<Request, WordsFa
     })
 }
 
+/// The bound that is given, if any: `clap` refuses any that is out of range.
+fn bound_of(options: &ArgMatches) -> Result<Option<u64>, WordsFault>
+    ensures { IfOk result (GivesBound (rows_of (found_of options.now))) }
+{
+    match given_number(options, "bound")? {
+        None => Ok(None),
+        Some(bound) => {
+            if 1 <= bound && bound <= 127 {
+                return Ok(Some(bound));
+            }
+            Err(WordsFault::OutOfMemory)
+        }
+    }
+}
+
+fn import_request(alloc: Global, options: &ArgMatches) -> Result<Request, WordsFault>
+    ensures { IfOk result (IsRequest (codes "import") (rows_of (found_of options.now))) }
+{
+    let bound = bound_of(options)?;
+    Ok(Request::Import {
+        files: texts_of(alloc, options, "files")?,
+        scope: option_of(alloc, options, "scope")?,
+        bound,
+        vcd: option_of(alloc, options, "vcd")?,
+        clock: option_of(alloc, options, "clock")?,
+        define: texts_of(alloc, options, "define")?,
+    })
+}
+
 fn rules_request(alloc: Global, options: &ArgMatches) -> Result<Request, WordsFault>
     ensures { IfOk result (IsRequest (codes "rules") (rows_of (found_of options.now))) }
 {
@@ -220,6 +250,7 @@ fn request_of(alloc: Global, matches: &ArgMatches) -> Result<Request, WordsFault
         Some(("explain", options)) => explain_request(alloc, options),
         Some(("lint", options)) => lint_request(alloc, options),
         Some(("names", options)) => names_request(alloc, options),
+        Some(("import", options)) => import_request(alloc, options),
         _ => Err(WordsFault::OutOfMemory),
     }
 }

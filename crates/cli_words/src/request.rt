@@ -89,6 +89,21 @@ pub enum Request {
         /// The scope in which they stand.
         scope: Option<String>,
     },
+    /// Writes the assertions of SystemVerilog files as a text.
+    Import {
+        /// The files, in the order in which they are joined.
+        files: Vec<String>,
+        /// The path of the scope in which names are looked up.
+        scope: Option<String>,
+        /// What stands for `$` in a range, from 1 to 127.
+        bound: Option<u64>,
+        /// A dump, which has the widths of names.
+        vcd: Option<String>,
+        /// The clock whose assertions are written.
+        clock: Option<String>,
+        /// Macros, each a name, and after a `=` its text.
+        define: Vec<String>,
+    },
     /// Prints the rules of the ports of a port file.
     Rules {
         axi: String,

@@ -11,6 +11,7 @@
 //! svamon upgrade r.svm --out r2.svm
 //! svamon explain --vcd top.vcd --sva rules.sva [--axi ports.txt] [--only r] [--start 9] [--most 1]
 //! svamon lint --vcd top.vcd --sva rules.sva [--axi ports.txt]
+//! svamon import rules.sv [--scope tb.dut] [--bound 30] [--vcd top.vcd] [--clock tb.clk]
 //! svamon names --vcd top.vcd [--match addr] [--scope tb.dut]
 //! svamon rules --axi ports.txt
 //! svamon --version
@@ -24,8 +25,9 @@
 //! the contracts of `cli` (`check_all`, `report_all`, `report_over`, `judge_one`, `build_one`),
 //! of `report_page` (`page`), of `report_forms` (`junit_report`, `json_report`), of `cli_bytecode`
 //! (`verify_code`, `run_code`, `upgrade_code`), of `cli_lint` (`lint_over`), of `vcd_variables`
-//! (`names_one`), of `source_files` (`joined`, `chosen`) and of `axi4_rules` (`port_rules`), whose
-//! definitions stand in their `specs/`.
+//! (`names_one`), of `import_files` (`imported`, `text_of`, `status_of`), of `source_files`
+//! (`joined`, `chosen`) and of `axi4_rules` (`port_rules`), whose definitions stand in their
+//! `specs/`.
 //!
 //! Not promised: what a file holds, that the line of a fault reaches anyone, and that the process
 //! ends with the status: these are tested (`docs/TESTED.md`). `docs/USING.md` goes through the
@@ -33,6 +35,7 @@
 #![tactic(auto)]
 
 mod check;
+mod import;
 mod serve;
 
 use std::process::ExitCode;

@@ -1,6 +1,7 @@
 //! The commands, from the words of the command line to the answer.
 
 use crate::check::{Asked, Team, serve_check};
+use crate::import::{self, serve_import};
 use cli::{Fault, NoGate, Request, Wanted, build_one, explain_one, judge_one};
 use cli_bytecode::{run_code, upgrade_code, verify_code};
 use cli_lint::{LintFault, lint_one};
@@ -408,6 +409,24 @@ fn serve<R: Files + Print + Eprint + AllocGlobal + Threads + Wait + Sync>(
                 scope: path_of(scope),
             };
             serve_names(rt, vcd.as_str(), &filter)
+        }
+        Request::Import {
+            files,
+            scope,
+            bound,
+            vcd,
+            clock,
+            define,
+        } => {
+            let wanted = import::Wanted {
+                files: files.as_slice(),
+                scope: path_of(scope),
+                bound: *bound,
+                vcd: path_of(vcd),
+                clock: path_of(clock),
+                define: define.as_slice(),
+            };
+            serve_import(rt, &wanted)
         }
         Request::Rules { axi } => serve_rules(rt, axi.as_str()),
         Request::Upgrade { code, out } => serve_upgrade(rt, code.as_str(), out.as_str()),

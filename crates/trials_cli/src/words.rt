@@ -75,6 +75,24 @@ fn line_of(alloc: Global, request: &Request) -> Result<String, AllocError> {
             file_or_none(matching),
             file_or_none(scope)
         ),
+        Request::Import {
+            files,
+            scope,
+            bound,
+            vcd,
+            clock,
+            define,
+        } => {
+            let files = listed(alloc, files.as_slice())?;
+            let define = listed(alloc, define.as_slice())?;
+            format!(in alloc;
+                "import {files} {} {} {} {} {define}",
+                file_or_none(scope),
+                bound.unwrap_or(0),
+                file_or_none(vcd),
+                file_or_none(clock)
+            )
+        }
         Request::Rules { axi } => format!(in alloc; "rules {axi}"),
         Request::Verify { code } => format!(in alloc; "verify {code}"),
         Request::Build {
@@ -174,6 +192,14 @@ fn words_are_read(rt: HostRuntime) -> Result<(), Fail> {
             "svamon judge --vcd a.vcd --sva a.sva --axi p",
             "judge a.vcd a.sva p",
         ),
+        ("svamon import a b", "import a,b none 0 none none "),
+        (
+            "svamon import --bound 127 a --scope t --define x=1 --vcd v --define y b --clock c",
+            "import a,b t 127 v c x=1,y",
+        ),
+        ("svamon import", "refused 2 true"),
+        ("svamon import a --bound 0", "refused 2 true"),
+        ("svamon import a --bound 128", "refused 2 true"),
         ("svamon rules --axi p", "rules p"),
         ("svamon verify a.svm", "verify a.svm"),
         (

@@ -1,7 +1,8 @@
 use Rattle.std.proofs.Common.{◌∙◌, ap, refl}
 use Rattle.std.proofs.lemmas.Result.{IfOk-weaker}
 use Rattle.clap.specs.Words.{App, with_subcommand}
-use Rattle.cli_words.specs.Words.{run_app, judge_app, rules_app, upgrade_app, explain_app, lint_app, names_app}
+use Rattle.cli_words.specs.Words.{run_app, judge_app, rules_app, upgrade_app, explain_app, lint_app}
+use Rattle.cli_words.specs.Words.{names_app, import_app}
 use Rattle.cli_words.proofs.command.svamon_command.Goals as goal
 
 pub returns : goal.returns
@@ -24,5 +25,8 @@ returns c =
     let nine =
     c.in_ok-svamon-7.ensures lint_app c.lint_command.ensures refl
     ∙ ap (λ (a : App). with_subcommand a lint_app.top) eight in
-    IfOk-weaker c.with_subcommand-7.result _ _ (λ r h. h ∙ ap (λ (a : App). with_subcommand a names_app.top) nine)
-    (c.with_subcommand-7.ensures names_app c.names_command.ensures refl)
+    let ten =
+    c.in_ok-svamon-8.ensures names_app c.names_command.ensures refl
+    ∙ ap (λ (a : App). with_subcommand a names_app.top) nine in
+    IfOk-weaker c.with_subcommand-8.result _ _ (λ r h. h ∙ ap (λ (a : App). with_subcommand a import_app.top) ten)
+    (c.with_subcommand-8.ensures import_app c.import_command.ensures refl)

@@ -93,3 +93,12 @@ returns-in-Some-names-default c =
     (sym c.subcommand.ensures.name ∙ ap (option_map (λ p. p.0.now)) arm.is ∙ ap (λ (t : List ℕ). Some t) arm.is-names)
     (sym c.subcommand.ensures.rows ∙ ap (option_map (λ p. rows_of (found_of p.1.now))) arm.is))
     c.names_request.ensures
+
+pub returns-in-Some-import-default : goal.returns-in-Some-import-default
+returns-in-Some-import-default c =
+    let arm = c.in-Some-import-default in
+    IfOk-weaker c.import_request.result _ _
+    (entered c.args.matches.now (codes "import") (rows_of (found_of arm.options.now))
+    (sym c.subcommand.ensures.name ∙ ap (option_map (λ p. p.0.now)) arm.is ∙ ap (λ (t : List ℕ). Some t) arm.is-import)
+    (sym c.subcommand.ensures.rows ∙ ap (option_map (λ p. rows_of (found_of p.1.now))) arm.is))
+    c.import_request.ensures

@@ -1,0 +1,48 @@
+-- What becomes of a team's assertions.
+use Rattle.std.specs.Prelude.{◌≡◌, ℕ, List, [], map, true, false, Bool, not}
+use Rattle.std.specs.Prelude.{if◌then◌else◌}
+use Rattle.std.specs.List.{list_any}
+use Rattle.import_tokens.specs.declared.token.Token.{Token}
+use Rattle.import_tokens.specs.Readings.{Reads}
+use Rattle.import_scopes.specs.Words.{word_places}
+use Rattle.import_files.specs.declared.outcome.Outcome.{Outcome}
+use Rattle.import_files.specs.declared.outcome.Fate.{Fate}
+use Rattle.import_files.specs.declared.outcome.Fate.TheVariants as fates
+
+-- each token of the text that begins an assertion has one outcome, in their order
+pub record AreOfAll (text : List ℕ) (outcomes : List Outcome) : Type 0 where
+  pub tokens : List Token
+  pub read : Reads text 0 tokens
+  pub each : map (λ o. o.word) outcomes ≡ word_places 0 tokens
+
+-- what is written of an assertion
+abbrev pub text_in : Fate → List ℕ
+text_in (fates.Written text) = text.items
+text_in fates.Left = []
+text_in (fates.Refused cause) = []
+text_in (fates.Unknown missing) = []
+text_in (fates.OtherClock clock) = []
+
+abbrev pub written_text : Outcome → List ℕ
+written_text outcome = text_in outcome.fate
+
+abbrev pub is_written : Fate → Bool
+is_written (fates.Written text) = true
+is_written fates.Left = false
+is_written (fates.Refused cause) = false
+is_written (fates.Unknown missing) = false
+is_written (fates.OtherClock clock) = false
+
+abbrev pub is_refused : Fate → Bool
+is_refused (fates.Written text) = false
+is_refused fates.Left = false
+is_refused (fates.Refused cause) = true
+is_refused (fates.Unknown missing) = true
+is_refused (fates.OtherClock clock) = true
+
+-- 2 where none is written, else 1 where some are refused, else 0
+abbrev pub status_of : List Outcome → ℕ
+status_of outcomes =
+    if not (list_any (λ one. is_written one.fate) outcomes) then 2
+    else if list_any (λ one. is_refused one.fate) outcomes then 1
+    else 0

@@ -1,0 +1,216 @@
+//! What is told of the assertions of files.
+
+use crate::outcome::{Fate, Imported, Missing, Outcome, Remark};
+use import_scopes::NoteKind;
+use source_files::{Part, spot_of};
+use std::alloc::{AllocError, Global};
+
+/// What is told at a byte of the text.
+#[derive(Drop)]
+struct Message {
+    at: usize,
+    text: String,
+}
+
+/// A line and a column of a part of the text, and the byte of that.
+#[derive(Clone, Copy)]
+struct Cursor {
+    part: usize,
+    at: usize,
+    line: u64,
+    column: u64,
+}
+
+/// What is told of an assertion beside what becomes of it.
+fn push_notes(
+    alloc: Global,
+    messages: &mut Vec<Message>,
+    bound: Option<u8>,
+    outcome: &Outcome,
+) -> Result<(), AllocError> {
+    let label = outcome.label.as_str();
+    if outcome.label.as_str() != outcome.name.as_str() {
+        let name = outcome.name.as_str();
+        messages.push(Message {
+            at: outcome.at,
+            text: format!(in alloc; "note {label} Renamed: {name}")?,
+        })?;
+    }
+    if outcome.marks.vacuity {
+        messages.push(Message {
+            at: outcome.at,
+            text: format!(in alloc;
+                "note {label} Vacuity: holds and vacuous are counted otherwise"
+            )?,
+        })?;
+    }
+    if let (true, Some(bound)) = (outcome.marks.bounded, bound) {
+        messages.push(Message {
+            at: outcome.at,
+            text: format!(in alloc; "note {label} Bounded: open ends stop after {bound} clocks")?,
+        })?;
+    }
+    Ok(())
+}
+
+/// What is told of a name that the dump lacks.
+fn unknown_message(alloc: Global, label: &str, missing: &Missing) -> Result<Message, AllocError> {
+    let name = missing.name.as_str();
+    let text = match &missing.nearest {
+        Some(near) => {
+            let near = near.as_str();
+            format!(in alloc; "refused {label} UnknownName: {name}; did you mean {near}?")?
+        }
+        None => format!(in alloc; "refused {label} UnknownName: the dump has no {name}")?,
+    };
+    Ok(Message {
+        at: missing.at,
+        text,
+    })
+}
+
+/// What is told of what becomes of an assertion, if something is.
+fn fate_message(alloc: Global, outcome: &Outcome) -> Result<Option<Message>, AllocError> {
+    let label = outcome.label.as_str();
+    match &outcome.fate {
+        Fate::Written(_) => Ok(None),
+        Fate::Left => Ok(Some(Message {
+            at: outcome.at,
+            text: format!(in alloc; "note {label} Cover: a cover decides nothing")?,
+        })),
+        Fate::Refused(cause) => {
+            let (code, hint) = (cause.code, cause.hint);
+            Ok(Some(Message {
+                at: cause.at,
+                text: format!(in alloc; "refused {label} {code}: {hint}")?,
+            }))
+        }
+        Fate::Unknown(missing) => Ok(Some(unknown_message(alloc, label, missing)?)),
+        Fate::OtherClock(clock) => Ok(Some(Message {
+            at: outcome.at,
+            text: format!(in alloc; "refused {label} OtherClock: run again with --clock {clock}")?,
+        })),
+    }
+}
+
+/// What is told of something that is no assertion; covers are told with their labels.
+fn remark_message(alloc: Global, remark: &Remark) -> Result<Option<Message>, AllocError> {
+    let text = remark.text.as_str();
+    let text = match remark.kind {
+        NoteKind::Cover => return Ok(None),
+        NoteKind::Bind => format!(in alloc; "note file Bind: it is left out: give --scope")?,
+        NoteKind::UnknownMacro => {
+            format!(in alloc; "note {text} UnknownMacro: it is left out, and may hide assertions")?
+        }
+        NoteKind::Include => {
+            format!(in alloc; "note file Include: it is not read: give the file before this one")?
+        }
+    };
+    Ok(Some(Message {
+        at: remark.at,
+        text,
+    }))
+}
+
+/// All messages, in the order of their places.
+fn all_messages(
+    alloc: Global,
+    bound: Option<u8>,
+    imported: &Imported,
+) -> Result<Vec<Message>, AllocError> {
+    let mut messages = Vec::new(alloc);
+    for outcome in imported.outcomes.as_slice() {
+        push_notes(alloc, &mut messages, bound, outcome)?;
+        if let Some(message) = fate_message(alloc, outcome)? {
+            messages.push(message)?;
+        }
+    }
+    for remark in imported.remarks.as_slice() {
+        if let Some(message) = remark_message(alloc, remark)? {
+            messages.push(message)?;
+        }
+    }
+    messages.sort_by_key(|message| message.at)?;
+    Ok(messages)
+}
+
+/// The front of a part.
+fn front_of(part: usize) -> Cursor {
+    Cursor {
+        part,
+        at: 0,
+        line: 1,
+        column: 1,
+    }
+}
+
+/// The cursor, some bytes further.
+fn moved(mut cursor: Cursor, bytes: &[u8]) -> Cursor {
+    for byte in bytes {
+        cursor.at = cursor.at.saturating_add(1);
+        cursor.column = cursor.column.saturating_add(1);
+        if *byte == b'\n' {
+            cursor.line = cursor.line.saturating_add(1);
+            cursor.column = 1;
+        }
+    }
+    cursor
+}
+
+/// The cursor at a byte of the text, which is not before it.
+fn cursor_at(parts: &[Part], cursor: Cursor, at: usize) -> Cursor {
+    let spot = spot_of(parts, at);
+    let from = if spot.part == cursor.part && cursor.at <= spot.at {
+        cursor
+    } else {
+        front_of(spot.part)
+    };
+    match parts.get(spot.part) {
+        Some(part) => {
+            let bytes = part.text.as_str().as_bytes();
+            moved(from, bytes.get(from.at..spot.at).unwrap_or(b""))
+        }
+        None => from,
+    }
+}
+
+/// Adds a line: the file, the line, the column, and what is told.
+fn push_line(
+    text: &mut String,
+    parts: &[Part],
+    cursor: Cursor,
+    message: &str,
+) -> Result<(), AllocError> {
+    if let Some(part) = parts.get(cursor.part) {
+        text.push_str(part.path.as_str())?;
+    }
+    let (line, column) = (cursor.line, cursor.column);
+    write!(text, ":{line}:{column}: {message}\n")?;
+    Ok(())
+}
+
+/// The lines that tell what is refused and noted, in the order of the files, each with its file,
+/// line and column, both from 1. A bound is the one that was read with.
+pub fn messages_of(
+    alloc: Global,
+    parts: &[Part],
+    bound: Option<u8>,
+    imported: &Imported,
+) -> Result<String, AllocError> {
+    let messages = all_messages(alloc, bound, imported)?;
+    let mut text = String::new(alloc);
+    let mut cursor = front_of(0);
+    for message in messages.as_slice() {
+        cursor = cursor_at(parts, cursor, message.at);
+        push_line(&mut text, parts, cursor, message.text.as_str())?;
+    }
+    Ok(text)
+}
+
+/// The line that tells of a comment without an end, which begins with a byte of the text.
+pub fn unclosed_line(alloc: Global, parts: &[Part], at: usize) -> Result<String, AllocError> {
+    let mut text = String::new(alloc);
+    let message = "refused file UnclosedComment: /* has no */";
+    push_line(&mut text, parts, cursor_at(parts, front_of(0), at), message)?;
+    Ok(text)
+}

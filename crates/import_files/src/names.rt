@@ -1,0 +1,57 @@
+//! Names that a dump lacks.
+
+use crate::outcome::Missing;
+use crate::reading::Reading;
+use import_opening::{Parts, Value};
+use import_terms::{Terms, known_signal};
+use linting::nearest;
+use std::alloc::{AllocError, Global};
+
+/// How many characters of a name may be wrong.
+fn most_edits(name: &str) -> u8 {
+    if name.len() < 8 { 1 } else { 2 }
+}
+
+/// What is told of a name that the dump lacks.
+fn missing_name(
+    alloc: Global,
+    reading: &Reading<'_>,
+    path: &[u8],
+    at: usize,
+) -> Result<Missing, AllocError> {
+    let name = match str::from_utf8(path) {
+        Ok(name) => String::from_str(alloc, name)?,
+        Err(_) => String::new(alloc),
+    };
+    let most = most_edits(name.as_str());
+    let nearest = match nearest(alloc, most, name.as_str(), reading.names)? {
+        Some(place) => match reading.names.get(place) {
+            Some(other) => Some(String::from_str(alloc, other.as_str())?),
+            None => None,
+        },
+        None => None,
+    };
+    Ok(Missing { name, nearest, at })
+}
+
+/// The first signal of an opening that the dump lacks; none where no dump is given.
+pub(crate) fn first_missing<'t>(
+    alloc: Global,
+    parts: &Parts<'t>,
+    reading: &Reading<'_>,
+) -> Result<Option<Missing>, AllocError> {
+    if reading.widths.is_empty() {
+        return Ok(None);
+    }
+    let terms = Terms::new(alloc, parts, reading.scope, reading.widths);
+    for node in parts.values.as_slice() {
+        if let Value::Signal(path) = node.value {
+            let mut text = Vec::new(alloc);
+            terms.push_path(&mut text, path)?;
+            if known_signal(reading.widths, text.as_slice()).is_none() {
+                return Ok(Some(missing_name(alloc, reading, text.as_slice(), node.at)?));
+            }
+        }
+    }
+    Ok(None)
+}

@@ -1,0 +1,164 @@
+//! All assertions of a text.
+
+ghost use Rattle.std.specs.Prelude.{◌≡◌, IfOk, map, vec_len};
+ghost use Rattle.import_files.specs.Imported.{AreOfAll};
+
+use crate::fault::ImportFault;
+use crate::heads::{byte_of, called, label_before};
+use crate::hints::hint_of;
+use crate::importer::{Importer, Told, unwritten};
+use crate::labels::Labels;
+use crate::outcome::{Cause, Fate, Imported, Outcome, Remark};
+use crate::reading::Reading;
+use import_scopes::{File, Status};
+use import_tokens::{Expansions, Macros, Token};
+use std::alloc::{AllocError, Global};
+
+/// Macros as the command line defines them: a name, or a name, `=` and its text.
+fn macros_of<'a>(alloc: Global, defines: &'a [String]) -> Result<Macros<'a>, AllocError> {
+    let mut macros = Macros::new(alloc);
+    for define in defines {
+        let bytes = define.as_str().as_bytes();
+        let mark = bytes
+            .iter()
+            .position(|byte| *byte == b'=')
+            .unwrap_or(bytes.len());
+        let name = bytes.get(..mark).unwrap_or(bytes);
+        let body = bytes.get(mark.saturating_add(1)..).unwrap_or(b"");
+        macros.define(name, body)?;
+    }
+    Ok(macros)
+}
+
+/// What becomes of an assertion.
+fn told_of<'t>(
+    importer: &mut Importer<'_, 't, '_>,
+    file: &File<'t>,
+    status: Status,
+    name: &str,
+    at: usize,
+) -> Result<Told, AllocError> {
+    let fate = match status {
+        Status::Read(id) => match file.assertions.get(id.0) {
+            Some(assertion) => return importer.told(*assertion, name),
+            None => Fate::Left,
+        },
+        Status::Covers => Fate::Left,
+        Status::Refused(refusal) => Fate::Refused(Cause {
+            code: refusal.code(),
+            hint: hint_of(refusal),
+            at,
+        }),
+    };
+    Ok(unwritten(fate))
+}
+
+/// The assertion whose word stands at a place.
+fn outcome_of<'t>(
+    alloc: Global,
+    tokens: &'t [Token<'t>],
+    importer: &mut Importer<'_, 't, '_>,
+    file: &File<'t>,
+    labels: &mut Labels,
+    word: usize,
+    status: Status,
+    number: usize,
+) -> Result<Outcome, AllocError>
+    ensures { IfOk result (λ outcome. outcome.word ≡ word) }
+{
+    let token = label_before(tokens, word);
+    let label = called(alloc, token, number)?;
+    let at = match token {
+        Some(token) => token.at,
+        None => byte_of(tokens, word),
+    };
+    let name = match status {
+        Status::Covers => String::from_str(alloc, label.as_str())?,
+        _ => labels.take(alloc, label.as_str())?,
+    };
+    let told = told_of(importer, file, status, name.as_str(), byte_of(tokens, word))?;
+    Ok(Outcome {
+        word,
+        at,
+        label,
+        name,
+        fate: told.fate,
+        marks: told.marks,
+    })
+}
+
+/// All assertions, in their order; a `cover` has no number.
+fn outcomes_of<'t>(
+    alloc: Global,
+    tokens: &'t [Token<'t>],
+    file: &File<'t>,
+    reading: &Reading<'_>,
+) -> Result<Vec<Outcome>, AllocError>
+    requires { vec_len file.now.statuses ≡ vec_len file.now.words }
+    ensures { IfOk result (λ all. map (λ one. one.word) all.items ≡ file.now.words.items) }
+{
+    let mut importer = Importer::new(alloc, file, *reading)?;
+    let mut labels = Labels::new(alloc);
+    let mut outcomes = Vec::new(alloc);
+    let mut number = 1usize;
+    for place in 0..file.words.len() {
+        let word = file.words[place];
+        let status = file.statuses[place];
+        let outcome = outcome_of(
+            alloc,
+            tokens,
+            &mut importer,
+            file,
+            &mut labels,
+            word,
+            status,
+            number,
+        )?;
+        outcomes.push(outcome)?;
+        if !matches!(status, Status::Covers) {
+            number = number.saturating_add(1);
+        }
+    }
+    Ok(outcomes)
+}
+
+/// What is told beside the assertions.
+fn remarks_of(alloc: Global, file: &File<'_>) -> Result<Vec<Remark>, AllocError> {
+    let mut remarks = Vec::new(alloc);
+    for note in file.notes.as_slice() {
+        let text = match str::from_utf8(note.text) {
+            Ok(text) => String::from_str(alloc, text)?,
+            Err(_) => String::new(alloc),
+        };
+        remarks.push(Remark {
+            kind: note.kind,
+            text,
+            at: note.at,
+        })?;
+    }
+    Ok(remarks)
+}
+
+/// The assertions of a text, with macros that are defined before it, each a name and after a `=`
+/// its text.
+///
+/// # Errors
+///
+/// A comment without an end, with its byte, and want of memory.
+pub fn imported(
+    alloc: Global,
+    text: &str,
+    defines: &[String],
+    reading: &Reading<'_>,
+) -> Result<Imported, ImportFault>
+    // Each word of the text that begins an assertion has one outcome, in their order.
+    ensures each { IfOk result (λ all. AreOfAll text.now all.outcomes.items) }
+{
+    let mut macros = macros_of(alloc, defines)?;
+    let expansions = Expansions::of(alloc, text.as_bytes(), &mut macros)?;
+    let tokens = expansions.tokens(alloc)?;
+    let file = File::of(alloc, tokens.as_slice())?;
+    let outcomes = outcomes_of(alloc, tokens.as_slice(), &file, reading)?;
+    let remarks = remarks_of(alloc, &file)?;
+    Ok(Imported { outcomes, remarks })
+}

@@ -1,0 +1,87 @@
+//! Why an assertion is not written.
+
+ghost use Rattle.std.specs.Prelude.{◌≡◌};
+ghost use Rattle.import_files.specs.declared.stop.Stop.TheVariants.{Memory};
+
+use crate::hints::{hint_of, lowering_hint, rewriting_hint};
+use crate::outcome::Cause;
+use import_opening::Refused;
+use import_properties::NotLowered;
+use import_spelling::Refused as NotSpelled;
+use std::alloc::{AllocError, AllocFailed};
+
+/// Why an assertion is not written: it is refused, or memory ran out.
+#[derive(Clone, Copy)]
+pub(crate) enum Stop {
+    Refused(Cause),
+    Memory,
+}
+
+impl From<AllocError> for Stop {
+    ghost from_gives = { λ _ e. e ≡ Memory };
+
+    fn from(_error: AllocError) -> Stop {
+        Stop::Memory
+    }
+}
+
+impl<T: Drop> From<AllocFailed<T>> for Stop {
+    ghost from_gives = { λ _ e. e ≡ Memory };
+
+    fn from(_error: AllocFailed<T>) -> Stop {
+        Stop::Memory
+    }
+}
+
+impl From<Refused> for Stop {
+    fn from(refused: Refused) -> Stop {
+        match refused.refusal {
+            import_trees::Refusal::Memory => Stop::Memory,
+            refusal => Stop::Refused(Cause {
+                code: refusal.code(),
+                hint: hint_of(refusal),
+                at: refused.at,
+            }),
+        }
+    }
+}
+
+impl From<NotLowered> for Stop {
+    fn from(refused: NotLowered) -> Stop {
+        match refused.reason {
+            import_properties::Reason::Memory => Stop::Memory,
+            reason => Stop::Refused(Cause {
+                code: reason.code(),
+                hint: match refused.hint {
+                    Some(hint) => hint.text(),
+                    None => lowering_hint(reason),
+                },
+                at: refused.at,
+            }),
+        }
+    }
+}
+
+impl From<NotSpelled> for Stop {
+    fn from(refused: NotSpelled) -> Stop {
+        match refused.reason {
+            import_spelling::Reason::Known(import_trees::Refusal::Memory) => Stop::Memory,
+            reason => Stop::Refused(Cause {
+                code: reason.code(),
+                hint: reason.hint(),
+                at: refused.at,
+            }),
+        }
+    }
+}
+
+/// Why a property has no rewriting, told at a byte.
+pub(crate) fn not_rewritten(refusal: import_rewriting::Refusal, at: usize) -> Stop {
+    match refusal {
+        import_rewriting::Refusal::Memory => Stop::Memory,
+        refusal => {
+            let (code, hint) = rewriting_hint(refusal);
+            Stop::Refused(Cause { code, hint, at })
+        }
+    }
+}

@@ -1,0 +1,76 @@
+//! What is written of the assertions of files, and the status of that.
+
+ghost use Rattle.std.specs.Prelude.{◌≡◌, IfOk, flat_map};
+ghost use Rattle.std.specs.List.{list_any};
+ghost use Rattle.import_files.specs.Imported.{text_in, written_text, status_of};
+ghost use Rattle.import_files.specs.Imported.{is_written, is_refused};
+
+use crate::outcome::{Fate, Imported, Outcome};
+use std::alloc::{AllocError, Global};
+
+/// What is written of an assertion.
+fn written_of(fate: &Fate) -> &[u8]
+    ensures { result.now ≡ text_in fate.now }
+{
+    match fate {
+        Fate::Written(text) => text.as_slice(),
+        _ => b"",
+    }
+}
+
+/// The text of all assertions that are written, in their order.
+pub fn text_of(alloc: Global, imported: &Imported) -> Result<Vec<u8>, AllocError>
+    ensures { IfOk result (λ text.
+        text.items ≡ flat_map written_text imported.now.outcomes.items) }
+{
+    let mut text = Vec::new(alloc);
+    for outcome in imported.outcomes.as_slice() {
+        text.extend_from_slice(written_of(&outcome.fate))?;
+    }
+    Ok(text)
+}
+
+/// Whether it is written.
+fn is_written(fate: &Fate) -> bool
+    ensures { result ≡ is_written fate.now }
+{
+    matches!(fate, Fate::Written(_))
+}
+
+/// Whether it is refused.
+fn is_refused(fate: &Fate) -> bool
+    ensures { result ≡ is_refused fate.now }
+{
+    matches!(
+        fate,
+        Fate::Refused(_) | Fate::Unknown(_) | Fate::OtherClock(_)
+    )
+}
+
+/// Whether one is written.
+fn has_written(outcomes: &[Outcome]) -> bool
+    ensures { result ≡ list_any (λ one. is_written one.fate) outcomes.now }
+{
+    outcomes.iter().any(|one| is_written(&one.fate))
+}
+
+/// Whether one is refused.
+fn has_refused(outcomes: &[Outcome]) -> bool
+    ensures { result ≡ list_any (λ one. is_refused one.fate) outcomes.now }
+{
+    outcomes.iter().any(|one| is_refused(&one.fate))
+}
+
+/// The status of an import: 0 where none is refused, 1 where some are and others are written, 2
+/// where none is written.
+pub fn status_of(imported: &Imported) -> u8
+    ensures { result ≡ status_of imported.now.outcomes.items }
+{
+    if !has_written(imported.outcomes.as_slice()) {
+        return 2;
+    }
+    if has_refused(imported.outcomes.as_slice()) {
+        return 1;
+    }
+    0
+}

@@ -1,0 +1,66 @@
+//! Whether what is written is vacuous where the property is (IEEE 1800-2017, 16.14.8).
+
+use import_meaning::{Condition, Property, Sequence};
+use import_rewriting::Rewriting;
+
+/// Whether no part of a property is vacuous where it holds.
+fn is_plain(property: &Property) -> bool {
+    match property {
+        Property::Sequence(_) => true,
+        Property::Not(body)
+        | Property::Next(_, body)
+        | Property::Always(_, _, body)
+        | Property::Eventually(_, _, body)
+        | Property::FollowedBy(_, body)
+        | Property::NextFollowedBy(_, body) => is_plain(body),
+        Property::And(first, second)
+        | Property::Or(first, second)
+        | Property::Iff(first, second)
+        | Property::IfElse(_, first, second)
+        | Property::Until(first, second)
+        | Property::UntilWith(first, second) => is_plain(first) && is_plain(second),
+        Property::Implication(_, _)
+        | Property::NextImplication(_, _)
+        | Property::If(_, _)
+        | Property::Implies(_, _) => false,
+    }
+}
+
+/// Whether a property is an implication.
+fn implies(property: &Property) -> bool {
+    matches!(property, Property::Implication(_, _))
+}
+
+/// Whether a property is vacuous exactly where its antecedents, at its front, have no end.
+fn is_fronted(property: &Property) -> bool {
+    match property {
+        Property::Implication(_, body)
+        | Property::NextImplication(_, body)
+        | Property::If(_, body) => is_fronted(body),
+        Property::Next(_, body) | Property::Always(_, _, body) if implies(body) => is_fronted(body),
+        _ => is_plain(property),
+    }
+}
+
+/// Whether a sequence is the constant 0.
+fn is_zero(sequence: &Sequence) -> bool {
+    matches!(sequence, Sequence::Boolean(Condition::Zero))
+}
+
+/// Whether the body after all antecedents at the front of a property is the constant 0.
+fn ends_in_zero(property: &Property) -> bool {
+    match property {
+        Property::Implication(_, body)
+        | Property::NextImplication(_, body)
+        | Property::If(_, body)
+        | Property::Next(_, body)
+        | Property::Always(_, _, body) => ends_in_zero(body),
+        Property::Sequence(sequence) => is_zero(sequence),
+        _ => false,
+    }
+}
+
+/// Whether what is written of a property holds vacuously exactly where the property does.
+pub(crate) fn keeps_vacuity(property: &Property, rewriting: &Rewriting) -> bool {
+    is_fronted(property) && (ends_in_zero(property) || !is_zero(&rewriting.consequent))
+}

@@ -1,0 +1,331 @@
+#!/usr/bin/env python3
+"""Compares svamon with a model of properties: scripts/random/random_import.py SVAMON [FILES [SEED]]
+
+It draws files of assertions in SystemVerilog, of all temporal forms, with declarations, arguments, defaults, parameters
+and macros, and dumps of four signals. Each file is imported, and what is written is checked over the dump. Of each
+assertion that is written the failed attempts with their clocks, and how many are disabled, open, and neither of these,
+must be those of property_model.py, which knows the trees that the texts were made of.
+"""
+import collections
+import pathlib
+import random
+import re
+import subprocess
+import sys
+
+sys.path.insert(0, str(pathlib.Path(__file__).resolve().parents[1] / 'models'))
+from property_model import Model  # noqa: E402
+
+draw = random.Random()
+CLOCKS, BOUND, SECONDS = 12, 30, 60
+SIGNALS = 'abcd'
+
+
+def boolean(depth=2):
+    if depth == 0 or draw.randrange(3):
+        return ('signal', draw.choice(SIGNALS))
+    kind = draw.choice(['no', 'no', 'both', 'any', 'past', 'constant'])
+    if kind == 'constant':
+        return ('constant', draw.randrange(2))
+    if kind == 'past':
+        return ('past', draw.randint(1, 3), boolean(depth - 1))
+    return (kind,) + tuple(boolean(depth - 1) for _ in range(1 if kind == 'no' else 2))
+
+
+def counts(least, most):
+    low = draw.randint(least, most)
+    return low, draw.randint(low, most)
+
+
+def sequence(depth, open_ended=True):
+    if depth == 0 or draw.randrange(4) == 0:
+        return ('boolean', boolean())
+    part = lambda: sequence(depth - 1, open_ended)
+    kind = draw.choice(['delay', 'delay', 'lead', 'repeat', 'repeat', 'or', 'and', 'throughout', 'intersect', 'within',
+                        'goto', 'nonconsecutive'])
+    if kind == 'delay':
+        low, high = counts(0, 3)
+        return ('delay', part(), low, None if open_ended and draw.randrange(12) == 0 else high, part())
+    if kind == 'lead':
+        return ('lead', *counts(0, 3), part())
+    if kind == 'repeat':
+        low, high = counts(0, 3)
+        return ('repeat', part(), low, None if open_ended and draw.randrange(12) == 0 else max(high, 1))
+    if kind in ('goto', 'nonconsecutive'):
+        return (kind, boolean(1), *counts(1, 2)) if open_ended else part()
+    if kind == 'throughout':
+        return ('throughout', boolean(1), part())
+    return (kind, part(), part())
+
+
+def tree(depth):
+    if depth == 0 or draw.randrange(5) == 0:
+        return ('sequence', sequence(2))
+    part = lambda: tree(depth - 1)
+    kind = draw.choice(['implication', 'implication', 'next_implication', 'not', 'and', 'or', 'next', 'always',
+                        'eventually', 'until', 'until_with', 'if', 'if_else', 'implies', 'iff', 'followed',
+                        'next_followed'])
+    if kind in ('implication', 'next_implication', 'followed', 'next_followed'):
+        first = ('first', sequence(1)) if draw.randrange(12) == 0 else sequence(2)
+        return (kind, first, part())
+    if kind == 'next':
+        return (kind, draw.randint(0, 3), part())
+    if kind == 'always':
+        return (kind, *counts(0, 3), part())
+    if kind == 'eventually':
+        return (kind, 0, None, part()) if draw.randrange(4) == 0 else (kind, *counts(0, 3), part())
+    if kind in ('until', 'until_with'):
+        side = lambda: ('sequence', ('boolean', boolean())) if draw.randrange(6) else part()
+        return (kind, side(), side())
+    if kind in ('if', 'if_else'):
+        return (kind, boolean(), *(part() for _ in range(1 if kind == 'if' else 2)))
+    return (kind,) + tuple(part() for _ in range(1 if kind == 'not' else 2))
+
+
+class Writer:
+    """Texts of trees. Some parts are written as uses of declarations, which it keeps."""
+
+    def __init__(self):
+        self.declared, self.names = [], {}
+
+    def boolean(self, one):
+        if one in self.names:
+            return self.names[one]
+        kind = one[0]
+        if kind == 'signal':
+            return one[1]
+        if kind == 'constant':
+            return f"1'b{one[1]}"
+        if kind == 'no':
+            return draw.choice(['!%s', '~%s']) % self.boxed(one[1])
+        if kind == 'past':
+            return f'$past({self.boolean(one[2])}{"" if one[1] == 1 else ", " + str(one[1])})'
+        mark = draw.choice(['&&', '&']) if kind == 'both' else draw.choice(['||', '|'])
+        return f'{self.boxed(one[1])} {mark} {self.boxed(one[2])}'
+
+    def boxed(self, one):
+        text = self.boolean(one)
+        return text if re.fullmatch(r"[\w']+|\$past\(\w+\)", text) else f'({text})'
+
+    def span(self, least, most):
+        return f'{least}' if least == most else f'[{least}:{"$" if most is None else most}]'
+
+    def gap(self, least, most):
+        if most is None and least < 2 and draw.randrange(2):
+            return '##[*]' if least == 0 else '##[+]'
+        return '##' + self.span(least, most)
+
+    def count(self, sign, least, most):
+        if sign == '*' and most is None and least < 2 and draw.randrange(2):
+            return '[*]' if least == 0 else '[+]'
+        return f'[{sign}{self.span(least, most).strip("[]")}]'
+
+    def part(self, one):
+        return f'({self.sequence(one)})' if one[0] != 'boolean' else self.boxed(one[1])
+
+    def sequence(self, one):
+        kind = one[0]
+        if kind == 'boolean':
+            return self.boolean(one[1])
+        if kind == 'delay':
+            return f'{self.part(one[1])} {self.gap(one[2], one[3])} {self.part(one[4])}'
+        if kind == 'lead':
+            return f'{self.gap(one[1], one[2])} {self.part(one[3])}'
+        if kind == 'repeat':
+            return self.part(one[1]) + self.count('*', one[2], one[3])
+        if kind in ('goto', 'nonconsecutive'):
+            return self.boxed(one[1]) + self.count('->' if kind == 'goto' else '=', one[2], one[3])
+        if kind == 'throughout':
+            return f'{self.boxed(one[1])} throughout {self.part(one[2])}'
+        if kind == 'first':
+            return f'first_match({self.sequence(one[1])})'
+        return f'{self.part(one[1])} {kind} {self.part(one[2])}'
+
+    def declare(self, word, text, formals):
+        name = f'{word[0]}{len(self.declared)}'
+        heading = f'({", ".join(formals)})' if formals else ''
+        self.declared.append(f'{word} {name}{heading}; {text}{draw.choice([";", ";", ""]) } end{word}')
+        return name
+
+    def instance(self, word, one, made):
+        """A use of a declaration that says a part; sometimes a boolean in it is an argument."""
+        if self.names:
+            return made(one)
+        inner = booleans_of(one)
+        if not inner or draw.randrange(2):
+            return self.declare(word, made(one), [])
+        formal = draw.choice(inner)
+        actual = self.boolean(formal)
+        self.names = {formal: 'x'}
+        inside = made(one)
+        self.names = {}
+        return self.use(word, inside, actual)
+
+    def use(self, word, inside, actual):
+        name = self.declare(word, inside, ['x'])
+        return f'{name}(.x({actual}))' if draw.randrange(3) == 0 else f'{name}({actual})'
+
+    def side(self, one):
+        if one[0] == 'sequence' and draw.randrange(8) == 0:
+            return '(' + self.instance('sequence', one[1], self.sequence) + ')'
+        if draw.randrange(10) == 0:
+            return '(' + self.instance('property', one, self.property) + ')'
+        return f'({self.property(one)})'
+
+    def property(self, one):
+        kind = one[0]
+        if kind == 'sequence':
+            text = self.sequence(one[1])
+            return draw.choice([text, text, text, f'strong({text})', f'weak({text})'])
+        strength = draw.choice(['', 's_'])
+        if kind == 'not':
+            return f'not {self.side(one[1])}'
+        if kind == 'next':
+            return f'{strength}nexttime{"" if one[1] == 1 else f"[{one[1]}]"} {self.side(one[2])}'
+        if kind == 'always':
+            return f'{strength}always [{one[1]}:{one[2]}] {self.side(one[3])}'
+        if kind == 'eventually':
+            if one[2] is None:
+                return f's_eventually {self.side(one[3])}'
+            return f'{strength}eventually [{one[1]}:{one[2]}] {self.side(one[3])}'
+        if kind in ('until', 'until_with'):
+            return f'{self.side(one[1])} {strength}{kind} {self.side(one[2])}'
+        if kind == 'if':
+            return f'if ({self.boolean(one[1])}) {self.side(one[2])}'
+        if kind == 'if_else':
+            return f'if ({self.boolean(one[1])}) {self.side(one[2])} else {self.side(one[3])}'
+        signs = {'implication': '|->', 'next_implication': '|=>', 'followed': '#-#', 'next_followed': '#=#'}
+        if kind in signs:
+            return f'{self.part(one[1])} {signs[kind]} {self.side(one[2])}'
+        return f'{self.side(one[1])} {kind} {self.side(one[2])}'
+
+
+def booleans_of(one):
+    """The booleans of a tree, as they stand in it."""
+    found = []
+    for part in one[1:]:
+        if isinstance(part, tuple):
+            found += [part] if part[0] in ('signal', 'no', 'both', 'any', 'past') else booleans_of(part)
+    return found
+
+
+def assertion(place, writer):
+    body = tree(draw.choice([0, 1, 1, 2, 2, 3]))
+    disable = boolean(1) if draw.randrange(5) == 0 else None
+    text = writer.property(body)
+    words = f'disable iff ({writer.boolean(disable)}) ' if disable else ''
+    clock = draw.choice(['', '@(posedge clk) '])
+    label = f'r{place}' if draw.randrange(4) else None
+    action = draw.choice(['', '', ' else $error("broken")', ' begin $display("kept"); end'])
+    head = f'{label}: ' if label else ''
+    line = f'{head}{draw.choice(["assert", "assume"])} property ({clock}{words}{text}){action};'
+    return label or f'assert_{place + 1}', body, disable, line
+
+
+def file_of(count):
+    """A file, and its assertions: label, tree, what disables."""
+    writer = Writer()
+    made = [assertion(place, writer) for place in range(count)]
+    default = boolean(1) if draw.randrange(3) == 0 else None
+    lines = [line for *_, line in made]
+    others = ['default clocking @(posedge clk); endclocking'] + writer.declared
+    if default:
+        others.append(f'default disable iff ({writer.boolean(default)});')
+    for other in others:
+        lines.insert(draw.randint(0, len(lines)), other)
+    if draw.randrange(2):
+        lines = ['module checks(input logic clk, a, b, c, d);'] + lines + ['endmodule']
+    return '\n'.join(lines) + '\n', [(name, body, disable or default) for name, body, disable, _ in made]
+
+
+def random_rows():
+    rows = []
+    for _ in range(CLOCKS):
+        stays = rows and draw.randrange(3) == 0
+        rows.append({name: rows[-1][name] if stays else draw.randrange(2) for name in SIGNALS})
+    return rows
+
+
+def dump_of(rows):
+    codes = dict(zip(SIGNALS, 'ABCD'))
+    text = '$timescale 1ns $end\n$scope module tb $end\n$var wire 1 ! clk $end\n'
+    text += ''.join(f'$var wire 1 {code} {name} $end\n' for name, code in codes.items())
+    text += '$upscope $end\n$enddefinitions $end\n#0\n0!\n'
+    for clock, row in enumerate(rows):
+        text += f'#{10 * clock + 2}\n' + ''.join(f'{row[name]}{code}\n' for name, code in codes.items())
+        text += f'#{10 * clock + 5}\n1!\n#{10 * clock + 10}\n0!\n'
+    return text
+
+
+def found_in(report):
+    """Of each monitor: failed attempts, and how many are disabled, open, and good."""
+    found = {}
+    for line in report.splitlines():
+        words = line.split()
+        if words[0] == 'monitor':
+            tally = dict(zip(words[2::2], map(int, words[3::2])))
+            found[words[1]] = [set(), tally['disabled'], tally['open'], tally['holds'] + tally['vacuous']]
+        if words[0] == 'fail':
+            found[words[1]][0].add((int(words[3]), int(words[5])))
+    return found
+
+
+def wanted_of(rows, body, disable):
+    model = Model(rows)
+    verdicts = [model.verdict(body, disable, start) for start in range(len(rows))]
+    fails = {(start, clock) for start, (kind, clock) in enumerate(verdicts) if kind == 'fails'}
+    return [fails] + [sum(1 for kind, _ in verdicts if kind == one) for one in ('disabled', 'open', 'good')]
+
+
+def ran(*words):
+    done = subprocess.run(words, capture_output=True, text=True, timeout=SECONDS)
+    return done.stdout, done.stderr, done.returncode
+
+
+def compared(program, text, taken, codes):
+    """What differs, and how many attempts were compared."""
+    rows = random_rows()
+    file, written, dump = (pathlib.Path('random_import.' + end) for end in ('sv', 'sva', 'vcd'))
+    file.write_text(text)
+    dump.write_text(dump_of(rows))
+    out, messages, status = ran(program, 'import', str(file), '--scope', 'tb', '--bound', str(BOUND))
+    refused = dict(re.findall(r'(?m)^\S+: refused (\S+) (\w+):', messages))
+    codes.update(refused.values())
+    if status != (2 if len(refused) == len(taken) else 1 if refused else 0):
+        return f'status {status}\n{messages}', 0
+    if status == 2:
+        return None, 0
+    written.write_text(out)
+    report, fault, status = ran(program, 'check', '--vcd', str(dump), '--sva', str(written))
+    if status > 1:
+        return f'check refuses: {fault}{out}', 0
+    found = found_in(report)
+    if sorted(found) != sorted(name for name, *_ in taken if name not in refused):
+        return f'written: {sorted(found)}, refused: {refused}', 0
+    for name, body, disable in taken:
+        if name in found and found[name] != (wanted := wanted_of(rows, body, disable)):
+            return f'{name}: {found[name]}, not {wanted}\n{body}\n{out}{messages}{dump_of(rows)}', 0
+    return None, len(found) * len(rows)
+
+
+def main():
+    if len(sys.argv) not in (2, 3, 4):
+        sys.exit(__doc__.splitlines()[0])
+    program, files, seed = sys.argv[1], *(int(word) for word in (sys.argv[2:] + ['200', '1'][len(sys.argv) - 2:]))
+    draw.seed(seed)
+    attempts, assertions, codes = 0, 0, collections.Counter()
+    for number in range(files):
+        text, taken = file_of(draw.randint(1, 8))
+        assertions += len(taken)
+        wrong, compared_now = compared(program, text, taken, codes)
+        attempts += compared_now
+        if wrong:
+            print(f'file {number} of seed {seed} differs: {wrong}\n{text}')
+            return 1
+    told = ', '.join(f'{count} {code}' for code, count in codes.most_common())
+    print(f'{files} files of seed {seed}, {assertions} assertions ({told} refused), {attempts} attempts: all the same')
+    return 0
+
+
+if __name__ == '__main__':
+    sys.exit(main())
