@@ -109,6 +109,8 @@ random: svamon answers_bytecode answers_verifier answers_machine
 	scripts/random/random_machine.py $(MACHINE) $(PROGRAMS) 100 $(SEED)
 	cd crates/svamon/out && ../../../scripts/random/random_judge.py ./svamon $(CASES) $(SEED)
 	cd crates/svamon/out && ../../../scripts/random/random_explain.py ./svamon $(CASES) $(SEED)
+	cd crates/svamon/out && ../../../scripts/random/random_import.py ./svamon $(CASES) $(SEED)
+	cd crates/svamon/out && ../../../scripts/random/mangled_files.py ./svamon $(CASES) $(SEED)
 	scripts/random/edge_ports.py crates/svamon/out/svamon
 	scripts/random/least_axi4.py crates/svamon/out/svamon
 	scripts/random/same_reports.py crates/svamon/out/svamon
