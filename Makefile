@@ -13,7 +13,7 @@ UNPROVED := Builds svamon without proof, with run-time checks: what you see is u
 BYTECODE := crates/answers_bytecode/out/answers_bytecode
 VERIFIER := crates/answers_verifier/out/answers_verifier
 MACHINE := crates/answers_machine/out/answers_machine
-CORE := crates/answers_workers/out/answers_workers
+CORE := crates/answers_workers_core/out/answers_workers_core
 REFUSING := scripts/tools/fail_alloc 3 crates/svamon/out/svamon
 PROGRAM := examples/fails_at_its_tick/program.svm
 FILES = --vcd examples/$(1)/dump.vcd --sva examples/$(1)/assertion.sva
@@ -66,7 +66,7 @@ svamon:
 	cd crates/svamon && rm -f out/svamon && { rt run -- help; test -x out/svamon; }
 
 # Their runs by rt have no cases, and fail.
-answers_bytecode answers_verifier answers_machine answers_workers:
+answers_bytecode answers_verifier answers_machine answers_workers_core:
 	cd crates/$@ && rm -f out/$@ && { rt run > /dev/null 2>&1; test -x out/$@; }
 
 bench: svamon answers_bytecode answers_verifier answers_machine
@@ -87,7 +87,7 @@ bench: svamon answers_bytecode answers_verifier answers_machine
 	bench/core
 	bench/threads
 
-allocations: svamon answers_bytecode answers_verifier answers_workers
+allocations: svamon answers_bytecode answers_verifier answers_workers_core
 	scripts/tools/bytecode_memory.py $(BYTECODE)
 	scripts/tools/verifier_memory $(VERIFIER)
 	$(REFUSING) check $(call FILES,fails_at_its_tick) --workers 2
@@ -100,7 +100,7 @@ allocations: svamon answers_bytecode answers_verifier answers_workers
 	$(REFUSING) verify $(PROGRAM)
 	$(REFUSING) upgrade $(PROGRAM) --out /dev/null
 	$(REFUSING) run --vcd examples/fails_at_its_tick/dump.vcd --code $(PROGRAM)
-	awk 'BEGIN { RS = "\001"; ORS = "" } NR == 3' crates/answers_workers/stdin > $(CORE).case
+	awk 'BEGIN { RS = "\001"; ORS = "" } NR == 3' crates/answers_workers_core/stdin > $(CORE).case
 	scripts/tools/fail_alloc -i $(CORE).case 1 $(CORE)
 
 random: svamon answers_bytecode answers_verifier answers_machine
@@ -121,4 +121,4 @@ soak: svamon
 	scripts/tools/soak crates/svamon/out/svamon $(SECONDS) $(SEED)
 
 .PHONY: help demo try test test-all edits install svamon bench allocations random soak
-.PHONY: answers_bytecode answers_verifier answers_machine answers_workers
+.PHONY: answers_bytecode answers_verifier answers_machine answers_workers_core

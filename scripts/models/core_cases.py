@@ -1,5 +1,5 @@
 #!/usr/bin/env python3
-"""Makes lists of steps for the program answers_workers with the answers of an independent core.
+"""Makes lists of steps for the program answers_workers_core with the answers of an independent core.
 
 `scripts/models/core_cases.py FOLDER` writes FOLDER/stdin and FOLDER/stdout. Between two cases in stdin byte 1
 stands, and in a case byte 2 between its four parts: a dump, whose clock is `clk`; the files of bytecode

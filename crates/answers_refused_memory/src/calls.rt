@@ -9,7 +9,7 @@ use signals::{Counted, CutWriter};
 use std::alloc::{AllocError, Global};
 use std::sync::Wait;
 use std::thread::Threads;
-use trials_bytecode::{PROGRAM, told};
+use tests_bytecode::{PROGRAM, told};
 use vcd_reader::{VcdFault, read_dump};
 use verdicts::{Report, write_report};
 use verifier::{Verified, verify};

@@ -15,7 +15,7 @@
 //! a path and a width a line, and prints how long that took (`bench/suites`).
 //!
 //! What is answered is said by the contracts of `types::check` and `judging::judge`; the
-//! definitions stand in `types/specs` (`Faults.antt`), `types_assertions/specs` (`Suites.antt`) and
+//! definitions stand in `types/specs` (`Faults.antt`), `types_suites/specs` (`Suites.antt`) and
 //! `assertions/specs` (`Verdicts.antt`).
 //!
 //! Not promised: which of several faults of one kind is told but the one at the lowest byte.

@@ -24,7 +24,7 @@ use Rattle.assertions.specs.declared.assertion.Assertion.{Assertion}
 use Rattle.assertions.specs.declared.signal.Signal.{Signal}
 use Rattle.assertions.specs.declared.suite.Suite.{Suite}
 use Rattle.parser_grammar.specs.Trees.{ItemForm}
-use Rattle.laws_assertions.specs.Laws.{SuitesFit}
+use Rattle.laws_suites.specs.Laws.{SuitesFit}
 use Rattle.cli.specs.Dumps.{width_named}
 use Rattle.vcd_reader.specs.declared.dump.Dump.{Dump}
 use Rattle.vcd_reader.specs.Variables.{Declared, variable_named, size_of}

@@ -41,11 +41,11 @@ use Rattle.assertions.specs.declared.suite.Suite.{Suite}
 use Rattle.cli.specs.Dumps.{width_named}
 use Rattle.types_names.specs.Columns.{columns_of, is_listed}
 use Rattle.types_names.specs.Asked.{asked}
-use Rattle.types_assertions.specs.declared.fault.TypeFault.{TypeFault}
-use Rattle.types_assertions.specs.declared.fault.TypeFault.TheVariants as types
-use Rattle.types_assertions.specs.Faults as faults
-use Rattle.types_assertions.specs.Faults.{IsFirst, IsFaultless}
-use Rattle.types_assertions.specs.Suites.{AreSignals, IsSuite}
+use Rattle.types_suites.specs.declared.fault.TypeFault.{TypeFault}
+use Rattle.types_suites.specs.declared.fault.TypeFault.TheVariants as types
+use Rattle.types_suites.specs.Faults as faults
+use Rattle.types_suites.specs.Faults.{IsFirst, IsFaultless}
+use Rattle.types_suites.specs.Suites.{AreSignals, IsSuite}
 use Rattle.compiled_reports.specs.declared.fault.LinesFault.{LinesFault}
 use Rattle.compiled_reports.specs.declared.fault.LinesFault.TheVariants.{Program}
 use Rattle.compiled_reports.specs.declared.fault.LinesFault.TheVariants as lines

@@ -11,9 +11,9 @@ use Rattle.assertions.specs.declared.suite.Suite.{Suite}
 use Rattle.parser.specs.declared.fault.ParseFault.{ParseFault}
 use Rattle.parser.specs.declared.fault.ParseFault.TheVariants as parsing
 use Rattle.parser.specs.Faults.{IsPlaced}
-use Rattle.types_assertions.specs.declared.fault.TypeFault.{TypeFault}
-use Rattle.types_assertions.specs.declared.fault.TypeFault.TheVariants as types
-use Rattle.types_assertions.specs.Faults.{IsFirst}
+use Rattle.types_suites.specs.declared.fault.TypeFault.{TypeFault}
+use Rattle.types_suites.specs.declared.fault.TypeFault.TheVariants as types
+use Rattle.types_suites.specs.Faults.{IsFirst}
 use Rattle.compiler.specs.declared.fault.CompileFault.{CompileFault}
 use Rattle.compiler.specs.declared.fault.CompileFault.TheVariants as compiles
 use Rattle.compiled_reports.specs.Faults.{HasNoProgram, HasBadCount}

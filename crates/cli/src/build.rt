@@ -13,7 +13,7 @@ use assertions::{Assertion, Suite};
 use bytecode_files::encode;
 use cli_faults::Fault;
 use compiler::compile;
-use laws_assertions::suite_law;
+use laws_suites::suite_law;
 use signals::Source;
 use std::alloc::Global;
 use vcd_reader::{Dump, read_dump};

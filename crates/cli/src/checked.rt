@@ -19,7 +19,7 @@ use assertions::Suite;
 use cli_faults::{Fault, written};
 use compiled_reports::{Gate, suite_report};
 use cycle_window::{Clocks, WindowSize};
-use laws_assertions::suite_law;
+use laws_suites::suite_law;
 use signals::{Sink, Source};
 use std::alloc::Global;
 use std::sync::Wait;

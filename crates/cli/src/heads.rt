@@ -3,9 +3,9 @@
 
 ghost use Rattle.std.specs.Prelude.{◌≡◌, IfOk, length};
 
+use diagnostics::place_of;
 use explained_reports::{Explanation, Standing};
 use lexer::Token;
-use linting::place_of;
 use parser::File;
 use parser_grammar::{AssertionTree, ItemTree};
 use source_files::{Origin, spot_in};

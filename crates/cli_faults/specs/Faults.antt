@@ -6,8 +6,8 @@ use Rattle.lexer.specs.declared.fault.LexFault.{LexFault}
 use Rattle.lexer.specs.declared.fault.LexFault.TheVariants as lexing
 use Rattle.parser.specs.declared.fault.ParseFault.{ParseFault}
 use Rattle.parser.specs.declared.fault.ParseFault.TheVariants as parsing
-use Rattle.types_assertions.specs.declared.fault.TypeFault.{TypeFault}
-use Rattle.types_assertions.specs.declared.fault.TypeFault.TheVariants as types
+use Rattle.types_suites.specs.declared.fault.TypeFault.{TypeFault}
+use Rattle.types_suites.specs.declared.fault.TypeFault.TheVariants as types
 use Rattle.cycle_window.specs.declared.fault.WindowFault.{WindowFault}
 use Rattle.cycle_window.specs.declared.fault.WindowFault.TheVariants as windows
 use Rattle.axi4_rules.specs.declared.fault.PortFault.{PortFault}

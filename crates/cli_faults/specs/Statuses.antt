@@ -2,7 +2,7 @@
 use Rattle.std.specs.Prelude.{ℕ, ◌==◌, List, Result, Ok, Err, if◌then◌else◌, slice_index}
 use Rattle.lexer.specs.declared.fault.LexFault.TheVariants as lexing
 use Rattle.parser.specs.declared.fault.ParseFault.TheVariants as parsing
-use Rattle.types_assertions.specs.declared.fault.TypeFault.TheVariants as types
+use Rattle.types_suites.specs.declared.fault.TypeFault.TheVariants as types
 use Rattle.compiler.specs.declared.fault.CompileFault.TheVariants as compiles
 use Rattle.vcd_reader.specs.declared.fault.VcdFault.TheVariants as dumps
 use Rattle.cycle_window.specs.declared.fault.WindowFault.TheVariants as windows

@@ -10,7 +10,7 @@ use cycle_window::{BadSize, WindowFault};
 use lexer::LexFault;
 use parser::ParseFault;
 use std::alloc::AllocError;
-use types_assertions::TypeFault;
+use types_suites::TypeFault;
 use vcd_reader::VcdFault;
 use verdicts::ReportFault;
 use verifier::Refusal;

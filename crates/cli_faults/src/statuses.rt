@@ -11,7 +11,7 @@ use compiler::CompileFault;
 use cycle_window::WindowFault;
 use lexer::LexFault;
 use parser::ParseFault;
-use types_assertions::TypeFault;
+use types_suites::TypeFault;
 use vcd_reader::VcdFault;
 use verdicts::ReportFault;
 use verifier::Refusal;

@@ -2,7 +2,7 @@
 use Rattle.std.proofs.Common.{Option, Some, None, Result, Ok, Err}
 use Rattle.std.specs.Prelude.{IfOk, MatchOption}
 use Rattle.std.specs.declared.alloc.AllocError.{AllocError}
-use Rattle.linting.specs.declared.front.Refusal.{Refusal}
+use Rattle.diagnostics.specs.declared.front.Refusal.{Refusal}
 
 -- where there is none, less is known
 pub less_known : (A B : Type 0) (P : Refusal → Type 0) (r : Result (Option Refusal) AllocError) → (A → B)

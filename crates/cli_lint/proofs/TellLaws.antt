@@ -6,7 +6,7 @@ use Rattle.std.proofs.lemmas.List.{flat_map_more}
 use Rattle.std.proofs.Math.Seq.{take-suc}
 use Rattle.source_files.specs.declared.added.Added.{Added}
 use Rattle.source_files.specs.declared.part.Part.{Part}
-use Rattle.linting.specs.declared.front.Refusal.{Refusal}
+use Rattle.diagnostics.specs.declared.front.Refusal.{Refusal}
 use Rattle.cli_lint.specs.Tells.{IsToldOf, AddsTold, TellsEach}
 
 zip_last : {A B : Type 0} (P : A → B → Type 0) (x : A) (y : B) → P x y → (xs : List A) (ys : List B) → AllZip P xs ys

@@ -13,10 +13,10 @@ use Rattle.parser.specs.declared.fault.ParseFault.TheVariants as parsing
 use Rattle.parser.specs.Faults.{IsParseFault}
 use Rattle.types_names.specs.Scopes.{Scope}
 use Rattle.types_names.specs.Asked.{scope_for}
-use Rattle.types_assertions.specs.declared.fault.TypeFault.{TypeFault}
-use Rattle.types_assertions.specs.declared.fault.TypeFault.TheVariants as types
-use Rattle.types_assertions.specs.Faults.{IsFaultless, IsTypeFault}
-use Rattle.types_assertions.specs.Texts.{assertions_of, suite_clock}
+use Rattle.types_suites.specs.declared.fault.TypeFault.{TypeFault}
+use Rattle.types_suites.specs.declared.fault.TypeFault.TheVariants as types
+use Rattle.types_suites.specs.Faults.{IsFaultless, IsTypeFault}
+use Rattle.types_suites.specs.Texts.{assertions_of, suite_clock}
 use Rattle.vcd_reader.specs.Variables.{Declared}
 use Rattle.cli_lint.specs.Dumps.{width_named}
 

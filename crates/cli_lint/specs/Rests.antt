@@ -6,8 +6,8 @@ use Rattle.std.specs.Str.{bytes_eq}
 use Rattle.std.specs.declared.alloc.Global.{Global}
 use Rattle.lexer.specs.declared.token.Token.{Token}
 use Rattle.lexer.specs.Cutting.{cut_of, tokens_of}
-use Rattle.linting.specs.Items.{AreItemEnds}
-use Rattle.linting.specs.Linted.{IsTold}
+use Rattle.diagnostics.specs.Items.{AreItemEnds}
+use Rattle.diagnostics.specs.Linted.{IsTold}
 use Rattle.vcd_reader.specs.Variables.{Declared}
 use Rattle.cli_lint.specs.Refused.{IsAccepted, IsRefused}
 

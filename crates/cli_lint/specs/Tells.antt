@@ -12,10 +12,10 @@ use Rattle.source_files.specs.declared.added.Added.{Added}
 use Rattle.source_files.specs.declared.part.Part.{Part}
 use Rattle.source_files.specs.Chosen.{place_before}
 use Rattle.source_files.specs.Parts.{IsSpot}
-use Rattle.linting.specs.declared.front.Refusal.{Refusal}
-use Rattle.linting.specs.Items.{AreItemEnds}
-use Rattle.linting.specs.Linted.{IsTold}
-use Rattle.linting.specs.Told.{refusal_text, total_text}
+use Rattle.diagnostics.specs.declared.front.Refusal.{Refusal}
+use Rattle.diagnostics.specs.Items.{AreItemEnds}
+use Rattle.diagnostics.specs.Linted.{IsTold}
+use Rattle.diagnostics.specs.Told.{refusal_text, total_text}
 use Rattle.vcd_reader.specs.Variables.{Declared}
 use Rattle.vcd_reader.specs.Dump.{Contents, GaveDump}
 use Rattle.cli_lint.specs.Refused.{IsRefused}

@@ -1,6 +1,6 @@
 //! The names that a text may mean.
 
-use linting::nearest;
+use diagnostics::nearest;
 use std::alloc::{AllocError, Global};
 use vcd_reader::{Dump, Name};
 

@@ -7,8 +7,8 @@ ghost use Rattle.lexer.specs.Cutting.{cut_of, tokens_of};
 ghost use Rattle.parser.specs.Faults.{IsParseFault};
 ghost use Rattle.parser_grammar.specs.Views.{items_of};
 ghost use Rattle.vcd_reader.specs.Held.{variables_of};
-ghost use Rattle.types_assertions.specs.Faults.{IsFaultless, IsTypeFault};
-ghost use Rattle.types_assertions.specs.Texts.{assertions_of, suite_clock};
+ghost use Rattle.types_suites.specs.Faults.{IsFaultless, IsTypeFault};
+ghost use Rattle.types_suites.specs.Texts.{assertions_of, suite_clock};
 ghost use Rattle.cli_lint.specs.Dumps.{width_named};
 ghost use Rattle.cli_lint.specs.Refused.{IsAccepted, IsRefused, Spells, scope_over, is_one_bit};
 ghost use Rattle.cli_lint.specs.Rests.{IsBare, is_verb};
@@ -16,12 +16,12 @@ ghost use Rattle.cli_lint.specs.Rests.{IsBare, is_verb};
 use crate::dump_paths::told_path;
 use crate::dump_widths::{DumpWidths, width_in_dump};
 use crate::messages::{lex_refusal, parse_refusal, type_refusal};
+use diagnostics::{FrontEnd, Refusal};
 use lexer::{Token, lex};
-use linting::{FrontEnd, Refusal};
 use parser::{File, ItemTree, ParseFault, parse};
 use std::alloc::{AllocError, Global};
 use types::check;
-use types_assertions::TypeFault;
+use types_suites::TypeFault;
 use vcd_reader::Dump;
 
 /// A dump, names that a text may mean, and the whole text, of which some items may be blanked.

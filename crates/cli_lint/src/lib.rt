@@ -16,7 +16,7 @@
 //! The definitions: which texts are accepted, and at which byte others are refused, in
 //! `specs/Refused.antt`; what is left of a text in `specs/Rests.antt`; the text that tells of
 //! refusals, and what `lint_one` comes to, in `specs/Tells.antt`; what is told of all items, and
-//! of a refusal, in `linting`.
+//! of a refusal, in `diagnostics`.
 //!
 //! Not promised: what a message says after its code, which fault `lint_one` tells, and that a text
 //! is compiled: faults of programs (K) aren't told.
@@ -32,6 +32,6 @@ mod refusals;
 #[cfg(test)]
 mod tests;
 
+pub use diagnostics::{Linted, Refusal};
 pub use fault::LintFault;
 pub use lint::{Rest, Told, lint_one, lint_over, rest_over};
-pub use linting::{Linted, Refusal};

@@ -4,11 +4,11 @@ ghost use Rattle.std.specs.Prelude.{◌≡◌, IfOk, Some};
 ghost use Rattle.cli_lint.specs.Refused.{byte_of_lex, byte_of_parse, byte_of_type};
 
 use crate::dump_paths::{is_listed, path_at, told_path};
+use diagnostics::{CODES, MARKS, Refusal, SIGNS, WORDS, hint_at, hint_beside};
 use lexer::LexFault;
-use linting::{CODES, MARKS, Refusal, SIGNS, WORDS, hint_at, hint_beside};
 use parser::ParseFault;
 use std::alloc::{AllocError, Global};
-use types_assertions::TypeFault;
+use types_suites::TypeFault;
 
 /// A refusal at a byte, with a hint after it if there is one.
 fn refusal_at(

@@ -4,7 +4,7 @@ ghost use Rattle.std.specs.Prelude.{◌≡◌, ◌++◌, OnOk, IfOk, length, str
 ghost use Rattle.std.specs.List.Sorted.{IsPermutation, IsNonDecreasingBy};
 ghost use Rattle.cli_lint.specs.Tells.{AddsTold, TellsEach, TellsAll};
 
-use linting::{Refusal, push_refusal, push_total};
+use diagnostics::{Refusal, push_refusal, push_total};
 use source_files::{Origin, spot_in};
 use std::alloc::{AllocError, Global};
 

@@ -49,8 +49,8 @@ use Rattle.cycle_window.specs.Bound.{first_refused}
 use Rattle.verdicts.specs.Lines.{LineData, ReportData, line_data_of, report_of}
 use Rattle.std.proofs.lemmas.List.{length-map}
 use Rattle.workers.specs.Reports.{IsJobReport}
-use Rattle.laws_programs.specs.LineLaws.{AreVerdicts}
-use Rattle.machine_runs.specs.Lines.{line_over, IsLineOver}
+use Rattle.laws_compiler.specs.LineLaws.{AreVerdicts}
+use Rattle.machine_batches.specs.Lines.{line_over, IsLineOver}
 use Rattle.cycle_window.specs.Ticks.{ticks_of, row_of}
 use Rattle.vcd_reader.specs.declared.dump.Dump.{Dump}
 use Rattle.vcd_reader.specs.Held.{HoldsContents, variables_of, steps_in, high_of}
@@ -62,8 +62,8 @@ use Rattle.workers_core.specs.Values.{Says, job_value}
 use Rattle.workers_single.specs.Lines.{AreLinesOf}
 use Rattle.workers_core.specs.Jobs.{sampled}
 use Rattle.workers_core.specs.Wanted.{wanted_in}
-use Rattle.laws_programs.specs.Laws.{AreVerdictsOver}
-use Rattle.laws_programs.proofs.Decides.{programs-decide}
+use Rattle.laws_compiler.specs.Laws.{AreVerdictsOver}
+use Rattle.laws_compiler.proofs.Decides.{programs-decide}
 use Rattle.compiled_reports.specs.Lines.{IsWatched, AreVariables, rows_at, IsLineOf, IsReportOf}
 use Rattle.compiled_reports.specs.Faults.{IsMadeOf}
 use Rattle.compiled_reports.proofs.RowLaws.{own-rows, are-rows, none-refused}

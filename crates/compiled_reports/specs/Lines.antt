@@ -10,7 +10,7 @@ use Rattle.vcd_reader.specs.Variables.{Declared, variable_named, size_of}
 use Rattle.vcd_reader.specs.Dump.{Contents}
 use Rattle.cycle_window.specs.Ticks.{ticks_of, row_of}
 use Rattle.verdicts.specs.Lines.{LineData, ReportData, line_data_of, report_of}
-use Rattle.laws_programs.specs.Laws.{AreVerdictsOver}
+use Rattle.laws_compiler.specs.Laws.{AreVerdictsOver}
 
 -- The path of a signal names a variable of the signal's width.
 abbrev pub IsWatched : List Declared → Signal → Type 0

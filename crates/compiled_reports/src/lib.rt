@@ -19,7 +19,7 @@
 //! The definitions: what a line is in `specs/Lines.antt`, why there are none in
 //! `specs/Faults.antt`. Programs are those of `compiler`, the line of a program is that of
 //! `workers_single`, the report of a job is that of `workers`, and that the two lines are one
-//! rests on the law of `laws_programs`.
+//! rests on the law of `laws_compiler`.
 //!
 //! Not promised: that memory suffices.
 #![tactic(auto)]

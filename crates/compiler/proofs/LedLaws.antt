@@ -6,7 +6,7 @@ use Rattle.assertions.specs.declared.sequence.Boolean.TheVariants.{One}
 use Rattle.assertions.specs.Written.{Written}
 use Rattle.bytecode.specs.Values.{SectionData}
 use Rattle.verifier.specs.Sections.{IsSection, instructions_in}
-use Rattle.laws_sections.specs.Firsts.{accepting_first}
+use Rattle.laws_automata.specs.Firsts.{accepting_first}
 use Rattle.compiler_sequences.specs.Sequences.{atom_of}
 use Rattle.compiler_sequences.specs.Laws.{section_for, led_section}
 use Rattle.compiler_sequences.proofs.Firsts.{law-well_formed, law-as_long}

@@ -13,7 +13,7 @@
 //! own functions, and the verifier accepts it always: `compile` answers no refusal of the verifier.
 //!
 //! The definitions: what a program of an assertion is in `specs/Programs.antt` (that it decides as
-//! the assertion means is the law of `laws_programs`); what `compile` takes for granted of an
+//! the assertion means is the law of `laws_compiler`); what `compile` takes for granted of an
 //! assertion and its suite in `specs/Conditions.antt` (it follows where the type checker made the
 //! suite of a text); what an assertion reads in `specs/Readings.antt`; why there is no program in
 //! `specs/Faults.antt`; small assertions, for which K2 never comes, in `specs/Small.antt`.

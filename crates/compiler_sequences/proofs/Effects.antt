@@ -9,7 +9,7 @@ use Rattle.std.proofs.lemmas.Nat.Bits.{bit_at_or, bit_at-pow_same, bit_at-pow_ot
 use Rattle.bytecode.specs.declared.block_instr.BlockInstr.{BlockInstr}
 use Rattle.machine_definition.specs.Blocks.{Visit, ended}
 use Rattle.compiler_sequences.specs.Tables.{Edge, SomeOf, HasNumber}
-use Rattle.laws_sections.specs.Effects.{effect, effects}
+use Rattle.laws_automata.specs.Effects.{effect, effects}
 use Rattle.compiler_sequences.specs.Sections.{edge_size, guards, enter_all, accept_if, edge_code, position_block}
 use Rattle.compiler_sequences.specs.Sections.{position_blocks}
 use Rattle.compiler_sequences.specs.Sections.{rows_from}

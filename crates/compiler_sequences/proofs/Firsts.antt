@@ -12,8 +12,8 @@ use Rattle.bytecode.specs.Values.{SectionData}
 use Rattle.verifier.specs.Rules.{block_rules}
 use Rattle.verifier.specs.Typing.{IsFine, IsCodeTyped}
 use Rattle.verifier.specs.Sections.{AreTyped, IsSection, instructions_in}
-use Rattle.laws_sections.specs.Firsts.{first_step, accepting_first, HasNoAcceptFirst, ArePlain}
-use Rattle.laws_sections.proofs.Firsts as firsts
+use Rattle.laws_automata.specs.Firsts.{first_step, accepting_first, HasNoAcceptFirst, ArePlain}
+use Rattle.laws_automata.proofs.Firsts as firsts
 use Rattle.compiler_sequences.specs.Tables.{Edge, Table, plan_table}
 use Rattle.compiler_sequences.specs.Plans.{plan}
 use Rattle.compiler_sequences.specs.Living.{sifted}

@@ -12,8 +12,8 @@ use Rattle.compiler_sequences.specs.Plans.{Plan, plan_sequence}
 use Rattle.compiler_sequences.specs.Tables.{Edge, Table, EachOf, HasNumber, Fires, Enters, Accepts, IsRising}
 use Rattle.compiler_sequences.specs.Tables.{NumbersStates}
 use Rattle.compiler_sequences.proofs.Ticks.{Left-after, Match-At, At-Match, Match-ends, ends-Match}
-use Rattle.laws_sections.specs.Automata.{Automaton, positions_at, accepts, AutomatonFollows}
-use Rattle.laws_sections.specs.Effects.{visit_of, automaton_of}
+use Rattle.laws_automata.specs.Automata.{Automaton, positions_at, accepts, AutomatonFollows}
+use Rattle.laws_automata.specs.Effects.{visit_of, automaton_of}
 use Rattle.compiler_sequences.proofs.Local.{seen-sat, sat-seen}
 use Rattle.compiler_sequences.specs.Sections.{section_of, coded, numbered_edge, with_atom, atoms_of, told_atom}
 use Rattle.compiler_sequences.specs.States.{PlanState, Left}

@@ -17,8 +17,8 @@ use Rattle.assertions.specs.Emptiness.{admits_empty}
 use Rattle.compiler_sequences.specs.Tables.{Table, plan_table}
 use Rattle.compiler_sequences.proofs.Rising.{rising}
 use Rattle.compiler_sequences.proofs.Spelling.{spelling}
-use Rattle.laws_sections.specs.Automata.{Automaton, AutomatonFollows}
-use Rattle.laws_sections.specs.Effects.{automaton_of}
+use Rattle.laws_automata.specs.Automata.{Automaton, AutomatonFollows}
+use Rattle.laws_automata.specs.Effects.{automaton_of}
 use Rattle.compiler_sequences.specs.Sections.{coded, told_atom}
 use Rattle.compiler_sequences.specs.Laws.{IsThere, Occurs, section_for, SectionFollows, SectionIsWellFormed}
 use Rattle.compiler_sequences.specs.Laws.{SectionIsSmall}

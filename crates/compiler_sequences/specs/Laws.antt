@@ -6,9 +6,9 @@ use Rattle.verifier.specs.Sections.{IsSection, instructions_in}
 use Rattle.assertions.specs.declared.sequence.Boolean.{Boolean}
 use Rattle.assertions.specs.Written.{Written, boolean, delay, lead, repeat, or, and, intersect}
 use Rattle.assertions.specs.Written.{throughout, kernel, weight, IsOrdered}
-use Rattle.laws_sections.specs.Automata.{AutomatonFollows}
-use Rattle.laws_sections.specs.Effects.{automaton_of}
-use Rattle.laws_sections.specs.Firsts.{accepting_first}
+use Rattle.laws_automata.specs.Automata.{AutomatonFollows}
+use Rattle.laws_automata.specs.Effects.{automaton_of}
+use Rattle.laws_automata.specs.Firsts.{accepting_first}
 use Rattle.assertions.specs.Segments.{Matches}
 use Rattle.assertions.specs.Attempts.{every, first_match}
 use Rattle.compiler_sequences.specs.Plans.{plan}

@@ -2,7 +2,7 @@
 
 ghost use Rattle.std.specs.Prelude.{◌≡◌, map, IfOk};
 ghost use Rattle.bytecode.specs.Views.{section_data};
-ghost use Rattle.laws_sections.specs.Firsts.{first_step, accepting_first};
+ghost use Rattle.laws_automata.specs.Firsts.{first_step, accepting_first};
 
 use bytecode::{BlockInstr, Section};
 use std::alloc::{AllocError, Global};

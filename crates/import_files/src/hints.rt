@@ -1,6 +1,6 @@
 //! What may be done about refusals.
 
-use import_properties::Reason;
+use import_lowering::Reason;
 use import_rewriting::Refusal as NotRewritten;
 use import_tokens::{Keyword, MacroFault, Symbol};
 use import_trees::{Expected, Refusal};

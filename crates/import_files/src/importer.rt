@@ -5,12 +5,12 @@ use crate::outcome::{Fate, Marks};
 use crate::reading::Reading;
 use crate::stop::{Stop, not_rewritten};
 use crate::vacuity::keeps_vacuity;
-use import_opening::{Opened, Opener, Parts};
-use import_properties::property_of;
+use import_elaboration::{Opened, Opener, Parts};
+use import_expressions::Terms;
+use import_lowering::property_of;
 use import_rewriting::{Rewriting, rewritten};
 use import_scopes::{Assertion, File};
 use import_spelling::Spelling;
-use import_terms::Terms;
 use import_trees::Path;
 use std::alloc::{AllocError, Global};
 

@@ -11,8 +11,8 @@
 //! ```
 //!
 //! The text is that of all files, joined. Its tokens, with macros written out, have items
-//! (`import_scopes`); each assertion is opened (`import_opening`), made a property
-//! (`import_properties`), rewritten (`import_rewriting`) and spelled (`import_spelling`). One that
+//! (`import_scopes`); each assertion is opened (`import_elaboration`), made a property
+//! (`import_lowering`), rewritten (`import_rewriting`) and spelled (`import_spelling`). One that
 //! can't be had is refused alone, with a code, a place and a hint. Labels are kept, and made where
 //! there is none: `assert_N` is the Nth assertion. A label that is there already gets a number.
 //! Assertions of another clock than the one that counts are refused.

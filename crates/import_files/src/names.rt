@@ -2,9 +2,9 @@
 
 use crate::outcome::Missing;
 use crate::reading::Reading;
-use import_opening::{Parts, Value};
-use import_terms::{Terms, known_signal};
-use linting::nearest;
+use diagnostics::nearest;
+use import_elaboration::{Parts, Value};
+use import_expressions::{Terms, known_signal};
 use std::alloc::{AllocError, Global};
 
 /// How many characters of a name may be wrong.

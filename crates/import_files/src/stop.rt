@@ -5,8 +5,8 @@ ghost use Rattle.import_files.specs.declared.stop.Stop.TheVariants.{Memory};
 
 use crate::hints::{hint_of, lowering_hint, rewriting_hint};
 use crate::outcome::Cause;
-use import_opening::Refused;
-use import_properties::NotLowered;
+use import_elaboration::Refused;
+use import_lowering::NotLowered;
 use import_spelling::Refused as NotSpelled;
 use std::alloc::{AllocError, AllocFailed};
 
@@ -49,7 +49,7 @@ impl From<Refused> for Stop {
 impl From<NotLowered> for Stop {
     fn from(refused: NotLowered) -> Stop {
         match refused.reason {
-            import_properties::Reason::Memory => Stop::Memory,
+            import_lowering::Reason::Memory => Stop::Memory,
             reason => Stop::Refused(Cause {
                 code: reason.code(),
                 hint: match refused.hint {

@@ -1,7 +1,7 @@
 //! Whether what is written is vacuous where the property is (IEEE 1800-2017, 16.14.8).
 
-use import_meaning::{Condition, Property, Sequence};
 use import_rewriting::Rewriting;
+use import_semantics::{Condition, Property, Sequence};
 
 /// Whether no part of a property is vacuous where it holds.
 fn is_plain(property: &Property) -> bool {

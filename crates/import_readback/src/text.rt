@@ -4,13 +4,13 @@ ghost use Rattle.std.specs.Prelude.{◌≡◌, ◌∷◌, [], Ok, Some, IsTrue, 
 ghost use Rattle.lexer.specs.Cutting.{cut_of, tokens_of};
 ghost use Rattle.parser_grammar.specs.Views.{item_of, assertion_of, property_of};
 ghost use Rattle.assertions.specs.Written.{boolean, delay};
-ghost use Rattle.import_meaning.specs.declared.condition.Condition.TheVariants.{One};
-ghost use Rattle.import_meaning.specs.Shapes.{written_form};
+ghost use Rattle.import_semantics.specs.declared.condition.Condition.TheVariants.{One};
+ghost use Rattle.import_semantics.specs.Shapes.{written_form};
 ghost use Rattle.import_readback.specs.Texts.{SaysRewriting, IsRewriting, HasSides};
 ghost use Rattle.import_readback.specs.Texts.{assertions_of, text_of};
 
 use crate::outline::{MOST_DEPTH, has_outline};
-use import_meaning::{Condition, Sequence};
+use import_semantics::{Condition, Sequence};
 use lexer::{Token, lex};
 use parser::parse;
 use parser_grammar::{AssertionTree, Implication, ItemTree, PropertyTree, SequenceTree};

@@ -4,10 +4,10 @@ use crate::sequences::ANY_SEQUENCE;
 use crate::spelling::Spelling;
 use crate::writer::{Piece, Writer};
 use crate::writing::LOOSEST;
-use import_meaning::{Condition, Sequence};
-use import_opening::{Opened, ValueId};
+use import_elaboration::{Opened, ValueId};
+use import_expressions::{Gate, Reason, Refused, is_free_word};
 use import_rewriting::Rewriting;
-use import_terms::{Gate, Reason, Refused, is_free_word};
+use import_semantics::{Condition, Sequence};
 use import_trees::Refusal;
 
 /// A refusal at a byte.

@@ -7,8 +7,8 @@
 //! let text = spelling.value(b"r1", ValueId(3))?;                  // an expression, as a boolean
 //! ```
 //!
-//! A boolean of the rewriting is a value of the opening, by its number; `import_terms` makes an
-//! expression of the profile of it, or says why there is none. Here terms, sequences and whole
+//! A boolean of the rewriting is a value of the opening, by its number; `import_expressions` makes
+//! an expression of the profile of it, or says why there is none. Here terms, sequences and whole
 //! assertions are written, in the fewest brackets that keep how they group, though a boolean of
 //! several operands has its own beside `##` and `[*]`. An antecedent `r ##1 1` is written by `|=>`,
 //! and the antecedent 1 is left out. Counters that an assertion reads stand before it, a line each,
@@ -17,8 +17,8 @@
 //! Work is bounded: a text comes to so many pieces, with so many open brackets and booleans as the
 //! profile takes; what passes that is `TooHeavy`.
 //!
-//! Not promised, but tested (`trials_spelling`): that a text is one of the profile's grammar, and
-//! that it says what the rewriting and its terms say.
+//! Not promised, but tested (`tests_import_texts`): that a text is one of the profile's grammar,
+//! and that it says what the rewriting and its terms say.
 #![tactic(auto)]
 
 mod assertion;
@@ -27,5 +27,5 @@ mod spelling;
 mod writer;
 mod writing;
 
-pub use import_terms::{Known, Reason, Refused};
+pub use import_expressions::{Known, Reason, Refused};
 pub use spelling::Spelling;

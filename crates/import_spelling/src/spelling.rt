@@ -1,7 +1,7 @@
 //! What is spelled.
 
-use import_opening::Parts;
-use import_terms::{Known, Terms};
+use import_elaboration::Parts;
+use import_expressions::{Known, Terms};
 use std::alloc::Global;
 
 /// Spells the expressions and assertions of an opening, one after another.

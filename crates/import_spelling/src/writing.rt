@@ -2,9 +2,9 @@
 
 use crate::spelling::Spelling;
 use crate::writer::{Piece, Writer};
-use import_meaning::Condition;
-use import_opening::ValueId;
-use import_terms::{Reason, Refused, Term, TermId, TermList, is_associative, looseness};
+use import_elaboration::ValueId;
+use import_expressions::{Reason, Refused, Term, TermId, TermList, is_associative, looseness};
+use import_semantics::Condition;
 use parser_grammar::{Function, Infix, Prefix};
 
 /// How many pieces a text may have.

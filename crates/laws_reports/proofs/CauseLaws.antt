@@ -13,17 +13,17 @@ use Rattle.assertions.specs.Marks.{places_from}
 use Rattle.types_sequences.specs.Drafts.{Draft, IsNumberIn}
 use Rattle.types_names.specs.Scopes.{Scope, path_text, first_byte}
 use Rattle.types_names.specs.Columns.{columns_of}
-use Rattle.types_assertions.specs.declared.fault.TypeFault.TheVariants.{OtherClock}
-use Rattle.types_assertions.specs.Texts.{declarations_of, counters_of, assertions_of, label_text, clocks_unlike}
-use Rattle.types_assertions.specs.Texts.{suite_clock}
-use Rattle.types_assertions.specs.Readings.{AllRead}
-use Rattle.types_assertions.specs.Suites.{AreSignals, AreCounters, AreAssertions}
+use Rattle.types_suites.specs.declared.fault.TypeFault.TheVariants.{OtherClock}
+use Rattle.types_suites.specs.Texts.{declarations_of, counters_of, assertions_of, label_text, clocks_unlike}
+use Rattle.types_suites.specs.Texts.{suite_clock}
+use Rattle.types_suites.specs.Readings.{AllRead}
+use Rattle.types_suites.specs.Suites.{AreSignals, AreCounters, AreAssertions}
 use Rattle.compiler.specs.declared.fault.CompileFault.{CompileFault}
 use Rattle.compiler.specs.declared.fault.CompileFault.TheVariants as compiles
 use Rattle.compiler.specs.Readings.{IsReading}
 use Rattle.compiler.specs.Faults.{is_long, is_long_path, HasLongText, WhyNotCompiled}
 use Rattle.compiler.specs.Small.{SmallHaveCode}
-use Rattle.laws_assertions.specs.Small.{KeepsTo, SuitesKeepTo}
+use Rattle.laws_suites.specs.Small.{KeepsTo, SuitesKeepTo}
 use Rattle.vcd_reader.specs.Dump.{Contents}
 use Rattle.cli.specs.Dumps.{width_named}
 use Rattle.cli.specs.Named.{scope_over}

@@ -14,7 +14,7 @@ use Rattle.expressions.specs.Counters.{holds, rule_value, next_count, next_of, c
 use Rattle.types_names.specs.Scopes.{Scope}
 use Rattle.types_expressions.specs.Meanings.{Means}
 use Rattle.types_expressions.proofs.OneMeaning.{one-meaning}
-use Rattle.types_assertions.specs.Suites.{IsCondition, IsRule, IsCounter, AreCounters}
+use Rattle.types_suites.specs.Suites.{IsCondition, IsRule, IsCounter, AreCounters}
 use Rattle.laws_reports.proofs.PairLaws.{one_truth}
 
 -- the next count, from what its clauses say

@@ -25,9 +25,9 @@ use Rattle.types_names.specs.declared.own.Own.{Own}
 use Rattle.types_names.specs.Scopes.{Scope, look_up, owns}
 use Rattle.types_names.specs.Columns.{columns_of}
 use Rattle.types_names.specs.Asked.{widths_among, scope_over_any}
-use Rattle.types_assertions.specs.declared.fault.TypeFault.{TypeFault}
-use Rattle.types_assertions.specs.Faults.{FaultStands}
-use Rattle.types_assertions.specs.Suites.{IsSuite}
+use Rattle.types_suites.specs.declared.fault.TypeFault.{TypeFault}
+use Rattle.types_suites.specs.Faults.{FaultStands}
+use Rattle.types_suites.specs.Suites.{IsSuite}
 use Rattle.laws_reports.proofs.MovedTrees.{moved_item}
 use Rattle.laws_reports.proofs.MovedFiles.{file-moved}
 use Rattle.laws_reports.proofs.MovedSuites.{owns-moved, columns-moved, suite-moved}

@@ -19,10 +19,10 @@ use Rattle.assertions.specs.declared.suite.Suite.{Suite}
 use Rattle.assertions.specs.Marks.{AreMarks, is_marked, places_from}
 use Rattle.types_names.specs.Scopes.{Scope}
 use Rattle.types_names.specs.Columns.{column_of, columns_of}
-use Rattle.types_assertions.specs.Suites.{AreSignals}
+use Rattle.types_suites.specs.Suites.{AreSignals}
 use Rattle.compiler.specs.Readings.{IsReading, slot_count}
 use Rattle.compiler.specs.Faults.{is_long, is_long_path}
-use Rattle.laws_assertions.specs.WrittenOut.{all_expressions}
+use Rattle.laws_suites.specs.WrittenOut.{all_expressions}
 use Rattle.laws_reports.specs.ReadInText.{ReadsSignal, ReadsCounter, AreDifferent, ReadsMany, IsLongText, ReadsLongPath}
 use Rattle.laws_reports.proofs.NamedLaws.{IsFrom}
 use Rattle.laws_reports.proofs.ReadLaws.{TextReads}

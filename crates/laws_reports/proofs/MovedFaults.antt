@@ -21,21 +21,21 @@ use Rattle.types_names.specs.Width.{binary_width, binary_of}
 use Rattle.types_names.specs.Faults.{path_faults, wide_faults, faults, link_faults, part_faults, boolean_faults}
 use Rattle.types_names.specs.Faults.{sequence_faults, step_faults, other_faults, property_faults, optional_faults}
 use Rattle.types_names.specs.Faults.{clause_faults, counter_faults, assertion_faults, item_faults, file_faults}
-use Rattle.types_assertions.specs.declared.fault.TypeFault.{TypeFault}
-use Rattle.types_assertions.specs.declared.fault.TypeFault.TheVariants.{UnknownName, Duplicate}
-use Rattle.types_assertions.specs.declared.fault.TypeFault.TheVariants.{WiderThan128, SliceRange}
-use Rattle.types_assertions.specs.declared.fault.TypeFault.TheVariants.{Degenerate, OtherClock}
-use Rattle.types_assertions.specs.declared.fault.TypeFault.TheVariants.{AdmitsEmpty as Empty}
-use Rattle.types_assertions.specs.declared.fault.TypeFault.TheVariants.{CyclicSequence, TooWide, Memory}
-use Rattle.types_assertions.specs.Readings.{Dot, dot, joined_by, outline, outline_steps, outline_others, outline_by}
-use Rattle.types_assertions.specs.Readings.{least_of, extra_of}
-use Rattle.types_assertions.specs.Texts.{declarations_of, assertions_of, label_byte, assertions_after, name_made}
-use Rattle.types_assertions.specs.Texts.{names_from, repeated_names, duplicates, label_text, clocks_unlike, suite_clock}
-use Rattle.types_assertions.specs.Texts.{other_clocks, tree_byte, sequence_byte, led_byte, is_led}
-use Rattle.types_assertions.specs.Readings.{outlines_of}
-use Rattle.types_assertions.specs.Faults.{Side, outline_before, antecedents_in, consequent_in, sides_of}
-use Rattle.types_assertions.specs.Faults.{consequents_of, CycleAt}
-use Rattle.types_assertions.specs.Faults.{SideAt, FaultStands}
+use Rattle.types_suites.specs.declared.fault.TypeFault.{TypeFault}
+use Rattle.types_suites.specs.declared.fault.TypeFault.TheVariants.{UnknownName, Duplicate}
+use Rattle.types_suites.specs.declared.fault.TypeFault.TheVariants.{WiderThan128, SliceRange}
+use Rattle.types_suites.specs.declared.fault.TypeFault.TheVariants.{Degenerate, OtherClock}
+use Rattle.types_suites.specs.declared.fault.TypeFault.TheVariants.{AdmitsEmpty as Empty}
+use Rattle.types_suites.specs.declared.fault.TypeFault.TheVariants.{CyclicSequence, TooWide, Memory}
+use Rattle.types_suites.specs.Readings.{Dot, dot, joined_by, outline, outline_steps, outline_others, outline_by}
+use Rattle.types_suites.specs.Readings.{least_of, extra_of}
+use Rattle.types_suites.specs.Texts.{declarations_of, assertions_of, label_byte, assertions_after, name_made}
+use Rattle.types_suites.specs.Texts.{names_from, repeated_names, duplicates, label_text, clocks_unlike, suite_clock}
+use Rattle.types_suites.specs.Texts.{other_clocks, tree_byte, sequence_byte, led_byte, is_led}
+use Rattle.types_suites.specs.Readings.{outlines_of}
+use Rattle.types_suites.specs.Faults.{Side, outline_before, antecedents_in, consequent_in, sides_of}
+use Rattle.types_suites.specs.Faults.{consequents_of, CycleAt}
+use Rattle.types_suites.specs.Faults.{SideAt, FaultStands}
 use Rattle.laws_reports.proofs.MovedTrees.{moved, moved_option, moved_tree, moved_links, moved_parts, moved_sequence}
 use Rattle.laws_reports.proofs.MovedTrees.{moved_steps, moved_others, moved_property, moved_condition, moved_rule}
 use Rattle.laws_reports.proofs.MovedTrees.{moved_counter, moved_declaration, moved_assertion, moved_item}

@@ -17,7 +17,7 @@ use Rattle.types_names.specs.Scopes.{Scope, path_text, meaning_by, meaning, mean
 use Rattle.types_names.specs.Columns.{path_signals, signals, link_signals, part_signals, sequence_signals}
 use Rattle.types_names.specs.Columns.{step_signals, other_signals, column_of}
 use Rattle.types_expressions.specs.Meanings.{IsReference, Means, Chains, Joins, JoinsMore}
-use Rattle.types_assertions.specs.Readings.{IsBooleanOf, ReadsBoolean, Reads, ReadsSteps, ReadsOthers}
+use Rattle.types_suites.specs.Readings.{IsBooleanOf, ReadsBoolean, Reads, ReadsSteps, ReadsOthers}
 use Rattle.laws_reports.proofs.MovedTrees.{moved, moved_tree, moved_links, moved_parts, moved_sequence, moved_steps}
 use Rattle.laws_reports.proofs.MovedTrees.{moved_others}
 

@@ -20,12 +20,12 @@ use Rattle.types_names.specs.declared.own.Own.TheVariants as own
 use Rattle.types_names.specs.Scopes.{Scope, width_in, owns_from}
 use Rattle.types_names.specs.Columns.{signals, sequence_signals, property_signals, optional_signals}
 use Rattle.types_names.specs.Columns.{clause_signals, item_signals, file_signals, with_paths, columns_of}
-use Rattle.types_assertions.specs.Texts.{label_text, declarations_of, counters_of, assertions_of, suite_clock}
-use Rattle.types_assertions.specs.Readings.{AllRead}
-use Rattle.types_assertions.specs.Suites.{AreSignals, IsCondition, IsRule, IsCounter, AreCounters, ReadsAntecedent}
-use Rattle.types_assertions.specs.Suites.{ReadsConsequent, IsDisabling, IsDisabledBy, IsDisablingPlace, IsUsedPlace}
-use Rattle.types_assertions.specs.Suites.{IsAssertion}
-use Rattle.types_assertions.specs.Suites.{AreAssertions, IsSuite, first_by}
+use Rattle.types_suites.specs.Texts.{label_text, declarations_of, counters_of, assertions_of, suite_clock}
+use Rattle.types_suites.specs.Readings.{AllRead}
+use Rattle.types_suites.specs.Suites.{AreSignals, IsCondition, IsRule, IsCounter, AreCounters, ReadsAntecedent}
+use Rattle.types_suites.specs.Suites.{ReadsConsequent, IsDisabling, IsDisabledBy, IsDisablingPlace, IsUsedPlace}
+use Rattle.types_suites.specs.Suites.{IsAssertion}
+use Rattle.types_suites.specs.Suites.{AreAssertions, IsSuite, first_by}
 use Rattle.laws_reports.proofs.MovedTrees.{moved_option, moved_tree, moved_sequence, moved_property, moved_condition}
 use Rattle.laws_reports.proofs.MovedTrees.{moved_rule, moved_counter, moved_assertion, moved_item}
 use Rattle.laws_reports.proofs.MovedReadings.{path_text-moved, both_same, signals-moved, sequence_signals-moved}

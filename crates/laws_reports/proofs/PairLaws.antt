@@ -17,8 +17,8 @@ use Rattle.types_sequences.specs.Placed.{atom_true}
 use Rattle.types_names.specs.Scopes.{Scope, sequence_named}
 use Rattle.types_expressions.specs.Meanings.{Means}
 use Rattle.types_expressions.proofs.OneMeaning.{one-meaning}
-use Rattle.types_assertions.specs.Readings.{least_of, extra_of, IsBooleanOf, ReadsBoolean, joined_by, Reads, ReadsSteps}
-use Rattle.types_assertions.specs.Readings.{ReadsOthers, AllRead}
+use Rattle.types_suites.specs.Readings.{least_of, extra_of, IsBooleanOf, ReadsBoolean, joined_by, Reads, ReadsSteps}
+use Rattle.types_suites.specs.Readings.{ReadsOthers, AllRead}
 
 -- what one tree means is true at the same ticks
 pub one_truth : (s : Scope) (cs : List (List ℕ)) (t : Tree) (e f : Term) → Means s cs t e → Means s cs t f

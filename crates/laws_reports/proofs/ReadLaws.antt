@@ -28,14 +28,14 @@ use Rattle.types_sequences.specs.Leaves.{leaves}
 use Rattle.types_names.specs.Scopes.{Scope}
 use Rattle.types_names.specs.Columns.{signals, columns_of}
 use Rattle.types_expressions.specs.Meanings.{Means}
-use Rattle.types_assertions.specs.Texts.{declarations_of, counters_of}
-use Rattle.types_assertions.specs.Readings.{IsBooleanOf, AllRead}
-use Rattle.types_assertions.specs.Suites.{IsCondition, IsRule, IsCounter, AreCounters, IsDisablingPlace, IsAssertion}
-use Rattle.laws_assertions.specs.WrittenOut.{Leaf, tree_bodies, antecedent_trees, consequent_trees, given}
-use Rattle.laws_assertions.specs.WrittenOut.{AreWrittenOut, expressions_of, all_expressions}
-use Rattle.laws_assertions.proofs.MeasureLaws.{leaves_map}
-use Rattle.laws_assertions.proofs.LeafLaws.{Pair, first_of, second_of, IsLeafOf, ArePaired, bodies_paired}
-use Rattle.laws_assertions.proofs.LeafLaws.{antecedent_paired, consequent_paired, SpellBoth, spelled_both}
+use Rattle.types_suites.specs.Texts.{declarations_of, counters_of}
+use Rattle.types_suites.specs.Readings.{IsBooleanOf, AllRead}
+use Rattle.types_suites.specs.Suites.{IsCondition, IsRule, IsCounter, AreCounters, IsDisablingPlace, IsAssertion}
+use Rattle.laws_suites.specs.WrittenOut.{Leaf, tree_bodies, antecedent_trees, consequent_trees, given}
+use Rattle.laws_suites.specs.WrittenOut.{AreWrittenOut, expressions_of, all_expressions}
+use Rattle.laws_suites.proofs.MeasureLaws.{leaves_map}
+use Rattle.laws_suites.proofs.LeafLaws.{Pair, first_of, second_of, IsLeafOf, ArePaired, bodies_paired}
+use Rattle.laws_suites.proofs.LeafLaws.{antecedent_paired, consequent_paired, SpellBoth, spelled_both}
 use Rattle.laws_reports.specs.ReadInText.{counters, both_of, clause_expressions, Matters, of_assertion}
 use Rattle.laws_reports.specs.ReadInText.{of_counter, ReadsSignal, ReadsCounter}
 use Rattle.laws_reports.proofs.NamedLaws.{all_two, IsFrom, IsNameFrom, AreFrom, TermFrom, means_from}

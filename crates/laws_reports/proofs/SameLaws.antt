@@ -21,9 +21,9 @@ use Rattle.types_sequences.specs.Drafts.{Draft}
 use Rattle.types_sequences.specs.Placed.{atom_true}
 use Rattle.types_names.specs.Scopes.{Scope}
 use Rattle.types_names.specs.Columns.{columns_of}
-use Rattle.types_assertions.specs.Texts.{declarations_of, counters_of, assertions_of}
-use Rattle.types_assertions.specs.Suites.{AreSignals, before_by, ReadsAntecedent, ReadsConsequent, IsMeant, IsDisabling}
-use Rattle.types_assertions.specs.Suites.{IsAssertion, AreAssertions, IsSuite}
+use Rattle.types_suites.specs.Texts.{declarations_of, counters_of, assertions_of}
+use Rattle.types_suites.specs.Suites.{AreSignals, before_by, ReadsAntecedent, ReadsConsequent, IsMeant, IsDisabling}
+use Rattle.types_suites.specs.Suites.{IsAssertion, AreAssertions, IsSuite}
 use Rattle.laws_reports.specs.Same.{AreAlike, SaySame}
 use Rattle.laws_reports.proofs.AttemptLaws.{led, alike_turned, alike_on, SeenAlike, same_verdict, seen_turned}
 use Rattle.assertions.specs.Attempts.{IsVerdict}

@@ -9,7 +9,7 @@ use Rattle.lexer.proofs.CoveringLaws.{tokens_of-covered}
 use Rattle.lexer.proofs.OneCut.{cut_faultless}
 use Rattle.parser.specs.declared.fault.ParseFault.{ParseFault}
 use Rattle.assertions.specs.declared.suite.Suite.{Suite}
-use Rattle.types_assertions.specs.declared.fault.TypeFault.{TypeFault}
+use Rattle.types_suites.specs.declared.fault.TypeFault.{TypeFault}
 use Rattle.laws_reports.proofs.MovedTrees.{moved_item}
 use Rattle.vcd_reader.specs.Variables.{variable_named}
 use Rattle.vcd_reader.specs.Dump.{Contents}

@@ -2,12 +2,12 @@
 use Rattle.std.specs.Prelude.{◌≡◌, ℕ, List, Some, slice_get}
 use Rattle.parser_grammar.specs.Trees.{AssertionForm, ItemForm}
 use Rattle.types_names.specs.Scopes.{Scope}
-use Rattle.types_assertions.specs.Texts.{assertions_of, label_text}
+use Rattle.types_suites.specs.Texts.{assertions_of, label_text}
 use Rattle.compiler.specs.declared.fault.CompileFault.{CompileFault}
 use Rattle.compiler.specs.declared.fault.CompileFault.TheVariants.{TooManyAtoms, CodeTooLong}
 use Rattle.compiler.specs.declared.fault.CompileFault.TheVariants.{TooManySlots, TextTooLong}
 use Rattle.compiler.specs.declared.fault.CompileFault.TheVariants.{Memory}
-use Rattle.laws_assertions.specs.Small.{HasManyBooleans, IsSmallText}
+use Rattle.laws_suites.specs.Small.{HasManyBooleans, IsSmallText}
 use Rattle.vcd_reader.specs.Dump.{Contents}
 use Rattle.cli_faults.specs.declared.fault.Fault.TheVariants.{Compile}
 use Rattle.cli.specs.Named.{scope_over}

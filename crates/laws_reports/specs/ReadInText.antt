@@ -12,8 +12,8 @@ use Rattle.types_names.specs.declared.own.Meaning.{Meaning}
 use Rattle.types_names.specs.declared.own.Meaning.TheVariants.{Signal, Own as Declared}
 use Rattle.types_names.specs.Scopes.{Scope, path_text, meaning}
 use Rattle.types_names.specs.Columns.{signals}
-use Rattle.types_assertions.specs.Texts.{counters_of, label_text}
-use Rattle.laws_assertions.specs.WrittenOut.{Leaf, AreWrittenOut, given, all_expressions}
+use Rattle.types_suites.specs.Texts.{counters_of, label_text}
+use Rattle.laws_suites.specs.WrittenOut.{Leaf, AreWrittenOut, given, all_expressions}
 
 abbrev pub path_counters : Option Meaning → List ℕ
 path_counters None = []

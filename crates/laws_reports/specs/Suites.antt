@@ -3,7 +3,7 @@ use Rattle.std.specs.Prelude.{List}
 use Rattle.parser_grammar.specs.Trees.{ItemForm}
 use Rattle.assertions.specs.declared.suite.Suite.{Suite}
 use Rattle.types_names.specs.Scopes.{Scope}
-use Rattle.types_assertions.specs.Suites.{IsSuite}
+use Rattle.types_suites.specs.Suites.{IsSuite}
 use Rattle.laws_reports.specs.Same.{SaySame}
 
 -- A text says one suite over a scope: any two that it may be said to say, say the same.

@@ -27,5 +27,5 @@ pub fn cause_law()
     ensures build { BuildFaultsHaveCauses }
 {
     compiler::small_law();
-    laws_assertions::small_law();
+    laws_suites::small_law();
 }

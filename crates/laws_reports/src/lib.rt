@@ -18,8 +18,8 @@
 //!
 //! The definitions: a report in `cli/specs/Reported.antt`, why there is none in
 //! `cli/specs/Outcomes.antt`, the theorems in `specs/Suites.antt`, `specs/Laws.antt` and
-//! `specs/Causes.antt`, what a text says in `types_assertions/specs/Suites.antt`, what it is to say
-//! the same in `specs/Same.antt`, small assertions of a text in `laws_assertions/specs/Small.antt`,
+//! `specs/Causes.antt`, what a text says in `types_suites/specs/Suites.antt`, what it is to say
+//! the same in `specs/Same.antt`, small assertions of a text in `laws_suites/specs/Small.antt`,
 //! what an assertion of a text reads in `specs/ReadInText.antt`. `proofs/Moved*.antt` carry what
 //! tokens spell from where they lie in memory to any other place.
 //!

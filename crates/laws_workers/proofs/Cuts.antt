@@ -37,19 +37,19 @@ use Rattle.assertions.specs.Attempts.{Antecedent, verdict}
 use Rattle.machine_definition.specs.Outcomes.{Ran, done, and_then}
 use Rattle.machine_definition.specs.Machine.{State, Outcome, opening, clocks}
 use Rattle.machine_definition.specs.Runs.{outcome_behind, run_from}
-use Rattle.laws_sections.specs.Monitors.{program_monitor}
-use Rattle.laws_sections.specs.Standing.{select_ticks, falls_at, is_open, falling}
-use Rattle.laws_sections.specs.History.{SamplesAs}
-use Rattle.laws_sections.specs.Laws.{Watches, Fills, fallen, open_starts, starts_of, all_fallen}
-use Rattle.laws_sections.proofs.Selections.{map-same, select-same}
-use Rattle.laws_sections.proofs.Histories.{listed}
-use Rattle.laws_sections.proofs.Deciding.{falling-fallen}
-use Rattle.laws_sections.proofs.Rows.{by-meaning}
-use Rattle.machine_runs.proofs.BatchLaws.{joined, later}
-use Rattle.machine_runs.proofs.CutLaws.{cuts, ends-as}
-use Rattle.machine_runs.specs.Batches.{rows_between, batch_of, decided_in}
-use Rattle.machine_runs.proofs.JoinLaws.{came, split-at}
-use Rattle.laws_programs.specs.LineLaws.{row_of}
+use Rattle.laws_automata.specs.Monitors.{program_monitor}
+use Rattle.laws_automata.specs.Standing.{select_ticks, falls_at, is_open, falling}
+use Rattle.laws_automata.specs.History.{SamplesAs}
+use Rattle.laws_automata.specs.Laws.{Watches, Fills, fallen, open_starts, starts_of, all_fallen}
+use Rattle.laws_automata.proofs.Selections.{map-same, select-same}
+use Rattle.laws_automata.proofs.Histories.{listed}
+use Rattle.laws_automata.proofs.Deciding.{falling-fallen}
+use Rattle.laws_automata.proofs.Rows.{by-meaning}
+use Rattle.machine_batches.proofs.BatchLaws.{joined, later}
+use Rattle.machine_batches.proofs.CutLaws.{cuts, ends-as}
+use Rattle.machine_batches.specs.Batches.{rows_between, batch_of, decided_in}
+use Rattle.machine_batches.proofs.JoinLaws.{came, split-at}
+use Rattle.laws_compiler.specs.LineLaws.{row_of}
 use Rattle.laws_workers.specs.Headline.{fallen_between}
 
 -- lists of what falls, clock by clock, that are the same

@@ -41,19 +41,19 @@ use Rattle.verifier.specs.Programs.{IsAccepted}
 use Rattle.vcd_reader.specs.Variables.{variable_named}
 use Rattle.vcd_reader.specs.Dump.{Contents}
 use Rattle.cycle_window.specs.Ticks.{ticks_of, sample, row_of}
-use Rattle.laws_sections.specs.Monitors.{program_monitor}
-use Rattle.laws_sections.specs.History.{SamplesAs}
-use Rattle.laws_sections.specs.Laws.{open_starts, starts_of}
+use Rattle.laws_automata.specs.Monitors.{program_monitor}
+use Rattle.laws_automata.specs.History.{SamplesAs}
+use Rattle.laws_automata.specs.Laws.{open_starts, starts_of}
 use Rattle.machine_definition.specs.Outcomes.{done}
 use Rattle.machine_definition.specs.Machine.{State, opening, clocks}
-use Rattle.machine_runs.specs.Batches.{batch_of}
-use Rattle.laws_programs.specs.LineLaws.{row_of as row_at}
+use Rattle.machine_batches.specs.Batches.{batch_of}
+use Rattle.laws_compiler.specs.LineLaws.{row_of as row_at}
 use Rattle.assertions.specs.Reads.{Reads}
 use Rattle.compiler.specs.Programs.{IsSlotOf, IsProgramOf}
 use Rattle.compiler.proofs.ListLaws.{some-one}
-use Rattle.laws_programs.specs.Laws.{AreSuiteRows, picked_row}
-use Rattle.laws_programs.proofs.Samples as made
-use Rattle.laws_programs.proofs.Decides as decides
+use Rattle.laws_compiler.specs.Laws.{AreSuiteRows, picked_row}
+use Rattle.laws_compiler.proofs.Samples as made
+use Rattle.laws_compiler.proofs.Decides as decides
 use Rattle.workers_core.specs.States.{MonitorState, BatchState, place}
 use Rattle.workers_core.specs.Jobs.{sampled}
 use Rattle.workers_core.specs.Values.{CoreValue, rows_over}

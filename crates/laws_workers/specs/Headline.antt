@@ -15,9 +15,9 @@ use Rattle.vcd_reader.specs.Variables.{variable_named}
 use Rattle.vcd_reader.specs.Dump.{Contents}
 use Rattle.cycle_window.specs.Ticks.{ticks_of, sample}
 use Rattle.assertions.specs.Reads.{Reads}
-use Rattle.laws_sections.specs.Laws.{fallen, open_starts, starts_of}
+use Rattle.laws_automata.specs.Laws.{fallen, open_starts, starts_of}
 use Rattle.compiler.specs.Programs.{IsProgramOf}
-use Rattle.laws_programs.specs.Laws.{AreSuiteRows}
+use Rattle.laws_compiler.specs.Laws.{AreSuiteRows}
 use Rattle.workers_core.specs.States.{MonitorState, BatchState, place}
 use Rattle.workers_core.specs.Values.{CoreValue}
 

@@ -6,8 +6,8 @@ use Rattle.std.specs.List.{list_any, position_from}
 use Rattle.std.specs.declared.alloc.Global.{Global}
 use Rattle.lexer.specs.declared.token.Token.{Token}
 use Rattle.lexer.specs.Cutting.{cut_of, tokens_of}
-use Rattle.linting.specs.Blanked.{blank_for}
-use Rattle.linting.specs.Items.{AreItemEnds}
+use Rattle.diagnostics.specs.Blanked.{blank_for}
+use Rattle.diagnostics.specs.Items.{AreItemEnds}
 use Rattle.source_files.specs.declared.added.Added.{Added}
 use Rattle.source_files.specs.declared.choosing.Choice.{Choice}
 use Rattle.source_files.specs.Globs.{means}

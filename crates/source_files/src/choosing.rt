@@ -3,7 +3,7 @@
 ghost use Rattle.std.specs.Prelude.{◌≡◌, ◌++◌, map, take, drop, string_bytes, codes, Ok};
 ghost use Rattle.std.specs.Prelude.{OnOk, IfOk, IsOk, IsErr};
 ghost use Rattle.lexer.specs.Cutting.{cut_of, tokens_of};
-ghost use Rattle.linting.specs.Blanked.{blank_for};
+ghost use Rattle.diagnostics.specs.Blanked.{blank_for};
 ghost use Rattle.source_files.specs.Heads.{head_of};
 ghost use Rattle.source_files.specs.Chosen.{between, is_meant, label_text, item_text, chosen_text};
 ghost use Rattle.source_files.specs.Chosen.{is_named, added_to, first_unmatched, IsChosen, IsLeft};
@@ -11,8 +11,8 @@ ghost use Rattle.source_files.specs.Chosen.{is_named, added_to, first_unmatched,
 use crate::added::Added;
 use crate::globs::means;
 use crate::heads::{Named, named_in};
+use diagnostics::item_ends;
 use lexer::{LexFault, Token, lex};
-use linting::item_ends;
 use std::alloc::{AllocError, Global};
 
 /// The text with some of its assertions alone.

@@ -16,7 +16,7 @@
 //!
 //! The definitions: joined texts and spots in `specs/Parts.antt`, what a pattern means in
 //! `specs/Globs.antt`, what assertions are called in `specs/Heads.antt`, what is left of a text and
-//! what is added to it in `specs/Chosen.antt`; items and blanks are those of `linting`.
+//! what is added to it in `specs/Chosen.antt`; items and blanks are those of `diagnostics`.
 //!
 //! Not promised: which assertions a text without tokens has; it is left as it is.
 #![tactic(auto)]

@@ -15,12 +15,12 @@ use Rattle.types_sequences.proofs.MapLaws.{cyclic_map, map_cyclic}
 use Rattle.types_sequences.proofs.AcyclicLaws.{named_acyclic}
 use Rattle.types_sequences.proofs.CyclicLaws.{declared_by_reach}
 use Rattle.types_names.specs.Scopes.{Scope}
-use Rattle.types_assertions.specs.declared.fault.TypeFault.TheVariants.{CyclicSequence}
-use Rattle.types_assertions.specs.declared.fault.TypeFault.{TypeFault}
-use Rattle.types_assertions.specs.Readings.{Dot, dot}
-use Rattle.types_assertions.specs.Texts.{declarations_of}
-use Rattle.types_assertions.specs.Readings.{outlines_of}
-use Rattle.types_assertions.specs.Faults.{CycleAt, ClearTo, FaultStands, IsFirst, rank, byte_of}
+use Rattle.types_suites.specs.declared.fault.TypeFault.TheVariants.{CyclicSequence}
+use Rattle.types_suites.specs.declared.fault.TypeFault.{TypeFault}
+use Rattle.types_suites.specs.Readings.{Dot, dot}
+use Rattle.types_suites.specs.Texts.{declarations_of}
+use Rattle.types_suites.specs.Readings.{outlines_of}
+use Rattle.types_suites.specs.Faults.{CycleAt, ClearTo, FaultStands, IsFirst, rank, byte_of}
 use Rattle.types.specs.Cycles.{IsLowest, AreOutlined}
 use Rattle.types.proofs.StageLaws.{clear_next, first_at, of_rank}
 

@@ -13,9 +13,9 @@ use Rattle.std.specs.List.{AllByRecursion}
 use Rattle.types_sequences.specs.Drafts.{Draft, IsNumberIn, IsWrittenOut}
 use Rattle.types_sequences.proofs.MapLaws.{spells_one}
 use Rattle.types.specs.declared.side.Side.{Side}
-use Rattle.types_assertions.specs.Readings.{Dot, dot}
-use Rattle.types_assertions.specs.Faults as faults
-use Rattle.types_assertions.specs.Faults.{SideAt}
+use Rattle.types_suites.specs.Readings.{Dot, dot}
+use Rattle.types_suites.specs.Faults as faults
+use Rattle.types_suites.specs.Faults.{SideAt}
 use Rattle.types.specs.Sides.{IsWeighed, AreWeighed, AreLight, places_where, is_wide, is_degenerate, is_side_empty}
 
 -- the test tells what is so of what a side says, where something is known of what it tells

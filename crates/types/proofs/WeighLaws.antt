@@ -17,14 +17,14 @@ use Rattle.types_sequences.specs.Entries.{HasEntry}
 use Rattle.types_sequences.proofs.MapLaws.{spells_map, weight_map, empty_map, ticks_map, ordered_map, spells_one}
 use Rattle.types_names.specs.Scopes.{Scope}
 use Rattle.types.specs.declared.side.Side.{Side}
-use Rattle.types_assertions.specs.declared.resolved.Resolved.{Resolved}
-use Rattle.types_assertions.specs.Readings.{Dot, dot, outline}
-use Rattle.types_assertions.specs.Texts.{sequence_byte, led_byte, is_led}
-use Rattle.types_assertions.specs.Suites.{before_by, first_by, ReadsAntecedent, ReadsConsequent}
-use Rattle.types_assertions.specs.Faults as faults
-use Rattle.types_assertions.specs.Faults.{outline_before, antecedents_in, consequent_in, sides_of, consequents_of}
+use Rattle.types_suites.specs.declared.resolved.Resolved.{Resolved}
+use Rattle.types_suites.specs.Readings.{Dot, dot, outline}
+use Rattle.types_suites.specs.Texts.{sequence_byte, led_byte, is_led}
+use Rattle.types_suites.specs.Suites.{before_by, first_by, ReadsAntecedent, ReadsConsequent}
+use Rattle.types_suites.specs.Faults as faults
+use Rattle.types_suites.specs.Faults.{outline_before, antecedents_in, consequent_in, sides_of, consequents_of}
 use Rattle.types.specs.Sides.{IsWeighed, AreWeighed, AreLight}
-use Rattle.types_assertions.specs.Drafted.{antecedent_byte, consequent_byte}
+use Rattle.types_suites.specs.Drafted.{antecedent_byte, consequent_byte}
 use Rattle.types.specs.Sides.{side_of, side_at, consequent_side, sides_in, consequents_in, entry_ticks, sequence_ticks}
 use Rattle.types.specs.Sides.{AreKnownEntries}
 use Rattle.std.specs.Prelude.{Box, nat_lt, Bool, true, false, if◌then◌else◌}
@@ -38,9 +38,9 @@ use Rattle.assertions.specs.Shapes.{written_form}
 use Rattle.assertions.specs.Emptiness.{takes_ticks}
 use Rattle.assertions.proofs.EmptinessLaws.{degenerate-none, none-degenerate}
 use Rattle.types_sequences.specs.Entries.{IsTheEntryOf, HasSame, SaysSame}
-use Rattle.types_assertions.specs.Resolved.{AreResolved}
-use Rattle.types_assertions.specs.Made.{AreFitting}
-use Rattle.types_assertions.proofs.OutlineLaws.{dotted, reads_outline}
+use Rattle.types_suites.specs.Resolved.{AreResolved}
+use Rattle.types_suites.specs.Made.{AreFitting}
+use Rattle.types_suites.proofs.OutlineLaws.{dotted, reads_outline}
 
 weighed_both : (o : List (Draft Dot)) (xs : List faults.Side) (ys : List Side) (us : List faults.Side) (vs : List Side)
     → AreWeighed o xs ys → AreWeighed o us vs → AreWeighed o (xs ++ us) (ys ++ vs)

@@ -8,9 +8,9 @@ use Rattle.types_sequences.specs.Outlines.{map_draft}
 use Rattle.types_sequences.specs.declared.entry.Entry.{Entry}
 use Rattle.types_sequences.specs.Entries.{has_entry}
 use Rattle.types_names.specs.Scopes.{Scope}
-use Rattle.types_assertions.specs.Readings.{dot}
-use Rattle.types_assertions.specs.Texts.{declarations_of}
-use Rattle.types_assertions.specs.Readings.{outlines_of}
+use Rattle.types_suites.specs.Readings.{dot}
+use Rattle.types_suites.specs.Texts.{declarations_of}
+use Rattle.types_suites.specs.Readings.{outlines_of}
 
 -- One of the first so many declarations reaches itself and has the byte, and none of these that
 -- does has a lower one.

@@ -5,11 +5,11 @@ use Rattle.expressions.specs.declared.expr.Expr.{Expr}
 use Rattle.assertions.specs.declared.sequence.Boolean.{Boolean}
 use Rattle.types_sequences.specs.Drafts.{Draft}
 use Rattle.types_names.specs.Scopes.{Scope}
-use Rattle.types_assertions.specs.declared.resolved.Resolved.{Resolved}
-use Rattle.types_assertions.specs.Made.{AreFitting}
-use Rattle.types_assertions.specs.Readings.{AllRead}
-use Rattle.types_assertions.specs.Resolved.{AreResolved}
-use Rattle.types_assertions.specs.Texts.{declarations_of, assertions_of}
+use Rattle.types_suites.specs.declared.resolved.Resolved.{Resolved}
+use Rattle.types_suites.specs.Made.{AreFitting}
+use Rattle.types_suites.specs.Readings.{AllRead}
+use Rattle.types_suites.specs.Resolved.{AreResolved}
+use Rattle.types_suites.specs.Texts.{declarations_of, assertions_of}
 
 -- The assertions of a text are resolved over its named sequences, and their sides weigh at most
 -- 127.

@@ -12,9 +12,9 @@ use Rattle.types_sequences.specs.declared.entry.Entry.{Entry}
 use Rattle.types_sequences.specs.Entries.{IsTheEntryOf}
 use Rattle.types_sequences.specs.Drafts.{Draft, IsWrittenOut}
 use Rattle.types.specs.declared.side.Side.{Side}
-use Rattle.types_assertions.specs.declared.resolved.Resolved.{Resolved}
-use Rattle.types_assertions.specs.Readings.{Dot}
-use Rattle.types_assertions.specs.Faults as faults
+use Rattle.types_suites.specs.declared.resolved.Resolved.{Resolved}
+use Rattle.types_suites.specs.Readings.{Dot}
+use Rattle.types_suites.specs.Faults as faults
 
 -- What a side's outline says with the names written out, of which these are the weight, up to 128,
 -- and what its form tells.

@@ -4,12 +4,12 @@ ghost use Rattle.std.specs.Prelude.{◌≡◌, map, IfOk, string_bytes};
 ghost use Rattle.parser_grammar.specs.Views.{path_of, item_of};
 ghost use Rattle.types_names.specs.Faults.{least};
 ghost use Rattle.types_names.specs.Scopes.{first_byte};
-ghost use Rattle.types_assertions.specs.Texts.{assertions_of, clocks_unlike, suite_clock};
+ghost use Rattle.types_suites.specs.Texts.{assertions_of, clocks_unlike, suite_clock};
 
 use parser_grammar::{ItemTree, Path};
 use std::alloc::{AllocError, Global};
-use types_faults::earlier;
 use types_names::path_string;
+use types_signals::earlier;
 
 /// The path of the first assertion's clock, and no text where there is no assertion.
 pub(crate) fn first_clock(alloc: Global, items: &[ItemTree]) -> Result<String, AllocError>

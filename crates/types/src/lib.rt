@@ -19,7 +19,7 @@
 //! Y9, Y5 and Y6, which are of antecedents and consequents.
 //!
 //! The definitions: which faults stand in a text, which is the first, and the suite that a text
-//! says are those of `types_assertions`, in its `specs/Faults.antt` (`IsFaultless`, `IsTypeFault`)
+//! says are those of `types_suites`, in its `specs/Faults.antt` (`IsFaultless`, `IsTypeFault`)
 //! and `specs/Suites.antt` (`IsSuite`); after them are `specs/Cycles.antt`, of sequences that reach
 //! themselves, and `specs/Sides.antt`, of what is known of antecedents and consequents. Scopes and
 //! the faults of expressions are those of `types_names`, and named sequences those of
@@ -39,5 +39,5 @@ mod suite;
 
 pub use assertions::{Assertion, Suite};
 pub use suite::check;
-pub use types_assertions::TypeFault;
 pub use types_names::{Names, PathWidths, Width, path_string};
+pub use types_suites::TypeFault;

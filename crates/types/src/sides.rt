@@ -8,8 +8,8 @@ use crate::side::Side;
 use assertions::HEAVIEST;
 use judging::takes_ticks;
 use std::alloc::{AllocError, Global};
-use types_assertions::Resolved;
 use types_sequences::Entry;
+use types_suites::Resolved;
 
 /// Whether what an entry is of matches a tick or more, if it weighs at most 127.
 fn entry_ticks(alloc: Global, entry: &Entry) -> Result<bool, AllocError>

@@ -12,15 +12,15 @@ ghost use Rattle.types_names.specs.Columns.{all_listed, file_signals, columns_of
 ghost use Rattle.types_names.specs.Faults.{file_faults};
 ghost use Rattle.types_names.specs.Views.{scope_of, columns_in};
 ghost use Rattle.types_sequences.specs.Placed.{ExtendsPlaces};
-ghost use Rattle.types_assertions.specs.Texts.{declarations_of, assertions_of, suite_clock};
-ghost use Rattle.types_assertions.specs.Readings.{Where, outlines_of};
-ghost use Rattle.types_assertions.specs.Faults.{Text, sides_of, consequents_of};
-ghost use Rattle.types_assertions.specs.Faults.{ClearTo, IsFaultless};
-ghost use Rattle.types_assertions.specs.Faults.{IsTypeFault};
+ghost use Rattle.types_suites.specs.Texts.{declarations_of, assertions_of, suite_clock};
+ghost use Rattle.types_suites.specs.Readings.{Where, outlines_of};
+ghost use Rattle.types_suites.specs.Faults.{Text, sides_of, consequents_of};
+ghost use Rattle.types_suites.specs.Faults.{ClearTo, IsFaultless};
+ghost use Rattle.types_suites.specs.Faults.{IsTypeFault};
 ghost use Rattle.types.specs.Sides.{AreWeighed, AreLight, AreKnownEntries};
-ghost use Rattle.types_assertions.specs.Suites.{IsSuite};
+ghost use Rattle.types_suites.specs.Suites.{IsSuite};
 ghost use Rattle.types.specs.Sides.{sides_in, consequents_in};
-ghost use Rattle.types_assertions.specs.Resolved.{HasBodies};
+ghost use Rattle.types_suites.specs.Resolved.{HasBodies};
 ghost use Rattle.types.specs.Resolved.{HasResolved};
 
 use crate::clocks::first_clock;
@@ -29,13 +29,13 @@ use crate::stages::{check_cycles, check_expressions, check_sides};
 use assertions::Suite;
 use parser_grammar::{File, ItemTree};
 use std::alloc::Global;
-use types_assertions::{
+use types_names::{PathWidths, Scope, SignalPaths};
+use types_sequences::{Entry, resolve};
+use types_signals::{columns_of, scope_for};
+use types_suites::{
     Resolved, TypeFault, all_resolved, assertions_of, bodies_of, counters_of, name_bytes,
     signals_of,
 };
-use types_faults::{columns_of, scope_for};
-use types_names::{PathWidths, Scope, SignalPaths};
-use types_sequences::{Entry, resolve};
 
 /// The entries of the named sequences, by the places of their declarations, if none reaches itself
 /// (Y8).

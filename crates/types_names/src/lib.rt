@@ -18,10 +18,10 @@
 //!
 //! The definitions: `specs/Scopes.antt` (what paths stand for), `specs/Asked.antt` (what a text
 //! asks of a dump, and its scope over one), `specs/Width.antt` (operators of the text, and own
-//! widths), `specs/Faults.antt` (where faults stand, found by `types_faults`), `specs/Columns.antt`
-//! (the signals that are read, listed by `types_faults`), `specs/Entries.antt` (lists in which
-//! each name stands once), `specs/Views.antt` (what `Names`, `Scope` and `SignalPaths` stand for).
-//! The trees of a text are those of `parser_grammar`.
+//! widths), `specs/Faults.antt` (where faults stand, found by `types_signals`),
+//! `specs/Columns.antt` (the signals that are read, listed by `types_signals`),
+//! `specs/Entries.antt` (lists in which each name stands once), `specs/Views.antt` (what `Names`,
+//! `Scope` and `SignalPaths` stand for). The trees of a text are those of `parser_grammar`.
 //!
 //! Not promised: that memory suffices, or that a name is declared once.
 #![tactic(auto)]

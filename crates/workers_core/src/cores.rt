@@ -12,7 +12,7 @@ use crate::step::{Reply, Step};
 use crate::team_size::TeamSize;
 use arrayvec::ArrayVec;
 use cycle_window::WindowSize;
-use machine_runs::Batch;
+use machine_batches::Batch;
 use signals::Decided;
 use std::alloc::{AllocError, Global};
 use std::marker::Model;

@@ -1,6 +1,6 @@
 use Rattle.std.proofs.Common.{◌⊎◌, inl, inr}
 use Rattle.vcd_reader.specs.Held.{variables_of}
-use Rattle.linting.specs.declared.front.Refusal.{Refusal}
+use Rattle.diagnostics.specs.declared.front.Refusal.{Refusal}
 use Rattle.cli_lint.specs.Refused.{IsAccepted, IsRefused}
 use Rattle.cli_lint.specs.Rests.{IsBare}
 use Rattle.cli_lint.proofs.FrontLaws.{less_known}

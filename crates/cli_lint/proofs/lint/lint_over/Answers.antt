@@ -1,5 +1,5 @@
 use Rattle.std.proofs.Common.{◌∙◌, List, ℕ, length, sym, ap, subst, inl, inr, refl}
-use Rattle.linting.specs.Items.{AreItemEnds}
+use Rattle.diagnostics.specs.Items.{AreItemEnds}
 use Rattle.cli_lint.proofs.lint.lint_over.Goals as goal
 
 pub returns-clause-told : goal.returns-clause-told

@@ -1,8 +1,8 @@
 use Rattle.std.proofs.Common.{rules, ◌≡◌, ◌∙◌, ◌++◌, ℕ, List, length, string_bytes, ap, subst}
 use Rattle.std.specs.Prelude.{max}
 use Rattle.std.proofs.lemmas.List.Sorted.{IsNonDecreasingBy-from_sort_by_key}
-use Rattle.linting.specs.declared.front.Refusal.{Refusal}
-use Rattle.linting.specs.Told.{total_text}
+use Rattle.diagnostics.specs.declared.front.Refusal.{Refusal}
+use Rattle.diagnostics.specs.Told.{total_text}
 use Rattle.cli_lint.specs.Tells.{TellsEach}
 use Rattle.cli_lint.proofs.refusals.text_of.Goals as goal
 

@@ -1,5 +1,5 @@
 use Rattle.std.proofs.Common.{string_bytes, subst, take}
-use Rattle.linting.specs.declared.front.Refusal.{Refusal}
+use Rattle.diagnostics.specs.declared.front.Refusal.{Refusal}
 use Rattle.cli_lint.specs.Tells.{AddsTold, TellsEach}
 use Rattle.cli_lint.proofs.TellLaws.{tells_none, tells_more}
 use Rattle.cli_lint.proofs.refusals.told_of.Goals as goal

@@ -1,5 +1,5 @@
 use Rattle.std.proofs.Common.{◌≡◌, map, take}
-use Rattle.laws_sections.specs.Firsts.{first_step}
+use Rattle.laws_automata.specs.Firsts.{first_step}
 use Rattle.compiler_sequences.proofs.first.first_blocks.Given as goal
 
 abbrev pub invariant-loop-block : goal.invariant-loop-block

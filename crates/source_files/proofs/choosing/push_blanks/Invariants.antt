@@ -1,5 +1,5 @@
 use Rattle.std.proofs.Common.{◌≡◌, ◌++◌, map, take}
-use Rattle.linting.specs.Blanked.{blank_for}
+use Rattle.diagnostics.specs.Blanked.{blank_for}
 use Rattle.source_files.proofs.choosing.push_blanks.Given as goal
 
 -- the bytes so far

@@ -1,0 +1,6 @@
+use Rattle.bytecode.specs.Programs.{data_of}
+use Rattle.machine_expressions.specs.Memory.{AreRows}
+use Rattle.tests_machine.proofs.outcome.run_over_rows.Given as goal
+
+abbrev pub invariant-loop-row : goal.invariant-loop-row
+invariant-loop-row l = AreRows (data_of l.program) l.widths l.ring
