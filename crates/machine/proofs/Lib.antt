@@ -12,4 +12,5 @@ pub mod SampleLaws
 pub mod MemoryLaws
 pub mod OwnLaws
 pub mod AgainLaws
+pub mod ToldLaws
 pub mod SteadyLaws

@@ -1,6 +1,8 @@
 //! What is live between clocks.
 
 ghost use Rattle.std.specs.Prelude.{◌≡◌, ◌+◌, ◌^◌, ◌<◌, ◌≤◌, ◌++◌, ◌∷◌, [], Some, length, IsTrue};
+ghost use Rattle.std.specs.Prelude.{IfSome, List};
+ghost use Rattle.signals.specs.declared.verdict.Decided.{Decided};
 ghost use Rattle.bytecode.specs.Programs.{data_of};
 ghost use Rattle.verifier.specs.Programs.{IsAccepted};
 ghost use Rattle.machine_definition.specs.Clocks.{disabling};
@@ -9,25 +11,30 @@ ghost use Rattle.machine.specs.Code.{AreBasesOf};
 ghost use Rattle.machine.specs.Live.{attempts_in, obligations_in, standing_of, new_attempt};
 ghost use Rattle.machine.specs.Live.{with_new};
 ghost use Rattle.machine.specs.Live.{live_budget, ArePoolsOf, HasAdvanced};
+ghost use Rattle.machine.specs.Told.{AreOutcomesOf, IsTold};
 
 use crate::attempts::{disable_attempts, settle_attempts, visit_attempts};
 use crate::bases::Bases;
 use crate::obligations::{drop_obligations, visit_obligations};
+use crate::outcomes::{Outcomes, Told, number_of};
 use crate::own::{
     disable_own_attempt, own_attempt, settle_own_attempt, visit_own_attempt, visit_own_obligation,
 };
+use crate::repeats::verdict_at;
 use arrayvec::ArrayVec;
 use bytecode::Program;
 use machine_memory::Pool;
 use machine_visits::{AttemptRecord, ObligationRecord};
 use signals::Decided;
 
-/// The live attempts and obligations, and the number of clocks that were run.
+/// The live attempts and obligations, the number of clocks that were run, and what clocks with
+/// nothing live came to.
 #[derive(Drop)]
 pub(crate) struct Live {
     pub(crate) now: u64,
     pub(crate) attempts: Pool<AttemptRecord>,
     pub(crate) obligations: Pool<ObligationRecord>,
+    pub(crate) outcomes: Outcomes,
 }
 
 /// Whether the atoms disable the clock.
@@ -107,6 +114,7 @@ impl Live {
             left.old out.old.items
             (standing_of self.new.now self.new.attempts self.new.obligations)
             left.new out.new.items }
+        ensures same { self.new.outcomes ≡ self.old.outcomes }
     {
         open_attempt(program, self.now, &mut self.attempts);
         if is_disabled(program, atoms) {
@@ -151,6 +159,7 @@ impl Live {
             left.old out.old.items
             (standing_of self.new.now self.new.attempts self.new.obligations)
             left.new out.new.items }
+        ensures same { self.new.outcomes ≡ self.old.outcomes }
     {
         let now = self.now;
         if is_disabled(program, atoms) {
@@ -165,6 +174,108 @@ impl Live {
         let fates = visit_own_obligation(visit.accepted, program, after, atoms, now, opened, left);
         settle_own_attempt(attempt, fates, now, &mut self.attempts, left, out);
         self.now += 1;
+    }
+
+    /// What a clock came to, where so much of the budget was left before it and after it, and it
+    /// told this last; none where something is live after it.
+    fn told_alone(&self, began: u64, left: u64, out: &[Decided]) -> Option<Told>
+        ensures idle { IfSome result (λ _. (self.entry.now.attempts.live ≡ [])
+            × (self.entry.now.obligations.live ≡ [])) }
+        ensures budget { IfSome result (λ told. (told.began ≡ began) × (told.left ≡ left)) }
+        ensures last { IfSome result (λ told. (before : List Decided) (last : Decided)
+            → out.now ≡ before ++ last ∷ [] → told.verdict ≡ last.verdict) }
+    {
+        if !self.is_idle() || out.is_empty() {
+            return None;
+        }
+        Some(Told {
+            verdict: out[out.len() - 1].verdict,
+            began,
+            left,
+        })
+    }
+
+    /// A clock before which nothing is live, by what is noted of one over the same atoms.
+    fn told_clock(
+        &mut self,
+        program: &Program,
+        atoms: &[bool],
+        told: Told,
+        left: &mut u64,
+        out: &mut ArrayVec<Decided, 1024>,
+    )
+        requires accepted { IsAccepted (data_of program.now) }
+        requires more { self.old.now + 1 < 2 ^ 64 }
+        requires no_attempt { self.old.attempts.live ≡ [] }
+        requires no_obligation { self.old.obligations.live ≡ [] }
+        requires told { IsTold (data_of program.now) atoms.now told }
+        requires began { told.began ≡ left.old }
+        requires room { length out.old.items + (data_of program.now).header.limits.attempts ≤ 1024 }
+        ensures pools { (self.new.attempts ≡ self.old.attempts)
+            × (self.new.obligations ≡ self.old.obligations) }
+        ensures fewer { left.new ≤ left.old }
+        ensures advanced { HasAdvanced (data_of program.now)
+            (standing_of self.old.now self.old.attempts self.old.obligations) atoms.now
+            left.old out.old.items
+            (standing_of self.new.now self.new.attempts self.new.obligations)
+            left.new out.new.items }
+        ensures same { self.new.outcomes ≡ self.old.outcomes }
+    {
+        let _ = program;
+        let _ = atoms;
+        let now = self.now;
+        *left = told.left;
+        out.push(Decided {
+            start: now,
+            verdict: verdict_at(now, told.verdict),
+        });
+        self.now = now + 1;
+    }
+
+    /// A clock before which nothing is live: by what is noted of one over the same atoms, or else
+    /// by visits, of which it is noted.
+    fn idle_clock(
+        &mut self,
+        program: &Program,
+        bases: &Bases,
+        atoms: &[bool],
+        left: &mut u64,
+        out: &mut ArrayVec<Decided, 1024>,
+    )
+        requires accepted { IsAccepted (data_of program.now) }
+        requires bases { AreBasesOf (data_of program.now) bases.now }
+        requires atoms { length atoms.now ≡ (data_of program.now).header.atoms }
+        requires more { self.old.now + 1 < 2 ^ 64 }
+        requires pools { ArePoolsOf (data_of program.now)
+            self.old.attempts.cap self.old.obligations.cap }
+        requires no_attempt { self.old.attempts.live ≡ [] }
+        requires no_obligation { self.old.obligations.live ≡ [] }
+        requires outcomes { AreOutcomesOf (data_of program.now) self.old.outcomes }
+        requires budget { live_budget (data_of program.now) ≤ left.old }
+        requires room { length out.old.items + (data_of program.now).header.limits.attempts ≤ 1024 }
+        ensures pools { ArePoolsOf (data_of program.now)
+            self.new.attempts.cap self.new.obligations.cap }
+        ensures fewer { left.new ≤ left.old }
+        ensures advanced { HasAdvanced (data_of program.now)
+            (standing_of self.old.now self.old.attempts self.old.obligations) atoms.now
+            left.old out.old.items
+            (standing_of self.new.now self.new.attempts self.new.obligations)
+            left.new out.new.items }
+        ensures outcomes { AreOutcomesOf (data_of program.now) self.new.outcomes }
+    {
+        let Some(number) = number_of(atoms) else {
+            self.own_clock(program, bases, atoms, left, out);
+            return;
+        };
+        if let Some(told) = self.outcomes.at(number, *left) {
+            self.told_clock(program, atoms, told, left, out);
+            return;
+        }
+        let began = *left;
+        self.own_clock(program, bases, atoms, left, out);
+        if let Some(told) = self.told_alone(began, *left, out.as_slice()) {
+            self.outcomes.note(program, atoms, number, told);
+        }
     }
 
     /// A clock after its sample code, which gave these atoms: it adds what it decides to `out`,
@@ -185,6 +296,7 @@ impl Live {
             self.old.attempts.cap self.old.obligations.cap }
         requires reached { IsReached (data_of program.now)
             (standing_of self.old.now self.old.attempts self.old.obligations) }
+        requires outcomes { AreOutcomesOf (data_of program.now) self.old.outcomes }
         requires budget { live_budget (data_of program.now) ≤ left.old }
         requires room { length out.old.items + (data_of program.now).header.limits.attempts ≤ 1024 }
         ensures pools { ArePoolsOf (data_of program.now)
@@ -195,9 +307,10 @@ impl Live {
             left.old out.old.items
             (standing_of self.new.now self.new.attempts self.new.obligations)
             left.new out.new.items }
+        ensures outcomes { AreOutcomesOf (data_of program.now) self.new.outcomes }
     {
         if self.is_idle() {
-            self.own_clock(program, bases, atoms, left, out);
+            self.idle_clock(program, bases, atoms, left, out);
             return;
         }
         self.full_clock(program, bases, atoms, left, out);

@@ -12,6 +12,7 @@ ghost use Rattle.machine.specs.Again.{newest_in};
 
 use crate::bases::Bases;
 use crate::live::Live;
+use crate::outcomes::Outcomes;
 use crate::sample_code::SampleCode;
 use arrayvec::ArrayVec;
 use bytecode::Program;
@@ -44,10 +45,12 @@ fn live_at_first(alloc: Global, program: &Program) -> Result<Live, AllocError>
 {
     let attempts = Pool::new(alloc, program.limits.attempts as usize)?;
     let obligations = Pool::new(alloc, program.limits.obligations as usize)?;
+    let outcomes = Outcomes::new(alloc, program)?;
     Ok(Live {
         now: 0,
         attempts,
         obligations,
+        outcomes,
     })
 }
 

@@ -30,7 +30,8 @@ use Rattle.std.specs.List.{range_with_len}
 use Rattle.std.proofs.lemmas.List.{append-nil, replicate_more, replicate-append-replicate}
 use Rattle.vcd_reader.specs.Variables.{size_of}
 use Rattle.machine.specs.Running.{Running, IsOneClock}
-use Rattle.machine.specs.Again.{AreAgain, verdict_at, told_at, told_from}
+use Rattle.machine.specs.Told.{verdict_at, told_at}
+use Rattle.machine.specs.Again.{AreAgain, told_from}
 use Rattle.machine_batches.proofs.CountLaws.{CountsAll, clock-counts}
 use Rattle.signals.specs.declared.verdict.Verdict.{Verdict}
 use Rattle.signals.specs.declared.verdict.Verdict.TheVariants.{Holds, Vacuous, Fails, Disabled, Open}

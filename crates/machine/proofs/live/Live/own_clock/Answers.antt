@@ -5,6 +5,7 @@ use Rattle.machine_definition.specs.Clocks.{Attempt, Obligation, Standing, visit
 use Rattle.machine_visits.specs.Records.{attempt_of, made_by}
 use Rattle.machine.specs.Live.{attempts_in, standing_of, new_attempt, with_new}
 use Rattle.machine.specs.Own.{own_visits}
+use Rattle.machine.specs.Told.{nothing_at}
 use Rattle.machine.proofs.LessLaws.{visit_attempts-less, visit_obligations-less, settle_all-less, disable_all-less}
 use Rattle.machine.proofs.ClockLaws as laws
 use Rattle.machine.proofs.OwnLaws as own
@@ -21,7 +22,7 @@ returns-then-is_disabled-clause-advanced c =
     let p = data_of c.args.program.now in
     let now = c.args.self.now.now in
     let d = c.disable_own_attempt.ensures (new_attempt p now) refl in
-    let same : standing_of now c.args.self.now.attempts c.args.self.now.obligations ≡ own.nothing_at now =
+    let same : standing_of now c.args.self.now.attempts c.args.self.now.obligations ≡ nothing_at now =
     own.none-stands now c.args.self.now.attempts.live c.args.self.now.obligations.live c.requires.no_attempt
     c.requires.no_obligation in
     record {
@@ -29,7 +30,7 @@ returns-then-is_disabled-clause-advanced c =
       told = d.told;
       came =
           ap (λ (s : Standing). clock_after p s c.args.atoms.now c.args.left.now) same
-          ∙ laws.disabled p c.requires.accepted (own.nothing_at now) (own.nothing-reached p now) c.args.atoms.now
+          ∙ laws.disabled p c.requires.accepted (nothing_at now) (own.nothing-reached p now) c.args.atoms.now
           c.requires.atoms c.args.left.now c.requires.budget d.decided c.disable_own_attempt.new.left
           c.if-is_disabled.ensures d.came
           ∙ ap (λ (s : Standing). done (record { state = s; decided = d.decided }) c.disable_own_attempt.new.left)
@@ -41,7 +42,7 @@ pub visit_own_obligation-fates-requires-clause-fits : goal.visit_own_obligation-
 visit_own_obligation-fates-requires-clause-fits c =
     let p = data_of c.args.program.now in
     let now = c.args.self.now.now in
-    laws.affords_c p c.requires.accepted (own.nothing_at now) (own.nothing-reached p now) c.args.atoms.now
+    laws.affords_c p c.requires.accepted (nothing_at now) (own.nothing-reached p now) c.args.atoms.now
     c.requires.atoms c.args.left.now c.requires.budget (own_visits p now c.visit_own_attempt-visit.result)
     c.visit_own_attempt-visit.new.left (c.visit_own_attempt-visit.ensures now)
 
@@ -50,7 +51,7 @@ settle_own_attempt-requires-clause-fits c =
     let p = data_of c.args.program.now in
     let now = c.args.self.now.now in
     let v = c.visit_own_obligation-fates.ensures.visits in
-    laws.affords_s p c.requires.accepted (own.nothing_at now) (own.nothing-reached p now) c.args.atoms.now
+    laws.affords_s p c.requires.accepted (nothing_at now) (own.nothing-reached p now) c.args.atoms.now
     c.requires.atoms c.args.left.now c.requires.budget (own_visits p now c.visit_own_attempt-visit.result)
     c.visit_own_attempt-visit.new.left (c.visit_own_attempt-visit.ensures now) v.fs
     c.visit_own_obligation-fates.new.left v.came
@@ -79,7 +80,7 @@ returns-clause-advanced c =
     let visit = c.visit_own_attempt-visit.result in
     let v = c.visit_own_obligation-fates.ensures.visits in
     let t = c.settle_own_attempt.ensures.settled in
-    let same : standing_of now c.args.self.now.attempts c.args.self.now.obligations ≡ own.nothing_at now =
+    let same : standing_of now c.args.self.now.attempts c.args.self.now.obligations ≡ nothing_at now =
     own.none-stands now c.args.self.now.attempts.live c.args.self.now.obligations.live c.requires.no_attempt
     c.requires.no_obligation in
     let attempt : attempt_of c.visited_record-attempt.result ≡ visited now (new_attempt p now) (made_by visit) =
@@ -90,7 +91,7 @@ returns-clause-advanced c =
       told = t.told;
       came =
           ap (λ (s : Standing). clock_after p s c.args.atoms.now c.args.left.now) same
-          ∙ laws.advanced p c.requires.accepted (own.nothing_at now) (own.nothing-reached p now) c.args.atoms.now
+          ∙ laws.advanced p c.requires.accepted (nothing_at now) (own.nothing-reached p now) c.args.atoms.now
           c.requires.atoms c.args.left.now c.requires.budget (own_visits p now visit)
           c.visit_own_attempt-visit.new.left (c.visit_own_attempt-visit.ensures now) v.fs
           c.visit_own_obligation-fates.new.left v.came c.if-is_disabled.ensures

@@ -101,6 +101,7 @@ returns-clause-memory c =
         laws.few-live p c.requires.accepted new reached,
       );
       reached = reached;
+      outcomes = c.clock.ensures.outcomes;
     }
 
 pub returns-clause-clock : goal.returns-clause-clock

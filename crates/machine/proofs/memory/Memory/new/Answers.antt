@@ -67,4 +67,5 @@ returns-clause-memory c =
           subst (IsReached p)
           (λ j. record { now = sym first.now j; attempts = sym attempts j; obligations = sym obligations j })
           (record { attempts = omega arith; obligations = omega arith });
+      outcomes = first.outcomes;
     }
