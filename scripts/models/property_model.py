@@ -15,6 +15,8 @@ def values_of(boolean, rows):
         return [row[boolean[1]] != 0 for row in rows]
     if kind == 'constant':
         return [boolean[1] != 0 for _ in rows]
+    if kind == 'test':  # a Python function of the clock
+        return [bool(boolean[1](clock)) for clock in range(len(rows))]
     parts = [values_of(part, rows) for part in boolean[1:] if isinstance(part, tuple)]
     if kind == 'no':
         return [not one for one in parts[0]]
@@ -159,6 +161,29 @@ class Model:
             if not keeps:
                 return False
         return True
+
+    def asks(self, tree, tick):
+        """Whether a good property isn't vacuous from a tick on, over the whole trace (16.14.8)."""
+        kind, last = tree[0], len(self.rows)
+        if tick >= last or kind in ('sequence', 'until', 'until_with'):
+            return True
+        if kind == 'not':
+            return self.asks(tree[1], tick)
+        if kind in ('and', 'or'):
+            return self.asks(tree[1], tick) or self.asks(tree[2], tick)
+        if kind == 'implication':
+            ends = self.ends(tree[1], tick, last, False)
+            return any(self.asks(tree[2], end - 1) for end in ends if end > tick)
+        if kind == 'next':
+            return self.asks(tree[2], tick + tree[1])
+        if kind in ('always', 'eventually'):
+            most = last - tick if tree[2] is None else tree[2]
+            return any(self.asks(tree[3], tick + later) for later in range(tree[1], most + 1))
+        if kind == 'implies':
+            return self.satisfied(tree[1], tick, last, False) and self.asks(tree[1], tick) and self.asks(tree[2], tick)
+        if kind == 'iff':
+            return self.asks(tree[1], tick) or self.asks(tree[2], tick)
+        return self.asks(derived(tree), tick)
 
     def outcome(self, tree, start, seen):
         if not self.satisfied(tree, start, seen, True):

@@ -1,12 +1,15 @@
 #!/usr/bin/env python3
-"""Imports files that were cut or mangled: scripts/random/mangled_files.py SVAMON [FILES [SEED]]
+"""Imports files that were cut or mangled: scripts/random/mangled_files.py SVAMON [FILES [SEED [PROCESSES]]]
 
 Files of random_import.py lose, repeat, swap or get bytes and tokens. Each import has to end with status 0, 1 or 2, to
 tell each refusal with a line and a column of the file, and to write what `check` reads over a dump of the signals.
+Seeds and processes are as there.
 """
+import os
 import pathlib
 import re
 import sys
+import tempfile
 
 import random_import as drawn
 
@@ -63,20 +66,31 @@ def faults_of(program, text, dump):
     return None
 
 
+def run_of(job):
+    """What is wrong with the first file that is, of those of some seeds; or None."""
+    program, seeds = job
+    with tempfile.TemporaryDirectory(prefix='mangled-') as folder:
+        os.chdir(folder)
+        for seed in seeds:
+            draw.seed(seed)
+            dump = pathlib.Path('mangled.vcd')
+            dump.write_text(drawn.dump_of(drawn.random_rows()))
+            text = mangled(drawn.file_of(draw.randint(1, 4))[0])
+            wrong = faults_of(program, text, dump)
+            if wrong:
+                os.chdir('/')
+                return f'the file of seed {seed}: {wrong}\n{text}'
+        os.chdir('/')
+    return None
+
+
 def main():
-    if len(sys.argv) not in (2, 3, 4):
-        sys.exit(__doc__.splitlines()[0])
-    program, files, seed = sys.argv[1], *(int(word) for word in (sys.argv[2:] + ['200', '1'][len(sys.argv) - 2:]))
-    draw.seed(seed)
-    dump = pathlib.Path('mangled.vcd')
-    dump.write_text(drawn.dump_of(drawn.random_rows()))
-    for number in range(files):
-        text = mangled(drawn.file_of(draw.randint(1, 4))[0])
-        wrong = faults_of(program, text, dump)
+    files, seed, processes = drawn.numbers(sys.argv, [200, 1, 1])
+    for wrong in drawn.shared(run_of, os.path.realpath(sys.argv[1]), files, seed, processes):
         if wrong:
-            print(f'file {number} of seed {seed}: {wrong}\n{text}')
+            print(wrong)
             return 1
-    print(f'{files} files of seed {seed}: all answered')
+    print(f'{files} files from seed {seed}: all answered')
     return 0
 
 

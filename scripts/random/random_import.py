@@ -1,27 +1,183 @@
 #!/usr/bin/env python3
-"""Compares svamon with a model of properties: scripts/random/random_import.py SVAMON [FILES [SEED]]
+"""Compares svamon with a model of properties: scripts/random/random_import.py SVAMON [FILES [SEED [PROCESSES]]]
 
 It draws files of assertions in SystemVerilog, of all temporal forms, with declarations, arguments, defaults, parameters
-and macros, and dumps of four signals. Each file is imported, and what is written is checked over the dump. Of each
-assertion that is written the failed attempts with their clocks, and how many are disabled, open, and neither of these,
-must be those of property_model.py, which knows the trees that the texts were made of.
+and macros, and dumps of four signals of one bit and three of more. Each file is imported, and what is written is
+checked over the dump. Of each assertion that is written the failed attempts with their clocks, and how many are
+disabled, open, and neither of these, must be those of property_model.py, which knows the trees that the texts were made
+of. Some booleans are expressions of several bits; their values are those of expression_model.py.
+
+Each file has a seed of its own: SEED, SEED + 1, .., so that processes may share them, and a file that differs can be
+drawn again alone. Each process works in a folder of its own.
 """
 import collections
+import multiprocessing
+import os
 import pathlib
 import random
 import re
 import subprocess
 import sys
+import tempfile
 
 sys.path.insert(0, str(pathlib.Path(__file__).resolve().parents[1] / 'models'))
+from expression_model import Values, is_unsigned  # noqa: E402
 from property_model import Model  # noqa: E402
 
 draw = random.Random()
 CLOCKS, BOUND, SECONDS = 12, 30, 60
 SIGNALS = 'abcd'
+WIDTHS = {'a': 1, 'b': 1, 'c': 1, 'd': 1, 'u': 4, 'v': 8, 'w': 13}
+
+
+def number():
+    """A literal, sized or not."""
+    width = draw.choice([1, 2, 4, 8])
+    value = draw.randrange(1 << width)
+    return ('sized', width, value) if draw.randrange(3) else ('number', value)
+
+
+def operand(depth):
+    """An expression of any width (IEEE 1800-2017, 11.4)."""
+    name = ('name', draw.choice('aubvvw'))
+    if depth == 0 or draw.randrange(5) == 0:
+        return name if draw.randrange(4) else number()
+    part = lambda: operand(depth - 1)
+    kind = draw.choice(['infix', 'infix', 'infix', 'flip', 'minus', 'shift', 'choice', 'concat', 'copies', 'bits',
+                        'part', 'index', 'past', 'reduce', 'truth', 'fill'])
+    size = WIDTHS[name[1]]
+    if kind == 'infix':
+        return ('infix', draw.choice(['+', '-', '&', '|', '^', '~^']), part(), part())
+    if kind in ('flip', 'minus'):
+        return (kind, part())
+    if kind == 'shift':
+        return ('shift', draw.choice(['<<', '>>', '<<<', '>>>']), unsigned(depth - 1), small())
+    if kind == 'choice':
+        return ('choice', truth(depth - 1), part(), part())
+    if kind == 'concat':
+        return ('concat', tuple(closed(depth - 1) for _ in range(draw.randint(1, 3))))
+    if kind == 'copies':
+        return ('copies', draw.randint(1, 3), closed(depth - 1))
+    if kind in ('bits', 'part') and size > 1:
+        low = draw.randrange(size)
+        high = draw.randrange(low, size)
+        return ('bits', name[1], high, low) if kind == 'bits' else ('part', name[1], low, high - low + 1)
+    if kind == 'index' and size > 1:
+        return ('index', name[1], small())
+    if kind == 'past':
+        return ('past', draw.randint(1, 3), closed(depth - 1))
+    if kind == 'reduce':
+        return ('reduce', draw.choice(['&', '|', '^', '~&', '~|', '~^']), closed(depth - 1))
+    return truth(depth - 1) if kind == 'truth' else name
+
+
+def unsigned(depth):
+    made = operand(depth)
+    return made if is_unsigned(made) else ('name', 'v')
+
+
+def closed(depth):
+    """One that has a width of its own: no literal without a size may stand in a concatenation (11.4.12)."""
+    return ('concat', (('name', 'u'),)) if depth == 0 else ('bits', 'v', 6, 1) if draw.randrange(3) == 0 else \
+        ('name', draw.choice('abuvw'))
+
+
+def small():
+    return ('name', 'u') if draw.randrange(2) else ('number', draw.randrange(6))
+
+
+def truth(depth):
+    """An expression of one bit."""
+    part = lambda: operand(max(depth - 1, 0))
+    kind = draw.choice(['compare', 'compare', 'compare', 'inside', 'wild', 'both', 'any', 'lacks', 'onehot', 'count',
+                        'rose', 'fell', 'stable'])
+    if kind == 'compare':
+        first, second = part(), draw.choice([part(), part(), ('fill', draw.randrange(2))])
+        first = first if is_unsigned(first) or is_unsigned(second) and second[0] != 'fill' else ('name', 'w')
+        return ('compare', draw.choice(['==', '!=', '<', '<=', '>', '>=', '===', '!==']), first, second)
+    if kind == 'inside':
+        items = [number() if draw.randrange(2) else ('range', *(sorted_numbers())) for _ in range(draw.randint(1, 3))]
+        return ('inside', unsigned(max(depth - 1, 0)), tuple(items))
+    if kind == 'wild':
+        return ('wild', unsigned(max(depth - 1, 0)), ''.join(draw.choice('01?') for _ in range(draw.randint(1, 8))))
+    if kind in ('both', 'any'):
+        return (kind, part(), part())
+    if kind == 'lacks':
+        return (kind, part())
+    if kind == 'onehot':
+        return (kind, draw.randrange(2), ('name', draw.choice('uvw')))
+    if kind == 'count':
+        return ('compare', draw.choice(['==', '<', '>=']), ('count', ('name', draw.choice('uvw'))),
+                ('number', draw.randrange(6)))
+    return (kind, draw.choice('abuvw'))
+
+
+def sorted_numbers():
+    return [('number', value) for value in sorted(draw.randrange(40) for _ in range(2))]
+
+
+def text_of(tree):
+    """The text of an expression, each part in brackets."""
+    kind = tree[0]
+    boxed = lambda part: text_of(part) if part[0] in ('name', 'sized', 'number') else f'({text_of(part)})'
+    if kind == 'name':
+        return tree[1]
+    if kind == 'number':
+        return str(tree[1])
+    if kind == 'sized':
+        base, digits = draw.choice([('d', str(tree[2])), ('h', f'{tree[2]:x}'), ('b', f'{tree[2]:b}')])
+        return f"{tree[1]}'{base}{digits}"
+    if kind == 'fill':
+        return f"'{tree[1]}"
+    if kind in ('infix', 'shift', 'compare'):
+        return f'{boxed(tree[2])} {tree[1]} {boxed(tree[3])}'
+    if kind in ('both', 'any'):
+        return f'{boxed(tree[1])} {"&&" if kind == "both" else "||"} {boxed(tree[2])}'
+    if kind in ('flip', 'minus', 'lacks'):
+        return {'flip': '~', 'minus': '-', 'lacks': '!'}[kind] + boxed(tree[1])
+    if kind == 'reduce':
+        return tree[1] + boxed(tree[2])
+    if kind == 'choice':
+        return f'{boxed(tree[1])} ? {boxed(tree[2])} : {boxed(tree[3])}'
+    if kind == 'concat':
+        return '{' + ', '.join(map(text_of, tree[1])) + '}'
+    if kind == 'copies':
+        return f'{{{tree[1]}{{{text_of(tree[2])}}}}}'
+    if kind == 'bits':
+        return f'{tree[1]}[{tree[2]}]' if tree[2] == tree[3] else f'{tree[1]}[{tree[2]}:{tree[3]}]'
+    if kind == 'part':
+        if draw.randrange(2):
+            return f'{tree[1]}[{tree[2]} +: {tree[3]}]'
+        return f'{tree[1]}[{tree[2] + tree[3] - 1} -: {tree[3]}]'
+    if kind == 'index':
+        return f'{tree[1]}[{text_of(tree[2])}]'
+    if kind == 'inside':
+        return f'{boxed(tree[1])} inside {{{", ".join(map(item_text, tree[2]))}}}'
+    if kind == 'wild':
+        return f"{boxed(tree[1])} ==? {len(tree[2])}'b{tree[2]}"
+    if kind == 'past':
+        return f'$past({text_of(tree[2])}, {tree[1]})'
+    name = {'count': '$countones', 'rose': '$rose', 'fell': '$fell', 'stable': '$stable'}.get(kind)
+    name = name or ('$onehot' if tree[1] else '$onehot0')
+    return f'{name}({tree[1] if kind in ("rose", "fell", "stable") else text_of(tree[-1])})'
+
+
+def item_text(item):
+    return f'[{text_of(item[1])}:{text_of(item[2])}]' if item[0] == 'range' else text_of(item)
+
+
+def with_values(tree, values):
+    """A tree whose expressions are functions of the clock."""
+    if isinstance(tree, tuple):
+        if tree and tree[0] == 'expression':
+            return ('test', lambda clock: values.alone(tree[1], clock))
+        return tuple(with_values(part, values) for part in tree)
+    return tree
 
 
 def boolean(depth=2):
+    if draw.randrange(6) == 0:
+        return ('expression', truth(2))
     if depth == 0 or draw.randrange(3):
         return ('signal', draw.choice(SIGNALS))
     kind = draw.choice(['no', 'no', 'both', 'any', 'past', 'constant'])
@@ -41,8 +197,8 @@ def sequence(depth, open_ended=True):
     if depth == 0 or draw.randrange(4) == 0:
         return ('boolean', boolean())
     part = lambda: sequence(depth - 1, open_ended)
-    kind = draw.choice(['delay', 'delay', 'lead', 'repeat', 'repeat', 'or', 'and', 'throughout', 'intersect', 'within',
-                        'goto', 'nonconsecutive'])
+    kind = draw.choice(['delay', 'delay', 'lead', 'repeat', 'repeat', 'or', 'and', 'throughout', 'intersect',
+                        'within', 'goto', 'nonconsecutive'])
     if kind == 'delay':
         low, high = counts(0, 3)
         return ('delay', part(), low, None if open_ended and draw.randrange(12) == 0 else high, part())
@@ -94,6 +250,8 @@ class Writer:
         kind = one[0]
         if kind == 'signal':
             return one[1]
+        if kind == 'expression':
+            return text_of(one[1])
         if kind == 'constant':
             return f"1'b{one[1]}"
         if kind == 'no':
@@ -205,7 +363,8 @@ def booleans_of(one):
     found = []
     for part in one[1:]:
         if isinstance(part, tuple):
-            found += [part] if part[0] in ('signal', 'no', 'both', 'any', 'past') else booleans_of(part)
+            if part and part[0] != 'expression':
+                found += [part] if part[0] in ('signal', 'no', 'both', 'any', 'past') else booleans_of(part)
     return found
 
 
@@ -234,25 +393,33 @@ def file_of(count):
     for other in others:
         lines.insert(draw.randint(0, len(lines)), other)
     if draw.randrange(2):
-        lines = ['module checks(input logic clk, a, b, c, d);'] + lines + ['endmodule']
+        ports = ', '.join(f'input logic [{WIDTHS[name] - 1}:0] {name}' for name in 'uvw')
+        lines = [f'module checks(input logic clk, a, b, c, d, {ports});'] + lines + ['endmodule']
     return '\n'.join(lines) + '\n', [(name, body, disable or default) for name, body, disable, _ in made]
+
+
+def drawn_value(size):
+    """A value of so many bits, often a small or a large one."""
+    value = draw.choice([draw.randrange(1 << size), draw.randrange(4), (1 << size) - 1])
+    return value % (1 << size)
 
 
 def random_rows():
     rows = []
     for _ in range(CLOCKS):
         stays = rows and draw.randrange(3) == 0
-        rows.append({name: rows[-1][name] if stays else draw.randrange(2) for name in SIGNALS})
+        rows.append({name: rows[-1][name] if stays else drawn_value(size) for name, size in WIDTHS.items()})
     return rows
 
 
 def dump_of(rows):
-    codes = dict(zip(SIGNALS, 'ABCD'))
+    codes = dict(zip(WIDTHS, 'ABCDEFG'))
+    spans = {name: '' if size == 1 else f' [{size - 1}:0]' for name, size in WIDTHS.items()}
     text = '$timescale 1ns $end\n$scope module tb $end\n$var wire 1 ! clk $end\n'
-    text += ''.join(f'$var wire 1 {code} {name} $end\n' for name, code in codes.items())
+    text += ''.join(f'$var wire {WIDTHS[name]} {code} {name}{spans[name]} $end\n' for name, code in codes.items())
     text += '$upscope $end\n$enddefinitions $end\n#0\n0!\n'
     for clock, row in enumerate(rows):
-        text += f'#{10 * clock + 2}\n' + ''.join(f'{row[name]}{code}\n' for name, code in codes.items())
+        text += f'#{10 * clock + 2}\n' + ''.join(f'b{row[name]:b} {code}\n' for name, code in codes.items())
         text += f'#{10 * clock + 5}\n1!\n#{10 * clock + 10}\n0!\n'
     return text
 
@@ -271,7 +438,8 @@ def found_in(report):
 
 
 def wanted_of(rows, body, disable):
-    model = Model(rows)
+    model, values = Model(rows), Values(rows, WIDTHS)
+    body, disable = with_values(body, values), with_values(disable, values)
     verdicts = [model.verdict(body, disable, start) for start in range(len(rows))]
     fails = {(start, clock) for start, (kind, clock) in enumerate(verdicts) if kind == 'fails'}
     return [fails] + [sum(1 for kind, _ in verdicts if kind == one) for one in ('disabled', 'open', 'good')]
@@ -285,45 +453,75 @@ def ran(*words):
 def compared(program, text, taken, codes):
     """What differs, and how many attempts were compared."""
     rows = random_rows()
-    file, written, dump = (pathlib.Path('random_import.' + end) for end in ('sv', 'sva', 'vcd'))
+    file, dump = pathlib.Path('random_import.sv'), pathlib.Path('random_import.vcd')
     file.write_text(text)
     dump.write_text(dump_of(rows))
-    out, messages, status = ran(program, 'import', str(file), '--scope', 'tb', '--bound', str(BOUND))
+    words = ['--scope', 'tb', '--bound', str(BOUND)]
+    report, messages, status = ran(program, 'check', '--vcd', str(dump), '--sv', str(file), *words)
     refused = dict(re.findall(r'(?m)^\S+: refused (\S+) (\w+):', messages))
     codes.update(refused.values())
-    if status != (2 if len(refused) == len(taken) else 1 if refused else 0):
-        return f'status {status}\n{messages}', 0
-    if status == 2:
+    if status == 2 and len(refused) == len(taken):
         return None, 0
-    written.write_text(out)
-    report, fault, status = ran(program, 'check', '--vcd', str(dump), '--sva', str(written))
-    if status > 1:
-        return f'check refuses: {fault}{out}', 0
+    if status != 2 if refused else status > 1:
+        return f'status {status}\n{messages}', 0
     found = found_in(report)
     if sorted(found) != sorted(name for name, *_ in taken if name not in refused):
-        return f'written: {sorted(found)}, refused: {refused}', 0
+        return f'written: {sorted(found)}, refused: {refused}\n{messages}', 0
     for name, body, disable in taken:
         if name in found and found[name] != (wanted := wanted_of(rows, body, disable)):
+            out = ran(program, 'import', str(file), '--vcd', str(dump), *words)[0]
             return f'{name}: {found[name]}, not {wanted}\n{body}\n{out}{messages}{dump_of(rows)}', 0
     return None, len(found) * len(rows)
 
 
-def main():
-    if len(sys.argv) not in (2, 3, 4):
+def run_of(job):
+    """Files of some seeds: what differs first, and how many assertions, refusals and attempts there were."""
+    program, seeds = job
+    assertions, attempts, codes = 0, 0, collections.Counter()
+    with tempfile.TemporaryDirectory(prefix='random-import-') as folder:
+        os.chdir(folder)
+        for seed in seeds:
+            draw.seed(seed)
+            text, taken = file_of(draw.randint(1, 8))
+            assertions += len(taken)
+            wrong, compared_now = compared(program, text, taken, codes)
+            attempts += compared_now
+            if wrong:
+                os.chdir('/')
+                return f'the file of seed {seed} differs: {wrong}\n{text}', assertions, codes, attempts
+        os.chdir('/')
+    return None, assertions, codes, attempts
+
+
+def numbers(words, defaults):
+    """The numbers after the program's path, or their defaults."""
+    if not 2 <= len(words) <= len(defaults) + 2:
         sys.exit(__doc__.splitlines()[0])
-    program, files, seed = sys.argv[1], *(int(word) for word in (sys.argv[2:] + ['200', '1'][len(sys.argv) - 2:]))
-    draw.seed(seed)
-    attempts, assertions, codes = 0, 0, collections.Counter()
-    for number in range(files):
-        text, taken = file_of(draw.randint(1, 8))
-        assertions += len(taken)
-        wrong, compared_now = compared(program, text, taken, codes)
-        attempts += compared_now
+    given = [int(word) for word in words[2:]]
+    return given + defaults[len(given):]
+
+
+def shared(run, program, files, seed, processes):
+    """The answers of processes that share the seeds of files, in small lots."""
+    lots = [(program, range(first, min(first + 50, seed + files))) for first in range(seed, seed + files, 50)]
+    if processes == 1:
+        return [run(lot) for lot in lots]
+    with multiprocessing.Pool(processes) as pool:
+        return pool.map(run, lots, chunksize=1)
+
+
+def main():
+    files, seed, processes = numbers(sys.argv, [200, 1, 1])
+    program = os.path.realpath(sys.argv[1])
+    assertions, attempts, codes = 0, 0, collections.Counter()
+    for wrong, assertions_now, codes_now, attempts_now in shared(run_of, program, files, seed, processes):
         if wrong:
-            print(f'file {number} of seed {seed} differs: {wrong}\n{text}')
+            print(wrong)
             return 1
+        assertions, attempts, codes = assertions + assertions_now, attempts + attempts_now, codes + codes_now
     told = ', '.join(f'{count} {code}' for code, count in codes.most_common())
-    print(f'{files} files of seed {seed}, {assertions} assertions ({told} refused), {attempts} attempts: all the same')
+    print(f'{files} files from seed {seed}, {assertions} assertions ({told} refused), {attempts} attempts:',
+          'all the same')
     return 0
 
 

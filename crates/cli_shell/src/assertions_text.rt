@@ -111,19 +111,28 @@ pub fn read_sources<R: Files + AllocGlobal>(
     })
 }
 
-/// The text with those assertions alone that one of some patterns means, if there are any; N1 where
-/// a pattern means none.
-fn with_only(alloc: Global, sources: Sources, only: &[String]) -> Result<Sources, Fault<'static>> {
+/// The text with those assertions alone that one of some patterns means, where there are patterns.
+/// N1 where one means no assertion.
+pub fn chosen_sources(
+    alloc: Global,
+    sources: Sources,
+    only: &[String],
+) -> Result<Sources, Fault<'static>> {
+    if only.is_empty() {
+        return Ok(sources);
+    }
     let choice = chosen(alloc, sources.text.as_str(), only)?;
     if let Some(place) = choice.unmatched {
         if let Some(pattern) = only.get(place) {
             return Err(Fault::NoAssertion(pattern.clone()?));
         }
     }
+    let mut added = choice.added;
+    added.extend_from_slice(sources.added.as_slice())?;
     Ok(Sources {
         parts: sources.parts,
         text: choice.text,
-        added: choice.added,
+        added,
     })
 }
 
@@ -136,10 +145,7 @@ pub fn read_chosen<R: Files + AllocGlobal>(
     only: &[String],
 ) -> Result<Sources, Fault<'static>> {
     let sources = read_sources(rt, sva, axi)?;
-    if only.is_empty() {
-        return Ok(sources);
-    }
-    with_only(rt.alloc(), sources, only)
+    chosen_sources(rt.alloc(), sources, only)
 }
 
 /// The paths of a text as one: those of its files, a comma between, or else that of its ports.

@@ -7,6 +7,7 @@
 //! let dump = open(&rt, "top.vcd")?;
 //! let sources = read_sources(&rt, &paths, Some("ports.txt"))?;        // sources.text, its files
 //! let sources = read_chosen(&rt, &paths, None, &patterns)?;           // some assertions alone
+//! let sources = chosen_sources(alloc, sources, &patterns)?;           // of what was read
 //! let fault = moved_fault(&sources.added, fault);                     // where the files have it
 //! let status = shown_status(&rt, outcome);
 //! let totals = print_report(&rt, &files, &from, &report)?;    // files in other forms before it
@@ -32,11 +33,11 @@ mod print;
 mod status;
 mod words;
 
-pub use assertions_text::{Sources, read_chosen, read_sources, told_paths};
+pub use assertions_text::{Sources, chosen_sources, read_chosen, read_sources, told_paths};
 pub use files::{open, read_bytes, write_bytes};
 pub use forms::{FormFiles, print_report};
 pub use moved::moved_fault;
-pub use print::print_rules;
+pub use print::{print_bytes, print_rules};
 pub use report_forms::Provenance;
 pub use status::{shown_lines, shown_status};
 pub use words::{refuse_words, request_of, shown_version, words_of};

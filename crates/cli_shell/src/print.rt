@@ -9,10 +9,10 @@ use std::io;
 use std::io::Print;
 use verdicts::ReportFault;
 
-/// Writes all of a text to standard output.
-fn print_text<R: Print + AllocGlobal>(rt: &R, text: &str) -> Result<(), Fault<'static>> {
+/// Writes all of some bytes to standard output.
+pub fn print_bytes<R: Print + AllocGlobal>(rt: &R, bytes: &[u8]) -> Result<(), Fault<'static>> {
     let mut out = Counted::new(io::writer(rt));
-    if write_all(&mut out, text.as_bytes()).is_err() || out.flush().is_err() {
+    if write_all(&mut out, bytes).is_err() || out.flush().is_err() {
         return Err(Fault::Report(ReportFault::Write));
     }
     Ok(())
@@ -21,7 +21,7 @@ fn print_text<R: Print + AllocGlobal>(rt: &R, text: &str) -> Result<(), Fault<'s
 /// The program's name and version go to standard output.
 pub(crate) fn print_version<R: Print + AllocGlobal>(rt: &R) -> Result<(), Fault<'static>> {
     let line = format!(in rt.alloc(); "svamon {VERSION}\n")?;
-    print_text(rt, line.as_str())
+    print_bytes(rt, line.as_bytes())
 }
 
 /// The rules of the ports that a file names go to standard output.
@@ -30,5 +30,5 @@ pub fn print_rules<R: Files + Print + AllocGlobal>(
     axi: &str,
 ) -> Result<(), Fault<'static>> {
     let rules = read_rules(rt, axi)?;
-    print_text(rt, rules.as_str())
+    print_bytes(rt, rules.as_bytes())
 }

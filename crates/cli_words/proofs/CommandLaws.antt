@@ -7,15 +7,17 @@ use Rattle.std.specs.Prelude.{unwrap_or}
 use Rattle.std.specs.Borrow.{Bor}
 use Rattle.std.proofs.lemmas.Option.{none-some}
 use Rattle.clap.proofs.WalkLemmas.{both}
-use Rattle.clap.specs.Words.{AddsArg, AddsRequiredUnless, AddsSubcommand, App, HasMatchesOf, Row, Rule, Text}
+use Rattle.clap.specs.Words.{AddsArg, AddsConflicts, AddsRequirements, AddsRequiredUnless, AddsSubcommand, App}
+use Rattle.clap.specs.Words.{HasMatchesOf, Row, Rule, Text}
 use Rattle.clap.specs.Words.{app_of, is_simple, rule_of}
 use Rattle.clap.specs.Words.{subcommand_of, subcommand_name_of, subcommand_rows_of, with_rule, with_subcommand}
 use Rattle.clap.specs.Walk.{is_empty, is_free_arg}
 use Rattle.clap.specs.declared.builder.arg.Arg.{Arg}
+use Rattle.clap.specs.declared.builder.arg.ArgPredicate.{ArgPredicate}
 use Rattle.clap.specs.declared.builder.command.Command.{Command}
 use Rattle.clap.specs.declared.parser.matches.ArgMatches.{ArgMatches}
 use Rattle.cli_words.specs.declared.request.Request.{Request}
-use Rattle.cli_words.specs.Words.{IsRequest, IsNamed, IsAsked, svamon_app}
+use Rattle.cli_words.specs.Words.{IsRequest, IsNamed, IsAsked, svamon_app, tied}
 
 pub not-is : (b : Bool) → not b ≡ true → b ≡ false
 not-is b h = elim b as (λ v. not v ≡ true → v ≡ false) [ true ↦ λ k. sym k | false ↦ λ k. sym (ap not k) ] h
@@ -66,6 +68,33 @@ unless_one old new other r adds before =
 pub unless_local : (old new : Arg) (other : Bor Text) → AddsRequiredUnless old new (other ∷ [])
     → old.global ≡ false → new.global ≡ false
 unless_local old new other adds before = ap (λ (a : Arg). a.global) adds.0 ∙ before
+
+-- an option that can't stand beside another
+pub tied_by_another : (old new : Arg) (other : Bor Text) (r : Rule) → AddsConflicts old new (other ∷ [])
+    → tied (rule_of old) ≡ r → rule_of new ≡ r
+tied_by_another old new other r adds before =
+    let some : is_empty new.conflicts.items ≡ false =
+    ap (λ (xs : List (Bor Text)). is_empty xs) adds.1 ∙ one_is_there old.conflicts.items other in
+    let rest : Bool =
+    is_empty old.needs.items && (is_empty old.r_ifs.items && (is_empty old.r_ifs_all.items
+    && (is_empty old.r_unless.items && is_empty old.r_unless_all.items))) in
+    let bound : is_free_arg (record old { conflicts = new.conflicts }) ≡ false =
+    never (not old.exclusive) _ (ap (λ (b : Bool). b && rest) some) in
+    ap (λ (a : Arg). rule_of a) adds.0 ∙ ap (λ (b : Bool). record (rule_of old) { is_free = b }) bound ∙ before
+
+-- one that wants another
+pub tied_by_a_want : (old new : Arg) (wants : List (ArgPredicate × Bor Text)) → AddsRequirements old new wants
+    → tied (rule_of new) ≡ tied (rule_of old)
+tied_by_a_want old new wants adds = ap (λ (a : Arg). tied (rule_of a)) adds.0
+
+-- they stay options of their own command
+pub local_by_another : (old new : Arg) (other : Bor Text) → AddsConflicts old new (other ∷ [])
+    → old.global ≡ false → new.global ≡ false
+local_by_another old new other adds before = ap (λ (a : Arg). a.global) adds.0 ∙ before
+
+pub local_by_a_want : (old new : Arg) (wants : List (ArgPredicate × Bor Text)) → AddsRequirements old new wants
+    → old.global ≡ false → new.global ≡ false
+local_by_a_want old new wants adds before = ap (λ (a : Arg). a.global) adds.0 ∙ before
 
 map_map : {A B C : Type 0} (f : A → B) (g : B → C) (o : Option A) → option_map g (option_map f o)
     ≡ option_map (λ a. g (f a)) o

@@ -11,6 +11,7 @@ use Rattle.clap.specs.Words.{subcommand_of, subcommand_rows_of, with_rule, with_
 use Rattle.clap.specs.declared.parser.matches.ArgMatches.{ArgMatches}
 use Rattle.clap.specs.declared.builder.action.ArgAction.TheVariants.{Append, SetTrue}
 use Rattle.clap.specs.declared.builder.value_parser.ValueParser.TheVariants.{Unsigned}
+use Rattle.cli_words.specs.declared.team_files.TeamFiles.{TeamFiles}
 use Rattle.cli_words.specs.declared.request.Request.{Request}
 use Rattle.cli_words.specs.declared.request.Request.TheVariants.{Check, Build, Verify}
 use Rattle.cli_words.specs.declared.request.Request.TheVariants.{Run, Judge, Rules, Upgrade}
@@ -89,10 +90,29 @@ dump_app name other = with_rule (with_rule (new_app name) (file_rule (codes "vcd
 abbrev pub text_app : Text → App
 text_app name = with_rule (dump_app name sva_rule) axi_rule
 
+-- an option that is tied to others: it wants one of them, or can't stand beside them
+abbrev pub tied : Rule → Rule
+tied rule = record rule { is_free = false }
+
+-- a command that reads a dump, and texts and ports, or a team's files and how names in them are
+-- looked up
+abbrev pub scoped_text_app : Text → App
+scoped_text_app name =
+    with_rule
+    (with_rule (with_rule (text_app name) (tied (many_rule (codes "sv"))))
+    (tied (option_rule (codes "scope")))) (tied bound_rule)
+
+-- with all options for a team's files
+abbrev pub team_app : Text → App
+team_app name =
+    with_rule
+    (with_rule (with_rule (scoped_text_app name) (tied (option_rule (codes "clock"))))
+    (tied (many_rule (codes "define")))) (tied (flag_rule (codes "split")))
+
 -- with options for the assertions that are judged
 abbrev pub chosen_app : App
 chosen_app =
-    with_rule (with_rule (text_app (codes "check")) (many_rule (codes "only")))
+    with_rule (with_rule (team_app (codes "check")) (many_rule (codes "only")))
     (flag_rule (codes "keep-going"))
 
 -- with options for files into which other forms of the report are written
@@ -121,10 +141,10 @@ judge_app = text_app (codes "judge")
 
 abbrev pub explain_app : App
 explain_app =
-    with_rule (with_rule (with_rule (text_app (codes "explain")) only_rule) start_rule) most_rule
+    with_rule (with_rule (with_rule (team_app (codes "explain")) only_rule) start_rule) most_rule
 
 abbrev pub lint_app : App
-lint_app = text_app (codes "lint")
+lint_app = team_app (codes "lint")
 
 abbrev pub names_app : App
 names_app =
@@ -141,8 +161,9 @@ scoped_app =
 abbrev pub import_app : App
 import_app =
     with_rule
+    (with_rule
     (with_rule (with_rule scoped_app (option_rule (codes "vcd"))) (option_rule (codes "clock")))
-    (many_rule (codes "define"))
+    (many_rule (codes "define"))) (flag_rule (codes "split"))
 
 abbrev pub rules_app : App
 rules_app = with_rule (new_app (codes "rules")) (file_rule (codes "axi"))
@@ -243,19 +264,16 @@ HasNames rows vcd matching scope =
     Gives (codes "vcd") rows (Some vcd) × Gives (codes "match") rows matching
     × Gives (codes "scope") rows scope
 
--- files, and how the names in them are looked up: in which scope, and by which dump, if any
-abbrev pub HasFiles : List Row → List (String Global) → Option (String Global)
-    → Option (String Global) → Type 0
-HasFiles rows files scope vcd =
-    GivesAll (codes "files") rows files × Gives (codes "scope") rows scope
-    × Gives (codes "vcd") rows vcd
-
--- how they are read: what an open end is, whose clock counts, and which macros are defined
-abbrev pub HasReading : List Row → Option ℕ → Option (String Global) → List (String Global)
-    → Type 0
-HasReading rows bound clock define =
-    GivesBound rows bound × Gives (codes "clock") rows clock
-    × GivesAll (codes "define") rows define
+-- a team's files by the option or the words of a name, and how they are read: in which scope names
+-- are looked up, what an open end is, whose clock counts, which macros are defined, and whether
+-- what is too heavy becomes two
+pub record HasTeamFiles (name : Text) (rows : List Row) (team : TeamFiles) : Type 0 where
+  pub files : GivesAll name rows team.files.items
+  pub scope : Gives (codes "scope") rows team.scope
+  pub bound : GivesBound rows team.bound
+  pub clock : Gives (codes "clock") rows team.clock
+  pub define : GivesAll (codes "define") rows team.define.items
+  pub split : GivesFlag (codes "split") rows team.split
 
 -- the files into which other forms of the report are written, if there are any
 abbrev pub HasForms : List Row → Option (String Global) → Option (String Global)
@@ -271,35 +289,38 @@ HasProgram rows vcd code =
 
 -- the command that makes such a request
 abbrev pub command_of : Request → Text
-command_of (Check vcd sva axi only keep_going workers window junit json html) = codes "check"
+command_of (Check vcd sva axi team only keep_going workers window junit json html) = codes "check"
 command_of (Build vcd sva axi name out) = codes "build"
 command_of (Verify code) = codes "verify"
 command_of (Run vcd code workers window) = codes "run"
 command_of (Judge vcd sva axi) = codes "judge"
-command_of (Explain vcd sva axi only start most) = codes "explain"
-command_of (Lint vcd sva axi) = codes "lint"
+command_of (Explain vcd sva axi team only start most) = codes "explain"
+command_of (Lint vcd sva axi team) = codes "lint"
 command_of (Names vcd matching scope) = codes "names"
-command_of (Import files scope bound vcd clock define) = codes "import"
+command_of (Import team vcd) = codes "import"
 command_of (Rules axi) = codes "rules"
 command_of (Upgrade code out) = codes "upgrade"
 
 -- the request has what the rows of its command give
 abbrev pub IsGiven : List Row → Request → Type 0
-IsGiven rows (Check vcd sva axi only keep_going workers window junit json html) =
-    HasText rows vcd sva.items axi × HasChoice rows only.items keep_going
-    × HasTeam rows workers window × HasForms rows junit json html
+IsGiven rows (Check vcd sva axi team only keep_going workers window junit json html) =
+    HasText rows vcd sva.items axi × HasTeamFiles (codes "sv") rows team
+    × HasChoice rows only.items keep_going × HasTeam rows workers window
+    × HasForms rows junit json html
 IsGiven rows (Build vcd sva axi name out) =
     HasText rows vcd sva.items axi × HasOutput rows name out
 IsGiven rows (Verify code) = Gives (codes "code") rows (Some code)
 IsGiven rows (Run vcd code workers window) =
     HasProgram rows vcd code × HasTeam rows workers window
 IsGiven rows (Judge vcd sva axi) = HasText rows vcd sva.items axi
-IsGiven rows (Explain vcd sva axi only start most) =
-    HasText rows vcd sva.items axi × HasWanted rows only start most
-IsGiven rows (Lint vcd sva axi) = HasText rows vcd sva.items axi
+IsGiven rows (Explain vcd sva axi team only start most) =
+    HasText rows vcd sva.items axi × HasTeamFiles (codes "sv") rows team
+    × HasWanted rows only start most
+IsGiven rows (Lint vcd sva axi team) =
+    HasText rows vcd sva.items axi × HasTeamFiles (codes "sv") rows team
 IsGiven rows (Names vcd matching scope) = HasNames rows vcd matching scope
-IsGiven rows (Import files scope bound vcd clock define) =
-    HasFiles rows files.items scope vcd × HasReading rows bound clock define.items
+IsGiven rows (Import team vcd) =
+    HasTeamFiles (codes "files") rows team × Gives (codes "vcd") rows vcd
 IsGiven rows (Rules axi) = Gives (codes "axi") rows (Some axi)
 IsGiven rows (Upgrade code out) =
     Gives (codes "code") rows (Some code) × Gives (codes "out") rows (Some out)

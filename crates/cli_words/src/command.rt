@@ -2,6 +2,7 @@
 
 ghost use Rattle.std.specs.Prelude.{◌≡◌, Some, IfOk, true, false, codes};
 ghost use Rattle.clap.specs.Words.{App, app_of, rule_of, new_app, with_rule, with_subcommand};
+ghost use Rattle.cli_words.specs.Words.{tied, scoped_text_app, team_app};
 ghost use Rattle.clap.specs.declared.builder.value_parser.ValueParser.TheVariants.{Unsigned};
 ghost use Rattle.cli_words.specs.Words.{file_rule, word_rule, axi_rule, workers_rule};
 ghost use Rattle.cli_words.specs.Words.{option_rule, flag_rule, many_rule, sva_rule, window_rule};
@@ -14,6 +15,18 @@ ghost use Rattle.cli_words.specs.Words.{svamon_app, words_rule, bound_rule, scop
 use crate::release::VERSION;
 use clap::{Arg, ArgAction, Command, value_parser};
 use std::alloc::{AllocError, Global};
+
+/// What `--scope` is, for a team's files.
+const SCOPE: &str = "The scope of the dump in which the files' names stand";
+
+/// What `--clock` is.
+const CLOCK: &str = "Takes the assertions of this clock; without it, of the first one";
+
+/// What `--define` is.
+const DEFINE: &str = "Defines a macro; may be given again and again";
+
+/// What `--split` is.
+const SPLIT: &str = "Makes two of an assertion of two properties that is too heavy";
 
 /// An option with one value that has to be there.
 fn named_option<'a>(alloc: Global, name: &'a str, value: &'a str, help: &'a str) -> Arg<'a>
@@ -90,6 +103,38 @@ fn flag_option<'a>(alloc: Global, name: &'a str, help: &'a str) -> Arg<'a>
         .long(name)
         .action(ArgAction::SetTrue)
         .help(help)
+}
+
+/// The option for a file of a text, which may be given again and again, and be left out where there
+/// are ports or a team's files.
+fn sva_or_sv_option<'a>(alloc: Global) -> Result<Arg<'a>, AllocError>
+    ensures rule { IfOk result (λ o. rule_of o ≡ sva_rule) }
+    ensures local { IfOk result (λ o. o.global ≡ false) }
+{
+    let text = sva_option(alloc)?;
+    text.required_unless_present("sv")
+}
+
+/// The option, which wants a team's files, and can't stand beside a text or ports.
+fn beside_sv<'a>(option: Arg<'a>) -> Result<Arg<'a>, AllocError>
+    requires { option.global ≡ false }
+    ensures rule { IfOk result (λ o. rule_of o ≡ tied (rule_of option.entry)) }
+    ensures local { IfOk result (λ o. o.global ≡ false) }
+{
+    let wanting = option.requires_arg("sv")?;
+    let apart = wanting.conflicts_with("sva")?;
+    apart.conflicts_with("axi")
+}
+
+/// The option for a file of a team, which may be given again and again, and can't stand beside a
+/// text or ports.
+fn sv_option<'a>(alloc: Global) -> Result<Arg<'a>, AllocError>
+    ensures rule { IfOk result (λ o. rule_of o ≡ tied (many_rule (codes "sv"))) }
+    ensures local { IfOk result (λ o. o.global ≡ false) }
+{
+    let help = "A team's SystemVerilog file, which is imported; several are joined, in this order";
+    let apart = many_option(alloc, "sv", "FILE", help).conflicts_with("sva")?;
+    apart.conflicts_with("axi")
 }
 
 /// The option for a file of a text, which may be given again and again, and be left out where there
@@ -244,6 +289,38 @@ fn text_command<'a>(alloc: Global, name: &'a str, about: &'a str) -> Result<Comm
     dump_command(alloc, name, about, text)?.arg(axi_option(alloc))
 }
 
+/// A command that reads a dump, and texts and ports, or a team's files.
+fn scoped_text_command<'a>(
+    alloc: Global,
+    name: &'a str,
+    about: &'a str,
+) -> Result<Command<'a>, AllocError>
+    ensures { IfOk result (λ c. app_of c ≡ scoped_text_app name.entry.now) }
+{
+    let text = sva_or_sv_option(alloc)?;
+    let files = sv_option(alloc)?;
+    let scope = beside_sv(free_option(alloc, "scope", "PATH", SCOPE))?;
+    let bound = beside_sv(bound_option(alloc))?;
+    dump_command(alloc, name, about, text)?
+        .arg(axi_option(alloc))?
+        .arg(files)?
+        .arg(scope)?
+        .arg(bound)
+}
+
+/// The same, with all options for a team's files.
+fn team_command<'a>(alloc: Global, name: &'a str, about: &'a str) -> Result<Command<'a>, AllocError>
+    ensures { IfOk result (λ c. app_of c ≡ team_app name.entry.now) }
+{
+    let clock = beside_sv(free_option(alloc, "clock", "PATH", CLOCK))?;
+    let define = beside_sv(many_option(alloc, "define", "NAME[=TEXT]", DEFINE))?;
+    let split = beside_sv(flag_option(alloc, "split", SPLIT))?;
+    scoped_text_command(alloc, name, about)?
+        .arg(clock)?
+        .arg(define)?
+        .arg(split)
+}
+
 /// `check`, with what it reads and which assertions it judges.
 fn chosen_command<'a>(alloc: Global) -> Result<Command<'a>, AllocError>
     ensures { IfOk result (λ c. app_of c ≡ chosen_app) }
@@ -251,7 +328,7 @@ fn chosen_command<'a>(alloc: Global) -> Result<Command<'a>, AllocError>
     let about = "Judges assertions over a dump and prints the report";
     let only = "Judges these assertions alone: * in a name is any run of characters, ? is one";
     let keep_going = "Tells all that is refused as lint does, and judges the rest";
-    text_command(alloc, "check", about)?
+    team_command(alloc, "check", about)?
         .arg(many_option(alloc, "only", "GLOB", only))?
         .arg(flag_option(alloc, "keep-going", keep_going))
 }
@@ -314,7 +391,7 @@ fn explain_command<'a>(alloc: Global) -> Result<Command<'a>, AllocError>
     ensures { IfOk result (λ c. app_of c ≡ explain_app) }
 {
     let about = "Explains failed attempts of assertions over a dump";
-    text_command(alloc, "explain", about)?
+    team_command(alloc, "explain", about)?
         .arg(only_option(alloc))?
         .arg(start_option(alloc))?
         .arg(most_option(alloc))
@@ -323,7 +400,7 @@ fn explain_command<'a>(alloc: Global) -> Result<Command<'a>, AllocError>
 fn lint_command<'a>(alloc: Global) -> Result<Command<'a>, AllocError>
     ensures { IfOk result (λ c. app_of c ≡ lint_app) }
 {
-    text_command(
+    team_command(
         alloc,
         "lint",
         "Tells each refusal of assertions over a dump",
@@ -346,7 +423,6 @@ fn names_command<'a>(alloc: Global) -> Result<Command<'a>, AllocError>
 fn scoped_command<'a>(alloc: Global) -> Result<Command<'a>, AllocError>
     ensures { IfOk result (λ c. app_of c ≡ scoped_app) }
 {
-    let scope = "The scope of the dump in which the files' names stand";
     Command::new(alloc, "import")
         .about("Writes a team's SystemVerilog assertions as a text for --sva")
         .arg(file_words(
@@ -354,7 +430,7 @@ fn scoped_command<'a>(alloc: Global) -> Result<Command<'a>, AllocError>
             "files",
             "SystemVerilog files, which are joined in this order",
         ))?
-        .arg(free_option(alloc, "scope", "PATH", scope))?
+        .arg(free_option(alloc, "scope", "PATH", SCOPE))?
         .arg(bound_option(alloc))
 }
 
@@ -362,12 +438,11 @@ fn import_command<'a>(alloc: Global) -> Result<Command<'a>, AllocError>
     ensures { IfOk result (λ c. app_of c ≡ import_app) }
 {
     let vcd = "A dump, which has the widths of names";
-    let clock = "Writes the assertions of this clock; without it, of the first one";
-    let define = "Defines a macro; may be given again and again";
     scoped_command(alloc)?
         .arg(free_option(alloc, "vcd", "FILE", vcd))?
-        .arg(free_option(alloc, "clock", "PATH", clock))?
-        .arg(many_option(alloc, "define", "NAME[=TEXT]", define))
+        .arg(free_option(alloc, "clock", "PATH", CLOCK))?
+        .arg(many_option(alloc, "define", "NAME[=TEXT]", DEFINE))?
+        .arg(flag_option(alloc, "split", SPLIT))
 }
 
 fn rules_command<'a>(alloc: Global) -> Result<Command<'a>, AllocError>

@@ -2,15 +2,15 @@
 //!
 //! ```text
 //! match read_words(alloc, &["svamon", "check", "--vcd", "top.vcd", "--sva", "rules.sva"]) {
-//!     Ok(Request::Check { vcd, sva, axi, only, keep_going, workers, window, .. }) => ..,
+//!     Ok(Request::Check { vcd, sva, axi, team, only, keep_going, workers, window, .. }) => ..,
 //!     Ok(Request::Build { vcd, sva, axi, name, out }) => ..,
 //!     Ok(Request::Verify { code }) => ..,
 //!     Ok(Request::Run { vcd, code, workers, window }) => ..,
 //!     Ok(Request::Judge { vcd, sva, axi }) => ..,
-//!     Ok(Request::Explain { vcd, sva, axi, only, start, most }) => ..,
-//!     Ok(Request::Lint { vcd, sva, axi }) => ..,
+//!     Ok(Request::Explain { vcd, sva, axi, team, only, start, most }) => ..,
+//!     Ok(Request::Lint { vcd, sva, axi, team }) => ..,
 //!     Ok(Request::Names { vcd, matching, scope }) => ..,
-//!     Ok(Request::Import { files, scope, bound, vcd, clock, define }) => ..,
+//!     Ok(Request::Import { team, vcd }) => ..,             // team.files, team.scope ..
 //!     Ok(Request::Rules { axi }) => ..,
 //!     Ok(Request::Upgrade { code, out }) => ..,
 //!     Err(WordsFault::Words(error)) => ..,             // `{error}` is the text to show
@@ -23,12 +23,13 @@
 //! and for each of its options the value after it or else its default; the files of `verify`,
 //! `upgrade` and `import` are words alone. `--axi` may be left out where a text is read, as may
 //! `--junit`, `--json` and `--html` of `check`, and all options of `names` but the dump and of
-//! `import`, which gives None. `--sva`, `--only` of `check`, and the files and `--define` of
-//! `import` may be given again and again. The contract of `read_words` says that a request is that
+//! `import`, which gives None. `--sva`, `--sv`, `--only` of `check`, and the files and `--define`
+//! of a team may be given again and again. The contract of `read_words` says that a request is that
 //! command with those values, in their order, that there are 1 to 64 workers, that a window has
 //! from 1 to 65,536 clocks, that so many attempts are explained at most, and that a bound is from 1
 //! to 127. Words of which `asks_for_version` holds are answered with `VERSION`, and ask for nothing
-//! else. Not promised: which words are refused, and with what text; tests show that.
+//! else. Not promised: which words are refused, as `--sv` beside `--sva`, and with what text; tests
+//! show that.
 #![tactic(auto)]
 
 mod command;
@@ -36,8 +37,10 @@ mod fault;
 mod read;
 mod release;
 mod request;
+mod team_files;
 
 pub use fault::WordsFault;
 pub use read::read_words;
 pub use release::{VERSION, asks_for_version};
 pub use request::Request;
+pub use team_files::TeamFiles;

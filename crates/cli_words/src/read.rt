@@ -3,12 +3,13 @@
 ghost use Rattle.std.specs.Prelude.{◌≡◌, IfOk, Some, codes, map, string_bytes};
 ghost use Rattle.clap.specs.Words.{found_of, rows_of};
 ghost use Rattle.cli_words.specs.Words.{Gives, GivesAll, GivesFlag, IsNumber, GivesNumber};
-ghost use Rattle.cli_words.specs.Words.{GivesBound};
+ghost use Rattle.cli_words.specs.Words.{GivesBound, HasTeamFiles};
 ghost use Rattle.cli_words.specs.Words.{IsRequest, IsNamed, IsAsked};
 
 use crate::command::svamon_command;
 use crate::fault::WordsFault;
 use crate::request::Request;
+use crate::team_files::TeamFiles;
 use clap::ArgMatches;
 use std::alloc::{AllocError, Global};
 
@@ -78,6 +79,49 @@ fn number_of(options: &ArgMatches, name: &str, most: u64) -> Result<u64, WordsFa
     }
 }
 
+/// The number of an option that may be left out: `clap` refuses any that is no number.
+fn given_number(options: &ArgMatches, name: &str) -> Result<Option<u64>, WordsFault>
+    ensures { IfOk result (GivesNumber name.now (rows_of (found_of options.now))) }
+{
+    match options.get_str(name) {
+        None => Ok(None),
+        Some(_) => match options.get_one::<u64>(name) {
+            Some(number) => Ok(Some(number)),
+            None => Err(WordsFault::OutOfMemory),
+        },
+    }
+}
+
+/// The bound that is given, if any: `clap` refuses any that is out of range.
+fn bound_of(options: &ArgMatches) -> Result<Option<u64>, WordsFault>
+    ensures { IfOk result (GivesBound (rows_of (found_of options.now))) }
+{
+    match given_number(options, "bound")? {
+        None => Ok(None),
+        Some(bound) => {
+            if 1 <= bound && bound <= 127 {
+                return Ok(Some(bound));
+            }
+            Err(WordsFault::OutOfMemory)
+        }
+    }
+}
+
+/// The files of a team that an option or words alone name, and how they are read.
+fn team_of(alloc: Global, options: &ArgMatches, name: &str) -> Result<TeamFiles, WordsFault>
+    ensures { IfOk result (HasTeamFiles name.now (rows_of (found_of options.now))) }
+{
+    let bound = bound_of(options)?;
+    Ok(TeamFiles {
+        files: texts_of(alloc, options, name)?,
+        scope: option_of(alloc, options, "scope")?,
+        bound,
+        clock: option_of(alloc, options, "clock")?,
+        define: texts_of(alloc, options, "define")?,
+        split: is_given(options, "split"),
+    })
+}
+
 fn check_request(alloc: Global, options: &ArgMatches) -> Result<Request, WordsFault>
     ensures { IfOk result (IsRequest (codes "check") (rows_of (found_of options.now))) }
 {
@@ -87,6 +131,7 @@ fn check_request(alloc: Global, options: &ArgMatches) -> Result<Request, WordsFa
         vcd: text_of(alloc, options, "vcd")?,
         sva: texts_of(alloc, options, "sva")?,
         axi: option_of(alloc, options, "axi")?,
+        team: team_of(alloc, options, "sv")?,
         only: texts_of(alloc, options, "only")?,
         keep_going: is_given(options, "keep-going"),
         workers,
@@ -140,19 +185,6 @@ fn judge_request(alloc: Global, options: &ArgMatches) -> Result<Request, WordsFa
     })
 }
 
-/// The number of an option that may be left out: `clap` refuses any that is no number.
-fn given_number(options: &ArgMatches, name: &str) -> Result<Option<u64>, WordsFault>
-    ensures { IfOk result (GivesNumber name.now (rows_of (found_of options.now))) }
-{
-    match options.get_str(name) {
-        None => Ok(None),
-        Some(_) => match options.get_one::<u64>(name) {
-            Some(number) => Ok(Some(number)),
-            None => Err(WordsFault::OutOfMemory),
-        },
-    }
-}
-
 fn explain_request(alloc: Global, options: &ArgMatches) -> Result<Request, WordsFault>
     ensures { IfOk result (IsRequest (codes "explain") (rows_of (found_of options.now))) }
 {
@@ -162,6 +194,7 @@ fn explain_request(alloc: Global, options: &ArgMatches) -> Result<Request, Words
         vcd: text_of(alloc, options, "vcd")?,
         sva: texts_of(alloc, options, "sva")?,
         axi: option_of(alloc, options, "axi")?,
+        team: team_of(alloc, options, "sv")?,
         only: option_of(alloc, options, "only")?,
         start,
         most,
@@ -175,6 +208,7 @@ fn lint_request(alloc: Global, options: &ArgMatches) -> Result<Request, WordsFau
         vcd: text_of(alloc, options, "vcd")?,
         sva: texts_of(alloc, options, "sva")?,
         axi: option_of(alloc, options, "axi")?,
+        team: team_of(alloc, options, "sv")?,
     })
 }
 
@@ -188,32 +222,12 @@ fn names_request(alloc: Global, options: &ArgMatches) -> Result<Request, WordsFa
     })
 }
 
-/// The bound that is given, if any: `clap` refuses any that is out of range.
-fn bound_of(options: &ArgMatches) -> Result<Option<u64>, WordsFault>
-    ensures { IfOk result (GivesBound (rows_of (found_of options.now))) }
-{
-    match given_number(options, "bound")? {
-        None => Ok(None),
-        Some(bound) => {
-            if 1 <= bound && bound <= 127 {
-                return Ok(Some(bound));
-            }
-            Err(WordsFault::OutOfMemory)
-        }
-    }
-}
-
 fn import_request(alloc: Global, options: &ArgMatches) -> Result<Request, WordsFault>
     ensures { IfOk result (IsRequest (codes "import") (rows_of (found_of options.now))) }
 {
-    let bound = bound_of(options)?;
     Ok(Request::Import {
-        files: texts_of(alloc, options, "files")?,
-        scope: option_of(alloc, options, "scope")?,
-        bound,
+        team: team_of(alloc, options, "files")?,
         vcd: option_of(alloc, options, "vcd")?,
-        clock: option_of(alloc, options, "clock")?,
-        define: texts_of(alloc, options, "define")?,
     })
 }
 

@@ -1,5 +1,7 @@
 //! What the words of a command line ask for.
 
+use crate::team_files::TeamFiles;
+
 /// What the words ask for. Paths are as they were given.
 #[derive(Drop)]
 pub enum Request {
@@ -11,6 +13,8 @@ pub enum Request {
         sva: Vec<String>,
         /// A port file: the rules of its ports stand after the text.
         axi: Option<String>,
+        /// A team's own files, which are written as the text; none of them where a text is given.
+        team: TeamFiles,
         /// Patterns of the names of the assertions that are judged; none where all are.
         only: Vec<String>,
         /// Whether what is refused is told, and the rest is judged.
@@ -66,6 +70,8 @@ pub enum Request {
         sva: Vec<String>,
         /// A port file: the rules of its ports stand after the text.
         axi: Option<String>,
+        /// A team's own files, which are written as the text; none of them where a text is given.
+        team: TeamFiles,
         /// The name of the one assertion that is asked for.
         only: Option<String>,
         /// The clock at which the one attempt that is asked for began.
@@ -80,6 +86,8 @@ pub enum Request {
         sva: Vec<String>,
         /// A port file: the rules of its ports stand after the text.
         axi: Option<String>,
+        /// A team's own files, which are written as the text; none of them where a text is given.
+        team: TeamFiles,
     },
     /// Tells the names of a dump's variables.
     Names {
@@ -91,18 +99,9 @@ pub enum Request {
     },
     /// Writes the assertions of SystemVerilog files as a text.
     Import {
-        /// The files, in the order in which they are joined.
-        files: Vec<String>,
-        /// The path of the scope in which names are looked up.
-        scope: Option<String>,
-        /// What stands for `$` in a range, from 1 to 127.
-        bound: Option<u64>,
+        team: TeamFiles,
         /// A dump, which has the widths of names.
         vcd: Option<String>,
-        /// The clock whose assertions are written.
-        clock: Option<String>,
-        /// Macros, each a name, and after a `=` its text.
-        define: Vec<String>,
     },
     /// Prints the rules of the ports of a port file.
     Rules {

@@ -1,5 +1,6 @@
 -- What becomes of a team's assertions.
-use Rattle.std.specs.Prelude.{◌≡◌, ℕ, List, [], map, true, false, Bool, not}
+use Rattle.std.specs.Prelude.{◌≡◌, ℕ, List, [], ◌++◌, map, All, true, false, Bool, not, Option}
+use Rattle.std.specs.Prelude.{string_bytes}
 use Rattle.std.specs.Prelude.{if◌then◌else◌}
 use Rattle.std.specs.List.{list_any}
 use Rattle.import_tokens.specs.declared.token.Token.{Token}
@@ -8,16 +9,24 @@ use Rattle.import_scopes.specs.Words.{word_places}
 use Rattle.import_files.specs.declared.outcome.Outcome.{Outcome}
 use Rattle.import_files.specs.declared.outcome.Fate.{Fate}
 use Rattle.import_files.specs.declared.outcome.Fate.TheVariants as fates
+use Rattle.import_files.specs.Written.{FateSays}
 
--- each token of the text that begins an assertion has one outcome, in their order
-pub record AreOfAll (text : List ℕ) (outcomes : List Outcome) : Type 0 where
+-- what is written of an assertion says a property, under the name that its outcome tells
+abbrev pub OutcomeSays : Option ℕ → Outcome → Type 0
+OutcomeSays bound outcome = FateSays bound (string_bytes outcome.name) outcome.fate
+
+-- Each token of the text that begins an assertion has one outcome, in their order; and each that is
+-- written says a property.
+pub record AreOfAll (text : List ℕ) (bound : Option ℕ) (outcomes : List Outcome) : Type 0 where
   pub tokens : List Token
   pub read : Reads text 0 tokens
   pub each : map (λ o. o.word) outcomes ≡ word_places 0 tokens
+  pub said : All (OutcomeSays bound) outcomes
 
 -- what is written of an assertion
 abbrev pub text_in : Fate → List ℕ
 text_in (fates.Written text) = text.items
+text_in (fates.Halves first second) = first.text.items ++ second.text.items
 text_in fates.Left = []
 text_in (fates.Refused cause) = []
 text_in (fates.Unknown missing) = []
@@ -28,6 +37,7 @@ written_text outcome = text_in outcome.fate
 
 abbrev pub is_written : Fate → Bool
 is_written (fates.Written text) = true
+is_written (fates.Halves first second) = true
 is_written fates.Left = false
 is_written (fates.Refused cause) = false
 is_written (fates.Unknown missing) = false
@@ -35,6 +45,7 @@ is_written (fates.OtherClock clock) = false
 
 abbrev pub is_refused : Fate → Bool
 is_refused (fates.Written text) = false
+is_refused (fates.Halves first second) = false
 is_refused fates.Left = false
 is_refused (fates.Refused cause) = true
 is_refused (fates.Unknown missing) = true

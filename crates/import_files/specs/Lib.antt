@@ -1,1 +1,3 @@
 pub mod Imported
+pub mod Placed
+pub mod Written

@@ -7,7 +7,7 @@ use import_tokens::TokenFault;
 use std::alloc::{AllocError, AllocFailed};
 
 /// Why files have no assertions at all.
-#[derive(Clone, Copy, PartialEq, Eq)]
+#[derive(Clone, Copy, Debug, PartialEq, Eq)]
 pub enum ImportFault {
     /// The comment that begins with this byte of the text, counted from 0, has no end.
     UnclosedComment(usize),

@@ -1,13 +1,21 @@
 //! One assertion after another.
 
+ghost use Rattle.std.specs.Prelude.{◌≡◌, IfOk, IfSome, is_some};
+ghost use Rattle.import_semantics.specs.Shapes.{written_form};
+ghost use Rattle.import_readback.specs.Texts.{SaysRewriting};
+ghost use Rattle.import_files.specs.Written.{IsOfProperty, FateSays, HalfSays, SaysProperty};
+
+use crate::halves::halves_of;
+use crate::labels::Labels;
 use crate::names::first_missing;
-use crate::outcome::{Fate, Marks};
+use crate::outcome::{Cause, Fate, Half, Marks};
 use crate::reading::Reading;
 use crate::stop::{Stop, not_rewritten};
-use crate::vacuity::keeps_vacuity;
-use import_elaboration::{Opened, Opener, Parts};
+use crate::vacuity::{joins_booleans, keeps_vacuity};
+use import_elaboration::{Opened, Opener, PartId, Parts};
 use import_expressions::Terms;
 use import_lowering::property_of;
+use import_readback::says_rewriting;
 use import_rewriting::{Rewriting, rewritten};
 use import_scopes::{Assertion, File};
 use import_spelling::Spelling;
@@ -32,7 +40,9 @@ pub(crate) struct Told {
 }
 
 /// An assertion that isn't written, of which nothing else is told.
-pub(crate) fn unwritten(fate: Fate) -> Told {
+pub(crate) fn unwritten(fate: Fate) -> Told
+    ensures { result.fate ≡ fate }
+{
     let marks = Marks {
         bounded: false,
         vacuity: false,
@@ -60,7 +70,9 @@ impl<'f, 't, 'w> Importer<'f, 't, 'w> {
         alloc: Global,
         file: &'f File<'t>,
         reading: Reading<'w>,
-    ) -> Result<Importer<'f, 't, 'w>, AllocError> {
+    ) -> Result<Importer<'f, 't, 'w>, AllocError>
+        ensures { IfOk result (λ importer. importer.reading ≡ reading.entry) }
+    {
         let clock = match reading.clock {
             Some(clock) => Some(owned(alloc, clock)?),
             None => None,
@@ -83,7 +95,9 @@ impl<'f, 't, 'w> Importer<'f, 't, 'w> {
     }
 
     /// Whether a clock is the one that counts; the first one that is met is.
-    fn counts(&mut self, clock: &[u8]) -> Result<bool, AllocError> {
+    fn counts(&mut self, clock: &[u8]) -> Result<bool, AllocError>
+        ensures { self.new.reading ≡ self.old.reading }
+    {
         match &self.clock {
             Some(known) => Ok(known.as_slice() == clock),
             None => {
@@ -98,39 +112,156 @@ impl<'f, 't, 'w> Importer<'f, 't, 'w> {
         &self,
         parts: &mut Parts<'t>,
         opened: &Opened<'t>,
-    ) -> Result<(Rewriting, Marks), Stop> {
+    ) -> Result<(Rewriting, Marks), Stop>
+        ensures { IfOk result (λ r. IsOfProperty self.now.reading.bound
+            (written_form r.0.antecedent.value) (written_form r.0.consequent.value)) }
+    {
         let bound = self.reading.bound;
         let lowered = property_of(self.alloc, parts, opened.body, bound)?;
         let rewriting = match rewritten(self.alloc, bound.unwrap_or(127), &lowered.property) {
             Ok(rewriting) => rewriting,
             Err(refusal) => return Err(not_rewritten(refusal, opened.at)),
         };
+        let joined = joins_booleans(self.alloc, parts.parts.as_slice())?;
         let marks = Marks {
             bounded: lowered.bounded,
-            vacuity: !keeps_vacuity(&lowered.property, &rewriting),
+            vacuity: joined || !keeps_vacuity(&lowered.property, &rewriting),
         };
         Ok((rewriting, marks))
     }
 
-    /// The text of what was opened.
+    /// A text, where what it spells is the one assertion of that name that a rewriting is.
+    fn read_back(
+        &self,
+        text: Vec<u8>,
+        name: &str,
+        rewriting: &Rewriting,
+        opened: &Opened<'t>,
+    ) -> Result<Vec<u8>, Stop>
+        ensures { IfOk result (λ kept. SaysRewriting name.now (is_some opened.now.disable)
+            (written_form rewriting.now.antecedent.value)
+            (written_form rewriting.now.consequent.value) kept.items) }
+    {
+        let antecedent = &rewriting.antecedent;
+        let consequent = &rewriting.consequent;
+        let is_disabled = opened.disable.is_some();
+        if says_rewriting(
+            self.alloc,
+            text.as_slice(),
+            name.as_bytes(),
+            is_disabled,
+            antecedent,
+            consequent,
+        )? {
+            return Ok(text);
+        }
+        Err(Stop::Refused(Cause {
+            code: "NotReadBack",
+            hint: "its text would say something else: split the assertion, and tell us of it",
+            at: opened.at,
+        }))
+    }
+
+    /// The text of what was opened, and what is told of it.
     fn spelled(
         &self,
         opener: &mut Opener<'f, 't>,
         opened: &Opened<'t>,
         name: &str,
-    ) -> Result<Told, Stop> {
+    ) -> Result<(Vec<u8>, Marks), Stop>
+        ensures { IfOk result (λ r.
+            SaysProperty self.now.reading.bound name.now r.0.items) }
+    {
         let (rewriting, marks) = self.rewriting(&mut opener.made, opened)?;
         let Reading { scope, widths, .. } = self.reading;
         let mut spelling = Spelling::new(self.alloc, opener.parts(), scope, widths);
-        let text = spelling.assertion(name.as_bytes(), opened, &rewriting)?;
-        Ok(Told {
-            fate: Fate::Written(text),
-            marks,
-        })
+        let spelled = spelling.assertion(name.as_bytes(), opened, &rewriting)?;
+        let text = self.read_back(spelled, name, &rewriting, opened)?;
+        Ok((text, marks))
+    }
+
+    /// The text of what was opened, where another property stands in its place, under a name that
+    /// ends so.
+    fn half(
+        &self,
+        opener: &mut Opener<'f, 't>,
+        mut opened: Opened<'t>,
+        body: PartId,
+        name: String,
+    ) -> Result<(Half, Marks), Stop>
+        ensures { IfOk result (λ r. HalfSays self.now.reading.bound r.0) }
+    {
+        opened.body = body;
+        let (text, marks) = self.spelled(opener, &opened, name.as_str())?;
+        Ok((Half { name, text }, marks))
+    }
+
+    /// The two assertions for what was opened, whose names end in `__1` and `__2`; none where it
+    /// has no two halves.
+    fn halved(
+        &self,
+        opener: &mut Opener<'f, 't>,
+        opened: &Opened<'t>,
+        name: &str,
+        labels: &mut Labels,
+    ) -> Result<Option<Told>, Stop>
+        ensures { IfOk result (λ some. IfSome some (λ told.
+            FateSays self.now.reading.bound name.now told.fate)) }
+    {
+        let alloc = self.alloc;
+        let Some((first, second)) = halves_of(alloc, &mut opener.made, opened.body)? else {
+            return Ok(None);
+        };
+        let first_name = labels.take(alloc, format!(in alloc; "{name}__1")?.as_str())?;
+        let (one, marks) = self.half(opener, *opened, first, first_name)?;
+        let second_name = labels.take(alloc, format!(in alloc; "{name}__2")?.as_str())?;
+        let (other, more) = self.half(opener, *opened, second, second_name)?;
+        Ok(Some(Told {
+            fate: Fate::Halves(one, other),
+            marks: Marks {
+                bounded: marks.bounded || more.bounded,
+                vacuity: marks.vacuity || more.vacuity,
+            },
+        }))
+    }
+
+    /// What was opened as one assertion, or as two where it is too heavy.
+    fn spelled_or_halved(
+        &self,
+        opener: &mut Opener<'f, 't>,
+        opened: &Opened<'t>,
+        name: &str,
+        labels: &mut Labels,
+    ) -> Result<Told, Stop>
+        ensures { IfOk result (λ told.
+            FateSays self.now.reading.bound name.now told.fate) }
+    {
+        let stop = match self.spelled(opener, opened, name) {
+            Ok((text, marks)) => {
+                let fate = Fate::Written(text);
+                return Ok(Told { fate, marks });
+            }
+            Err(stop) => stop,
+        };
+        if self.reading.split && stop.is_heavy() {
+            if let Some(told) = self.halved(opener, opened, name, labels)? {
+                return Ok(told);
+            }
+        }
+        Err(stop)
     }
 
     /// What becomes of an assertion that is written under a name.
-    fn written(&mut self, assertion: Assertion<'t>, name: &str) -> Result<Told, Stop> {
+    fn written(
+        &mut self,
+        assertion: Assertion<'t>,
+        name: &str,
+        labels: &mut Labels,
+    ) -> Result<Told, Stop>
+        ensures said { IfOk result (λ told.
+            FateSays self.old.reading.bound name.now told.fate) }
+        ensures kept { self.new.reading ≡ self.old.reading }
+    {
         let mut opener = Opener::new(self.alloc, self.file);
         let opened = opener.open(assertion)?;
         let clock = self.clock_path(opener.parts(), opened.clock)?;
@@ -141,7 +272,7 @@ impl<'f, 't, 'w> Importer<'f, 't, 'w> {
         if let Some(missing) = first_missing(self.alloc, opener.parts(), &self.reading)? {
             return Ok(unwritten(Fate::Unknown(missing)));
         }
-        self.spelled(&mut opener, &opened, name)
+        self.spelled_or_halved(&mut opener, &opened, name, labels)
     }
 
     /// What becomes of an assertion that is written under a name, if it can be.
@@ -149,8 +280,13 @@ impl<'f, 't, 'w> Importer<'f, 't, 'w> {
         &mut self,
         assertion: Assertion<'t>,
         name: &str,
-    ) -> Result<Told, AllocError> {
-        match self.written(assertion, name) {
+        labels: &mut Labels,
+    ) -> Result<Told, AllocError>
+        ensures said { IfOk result (λ told.
+            FateSays self.old.reading.bound name.now told.fate) }
+        ensures kept { self.new.reading ≡ self.old.reading }
+    {
+        match self.written(assertion, name, labels) {
             Ok(told) => Ok(told),
             Err(Stop::Refused(cause)) => Ok(unwritten(Fate::Refused(cause))),
             Err(Stop::Memory) => Err(AllocError),

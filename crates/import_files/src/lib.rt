@@ -3,11 +3,12 @@
 //! ```text
 //! let signals = signals_of(alloc, dump)?;                // of a dump's header, if one is given
 //! let widths = known_of(alloc, &signals)?;
-//! let reading = Reading { scope, bound, clock, widths: &widths, names: &signals.paths };
+//! let reading = Reading { scope, bound, clock, widths: &widths, names: &signals.paths, .. };
 //! let all = imported(alloc, text, &defines, &reading)?;  // all.outcomes: one for each assertion
 //! let written = text_of(alloc, &all)?;                   // the text for `--sva`
 //! let told = messages_of(alloc, &parts, bound, &all)?;   // a line for each refusal and note
 //! let status = status_of(&all);                          // 0, 1 or 2
+//! let judged = placed(alloc, text, &all)?;               // the same, at the files' own places
 //! ```
 //!
 //! The text is that of all files, joined. Its tokens, with macros written out, have items
@@ -18,16 +19,17 @@
 //! Assertions of another clock than the one that counts are refused.
 //!
 //! `imported` promises that each token that begins an assertion has one outcome, in their order;
-//! so none is lost. `text_of` and `status_of` say what they are of these outcomes.
+//! so none is lost. `text_of`, `status_of` and `placed` say what they are of these outcomes.
 //!
-//! The definitions: `specs/Imported.antt`; tokens and the words that begin assertions in
-//! `import_tokens` and `import_scopes`; what a rewriting is in `import_rewriting`.
+//! The definitions: `specs/Imported.antt` and `specs/Placed.antt`; tokens and the words that begin
+//! assertions in `import_tokens` and `import_scopes`; what a rewriting is in `import_rewriting`.
 //!
 //! Not promised, but tested: what a written text says, and what is told.
 #![tactic(auto)]
 
 mod dump_signals;
 mod fault;
+mod halves;
 mod heads;
 mod hints;
 mod importer;
@@ -36,6 +38,7 @@ mod messages;
 mod names;
 mod outcome;
 mod outcomes;
+mod placing;
 mod reading;
 mod stop;
 mod text;
@@ -45,7 +48,8 @@ pub use dump_signals::{Bits, Signals, known_of, signals_of};
 pub use fault::ImportFault;
 pub use import_spelling::Known;
 pub use messages::{messages_of, unclosed_line};
-pub use outcome::{Cause, Fate, Imported, Marks, Missing, Outcome, Remark};
+pub use outcome::{Cause, Fate, Half, Imported, Marks, Missing, Outcome, Remark};
 pub use outcomes::imported;
+pub use placing::{PlacedText, placed};
 pub use reading::Reading;
 pub use text::{status_of, text_of};

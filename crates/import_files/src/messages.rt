@@ -74,6 +74,13 @@ fn fate_message(alloc: Global, outcome: &Outcome) -> Result<Option<Message>, All
     let label = outcome.label.as_str();
     match &outcome.fate {
         Fate::Written(_) => Ok(None),
+        Fate::Halves(first, second) => {
+            let (first, second) = (first.name.as_str(), second.name.as_str());
+            Ok(Some(Message {
+                at: outcome.at,
+                text: format!(in alloc; "note {label} Renamed: {first} and {second}")?,
+            }))
+        }
         Fate::Left => Ok(Some(Message {
             at: outcome.at,
             text: format!(in alloc; "note {label} Cover: a cover decides nothing")?,

@@ -22,11 +22,21 @@ pub struct Missing {
     pub at: usize,
 }
 
+/// One of the two assertions that an assertion is written as.
+#[derive(Drop)]
+pub struct Half {
+    /// The label that it has in the text.
+    pub name: String,
+    pub text: Vec<u8>,
+}
+
 /// What becomes of an assertion.
 #[derive(Drop)]
 pub enum Fate {
     /// It is written so.
     Written(Vec<u8>),
+    /// It is written as two, of which one fails where it does.
+    Halves(Half, Half),
     /// It is a `cover`, which decides nothing.
     Left,
     Refused(Cause),
@@ -54,7 +64,7 @@ pub struct Outcome {
     pub at: usize,
     /// Its label in the files, or `assert_N`.
     pub label: String,
-    /// The label that it has in the text.
+    /// The label that it has in the text, where it is written as one.
     pub name: String,
     pub fate: Fate,
     pub marks: Marks,

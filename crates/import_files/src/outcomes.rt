@@ -1,7 +1,8 @@
 //! All assertions of a text.
 
-ghost use Rattle.std.specs.Prelude.{◌≡◌, IfOk, map, vec_len};
-ghost use Rattle.import_files.specs.Imported.{AreOfAll};
+ghost use Rattle.std.specs.Prelude.{◌≡◌, IfOk, All, map, vec_len};
+ghost use Rattle.import_files.specs.Imported.{AreOfAll, OutcomeSays};
+ghost use Rattle.import_files.specs.Written.{FateSays};
 
 use crate::fault::ImportFault;
 use crate::heads::{byte_of, called, label_before};
@@ -34,13 +35,18 @@ fn macros_of<'a>(alloc: Global, defines: &'a [String]) -> Result<Macros<'a>, All
 fn told_of<'t>(
     importer: &mut Importer<'_, 't, '_>,
     file: &File<'t>,
+    labels: &mut Labels,
     status: Status,
     name: &str,
     at: usize,
-) -> Result<Told, AllocError> {
+) -> Result<Told, AllocError>
+    ensures said { IfOk result (λ told.
+        FateSays importer.old.reading.bound name.now told.fate) }
+    ensures kept { importer.new.reading ≡ importer.old.reading }
+{
     let fate = match status {
         Status::Read(id) => match file.assertions.get(id.0) {
-            Some(assertion) => return importer.told(*assertion, name),
+            Some(assertion) => return importer.told(*assertion, name, labels),
             None => Fate::Left,
         },
         Status::Covers => Fate::Left,
@@ -64,7 +70,9 @@ fn outcome_of<'t>(
     status: Status,
     number: usize,
 ) -> Result<Outcome, AllocError>
-    ensures { IfOk result (λ outcome. outcome.word ≡ word) }
+    ensures word { IfOk result (λ outcome. outcome.word ≡ word) }
+    ensures said { IfOk result (OutcomeSays importer.old.reading.bound) }
+    ensures kept { importer.new.reading ≡ importer.old.reading }
 {
     let token = label_before(tokens, word);
     let label = called(alloc, token, number)?;
@@ -76,7 +84,8 @@ fn outcome_of<'t>(
         Status::Covers => String::from_str(alloc, label.as_str())?,
         _ => labels.take(alloc, label.as_str())?,
     };
-    let told = told_of(importer, file, status, name.as_str(), byte_of(tokens, word))?;
+    let first = byte_of(tokens, word);
+    let told = told_of(importer, file, labels, status, name.as_str(), first)?;
     Ok(Outcome {
         word,
         at,
@@ -95,7 +104,9 @@ fn outcomes_of<'t>(
     reading: &Reading<'_>,
 ) -> Result<Vec<Outcome>, AllocError>
     requires { vec_len file.now.statuses ≡ vec_len file.now.words }
-    ensures { IfOk result (λ all. map (λ one. one.word) all.items ≡ file.now.words.items) }
+    ensures words { IfOk result (λ all. map (λ one. one.word) all.items ≡ file.now.words.items) }
+    ensures said { IfOk result (λ all.
+        All (OutcomeSays reading.now.bound) all.items) }
 {
     let mut importer = Importer::new(alloc, file, *reading)?;
     let mut labels = Labels::new(alloc);
@@ -151,8 +162,11 @@ pub fn imported(
     defines: &[String],
     reading: &Reading<'_>,
 ) -> Result<Imported, ImportFault>
-    // Each word of the text that begins an assertion has one outcome, in their order.
-    ensures each { IfOk result (λ all. AreOfAll text.now all.outcomes.items) }
+    // Each word of the text that begins an assertion has one outcome, in their order; each text
+    // that is written says, under the label that is told, a property that it is the exact rewriting
+    // of.
+    ensures each { IfOk result (λ all.
+        AreOfAll text.now reading.now.bound all.outcomes.items) }
 {
     let mut macros = macros_of(alloc, defines)?;
     let expansions = Expansions::of(alloc, text.as_bytes(), &mut macros)?;

@@ -15,4 +15,6 @@ pub struct Reading<'w> {
     pub widths: &'w [Known<'w>],
     /// The paths of these, in any order.
     pub names: &'w [String],
+    /// Whether an assertion of two properties that is too heavy is written as two.
+    pub split: bool,
 }

@@ -17,6 +17,16 @@ pub(crate) enum Stop {
     Memory,
 }
 
+impl Stop {
+    /// Whether a part of the assertion is too heavy.
+    pub(crate) fn is_heavy(&self) -> bool {
+        match self {
+            Stop::Refused(cause) => cause.code == "TooHeavy",
+            Stop::Memory => false,
+        }
+    }
+}
+
 impl From<AllocError> for Stop {
     ghost from_gives = { λ _ e. e ≡ Memory };
 

@@ -1,6 +1,6 @@
 //! What is written of the assertions of files, and the status of that.
 
-ghost use Rattle.std.specs.Prelude.{◌≡◌, IfOk, flat_map};
+ghost use Rattle.std.specs.Prelude.{◌≡◌, ◌++◌, IfOk, OnOk, flat_map};
 ghost use Rattle.std.specs.List.{list_any};
 ghost use Rattle.import_files.specs.Imported.{text_in, written_text, status_of};
 ghost use Rattle.import_files.specs.Imported.{is_written, is_refused};
@@ -8,14 +8,19 @@ ghost use Rattle.import_files.specs.Imported.{is_written, is_refused};
 use crate::outcome::{Fate, Imported, Outcome};
 use std::alloc::{AllocError, Global};
 
-/// What is written of an assertion.
-fn written_of(fate: &Fate) -> &[u8]
-    ensures { result.now ≡ text_in fate.now }
+/// Adds what is written of an assertion.
+pub(crate) fn push_written(text: &mut Vec<u8>, fate: &Fate) -> Result<(), AllocError>
+    ensures { OnOk result (text.new.items ≡ text.old.items ++ text_in fate.now) }
 {
     match fate {
-        Fate::Written(text) => text.as_slice(),
-        _ => b"",
+        Fate::Written(written) => text.extend_from_slice(written.as_slice())?,
+        Fate::Halves(first, second) => {
+            text.extend_from_slice(first.text.as_slice())?;
+            text.extend_from_slice(second.text.as_slice())?;
+        }
+        Fate::Left | Fate::Refused(_) | Fate::Unknown(_) | Fate::OtherClock(_) => {}
     }
+    Ok(())
 }
 
 /// The text of all assertions that are written, in their order.
@@ -25,7 +30,7 @@ pub fn text_of(alloc: Global, imported: &Imported) -> Result<Vec<u8>, AllocError
 {
     let mut text = Vec::new(alloc);
     for outcome in imported.outcomes.as_slice() {
-        text.extend_from_slice(written_of(&outcome.fate))?;
+        push_written(&mut text, &outcome.fate)?;
     }
     Ok(text)
 }
@@ -34,7 +39,7 @@ pub fn text_of(alloc: Global, imported: &Imported) -> Result<Vec<u8>, AllocError
 fn is_written(fate: &Fate) -> bool
     ensures { result ≡ is_written fate.now }
 {
-    matches!(fate, Fate::Written(_))
+    matches!(fate, Fate::Written(_) | Fate::Halves(_, _))
 }
 
 /// Whether it is refused.

@@ -1,7 +1,9 @@
 //! Whether what is written is vacuous where the property is (IEEE 1800-2017, 16.14.8).
 
+use import_elaboration::{Part, PartId, PartNode};
 use import_rewriting::Rewriting;
 use import_semantics::{Condition, Property, Sequence};
+use std::alloc::{AllocError, Global};
 
 /// Whether no part of a property is vacuous where it holds.
 fn is_plain(property: &Property) -> bool {
@@ -63,4 +65,39 @@ fn ends_in_zero(property: &Property) -> bool {
 /// Whether what is written of a property holds vacuously exactly where the property does.
 pub(crate) fn keeps_vacuity(property: &Property, rewriting: &Rewriting) -> bool {
     is_fronted(property) && (ends_in_zero(property) || !is_zero(&rewriting.consequent))
+}
+
+/// Whether a part is known to be a boolean, by those before it of which that is known.
+fn is_known(booleans: &[bool], id: PartId) -> bool {
+    match booleans.get(id.0) {
+        Some(is_boolean) => *is_boolean,
+        None => false,
+    }
+}
+
+/// Whether a part is a boolean, or booleans that are joined to one.
+fn is_boolean(booleans: &[bool], part: Part) -> bool {
+    match part {
+        Part::Boolean(_) => true,
+        Part::Not(body) | Part::Strength(body) => is_known(booleans, body),
+        Part::And(first, second)
+        | Part::Or(first, second)
+        | Part::Implies(first, second)
+        | Part::Iff(first, second) => is_known(booleans, first) && is_known(booleans, second),
+        _ => false,
+    }
+}
+
+/// Whether `implies` joins two booleans: what is written is a boolean, too, which holds where the
+/// first is false, and the property is vacuous there.
+pub(crate) fn joins_booleans(alloc: Global, parts: &[PartNode]) -> Result<bool, AllocError> {
+    let mut booleans = Vec::new(alloc);
+    for node in parts {
+        let known = is_boolean(booleans.as_slice(), node.part);
+        if known && matches!(node.part, Part::Implies(_, _)) {
+            return Ok(true);
+        }
+        booleans.push(known)?;
+    }
+    Ok(false)
 }

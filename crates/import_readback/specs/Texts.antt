@@ -1,6 +1,7 @@
 -- Texts of the profile that say a rewriting: what they spell is one assertion, whose sides have
 -- the outlines of the rewriting's.
-use Rattle.std.specs.Prelude.{◌≡◌, ℕ, List, [], ◌∷◌, Option, Some, None, Ok, map, option_map}
+use Rattle.std.specs.Prelude.{◌≡◌, ℕ, List, [], ◌∷◌, Bool, Option, Some, None, Ok, map}
+use Rattle.std.specs.Prelude.{is_some, option_map}
 use Rattle.lexer.specs.declared.token.Token.{Token}
 use Rattle.lexer.specs.Cutting.{cut_of, tokens_of}
 use Rattle.parser_grammar.specs.declared.operator.Implication.TheVariants.{Overlapped}
@@ -34,19 +35,25 @@ HasSides (implication None r NonOverlapped s) antecedent consequent =
     × (spelled_outline r ≡ outline before) × (spelled_outline s ≡ outline consequent)
 HasSides (implication (Some word) r i s) antecedent consequent = ⊥
 
--- An assertion of this label, whose sides have these outlines.
-pub record IsRewriting (label : List ℕ) (antecedent consequent : Written Condition)
-    (a : AssertionForm) : Type 0 where
+-- An assertion of this label, with a `disable iff` or with none, whose sides have these outlines.
+pub record IsRewriting (label : List ℕ) (disabled : Bool)
+    (antecedent consequent : Written Condition) (a : AssertionForm) : Type 0 where
   pub named : option_map text_of a.label ≡ Some label
+  pub disables : is_some a.disable ≡ disabled
   pub sides : HasSides a.property antecedent consequent
 
+-- One of the items is an assertion, which is that of the rewriting.
+pub record IsOnlyRewriting (label : List ℕ) (disabled : Bool)
+    (antecedent consequent : Written Condition) (items : List ItemForm) : Type 0 where
+  pub assertion : AssertionForm
+  pub alone : assertions_of items ≡ assertion ∷ []
+  pub rewriting : IsRewriting label disabled antecedent consequent assertion
+
 -- The tokens of a text spell a file, whose only assertion is that of the rewriting.
-pub record SaysRewriting (label : List ℕ) (antecedent consequent : Written Condition)
-    (text : List ℕ) : Type 0 where
+pub record SaysRewriting (label : List ℕ) (disabled : Bool)
+    (antecedent consequent : Written Condition) (text : List ℕ) : Type 0 where
   pub tokens : List Token
   pub items : List ItemForm
   pub cut : tokens_of text ≡ Ok (map cut_of tokens)
   pub spelled : IsFile items tokens
-  pub assertion : AssertionForm
-  pub alone : assertions_of items ≡ assertion ∷ []
-  pub rewriting : IsRewriting label antecedent consequent assertion
+  pub only : IsOnlyRewriting label disabled antecedent consequent items

@@ -1,20 +1,21 @@
 //! Texts with one assertion.
 
-ghost use Rattle.std.specs.Prelude.{◌≡◌, ◌∷◌, [], Ok, Some, IsTrue, IfSome, map, option_map};
+ghost use Rattle.std.specs.Prelude.{◌≡◌, ◌∷◌, [], Ok, Some, IsTrue, IfOk, IfSome, is_some, map};
+ghost use Rattle.std.specs.Prelude.{option_map};
 ghost use Rattle.lexer.specs.Cutting.{cut_of, tokens_of};
 ghost use Rattle.parser_grammar.specs.Views.{item_of, assertion_of, property_of};
 ghost use Rattle.assertions.specs.Written.{boolean, delay};
 ghost use Rattle.import_semantics.specs.declared.condition.Condition.TheVariants.{One};
 ghost use Rattle.import_semantics.specs.Shapes.{written_form};
-ghost use Rattle.import_readback.specs.Texts.{SaysRewriting, IsRewriting, HasSides};
-ghost use Rattle.import_readback.specs.Texts.{assertions_of, text_of};
+ghost use Rattle.import_readback.specs.Texts.{SaysRewriting, IsOnlyRewriting, IsRewriting};
+ghost use Rattle.import_readback.specs.Texts.{HasSides, assertions_of, text_of};
 
 use crate::outline::{MOST_DEPTH, has_outline};
 use import_semantics::{Condition, Sequence};
-use lexer::{Token, lex};
-use parser::parse;
+use lexer::{LexFault, Token, lex};
+use parser::{ParseFault, parse};
 use parser_grammar::{AssertionTree, Implication, ItemTree, PropertyTree, SequenceTree};
-use std::alloc::Global;
+use std::alloc::{AllocError, Global};
 
 /// Whether it is the constant 1.
 fn is_one(sequence: &Sequence) -> bool
@@ -67,19 +68,32 @@ fn has_sides(property: &PropertyTree, antecedent: &Sequence, consequent: &Sequen
     }
 }
 
-/// Whether an assertion has a label, and the sides of a rewriting.
+/// Whether an assertion has a `disable iff`, or has none.
+fn has_disable(assertion: &AssertionTree, is_disabled: bool) -> bool
+    ensures { IsTrue result → is_some (assertion_of assertion.now).disable ≡ is_disabled }
+{
+    match assertion.disable {
+        Some(_) => is_disabled,
+        None => !is_disabled,
+    }
+}
+
+/// Whether an assertion has a label, a `disable iff` or none, and the sides of a rewriting.
 fn is_rewriting(
     assertion: &AssertionTree,
     label: &[u8],
+    is_disabled: bool,
     antecedent: &Sequence,
     consequent: &Sequence,
 ) -> bool
-    ensures { IsTrue result → IsRewriting label.now
+    ensures { IsTrue result → IsRewriting label.now is_disabled
         (written_form antecedent.now) (written_form consequent.now) (assertion_of assertion.now) }
 {
     match assertion.label {
         Some(token) => {
-            token.text.as_bytes() == label && has_sides(&assertion.property, antecedent, consequent)
+            token.text.as_bytes() == label
+                && has_disable(assertion, is_disabled)
+                && has_sides(&assertion.property, antecedent, consequent)
         }
         None => false,
     }
@@ -109,39 +123,62 @@ fn only_assertion<'i, 'a>(items: &'i [ItemTree<'a>]) -> Option<&'i AssertionTree
     }
 }
 
+/// Whether the only assertion among items is that of a rewriting.
+fn items_say(
+    items: &[ItemTree],
+    label: &[u8],
+    is_disabled: bool,
+    antecedent: &Sequence,
+    consequent: &Sequence,
+) -> bool
+    ensures { IsTrue result → IsOnlyRewriting label.now is_disabled
+        (written_form antecedent.now) (written_form consequent.now) (map item_of items.now) }
+{
+    match only_assertion(items) {
+        Some(assertion) => is_rewriting(assertion, label, is_disabled, antecedent, consequent),
+        None => false,
+    }
+}
+
 /// Whether the tokens of a text spell a file whose only assertion is that of a rewriting.
 fn tokens_say(
     alloc: Global,
     text: &[u8],
     tokens: &[Token],
     label: &[u8],
+    is_disabled: bool,
     antecedent: &Sequence,
     consequent: &Sequence,
-) -> bool
+) -> Result<bool, AllocError>
     requires { tokens_of text.now ≡ Ok (map cut_of tokens.now) }
-    ensures { IsTrue result → SaysRewriting label.now
-        (written_form antecedent.now) (written_form consequent.now) text.now }
+    ensures { IfOk result (λ yes. IsTrue yes → SaysRewriting label.now is_disabled
+        (written_form antecedent.now) (written_form consequent.now) text.now) }
 {
     match parse(alloc, tokens) {
-        Ok(file) => match only_assertion(file.items.as_slice()) {
-            Some(assertion) => is_rewriting(assertion, label, antecedent, consequent),
-            None => false,
-        },
-        Err(_) => false,
+        Ok(file) => Ok(items_say(
+            file.items.as_slice(),
+            label,
+            is_disabled,
+            antecedent,
+            consequent,
+        )),
+        Err(ParseFault::Memory) => Err(AllocError),
+        Err(_) => Ok(false),
     }
 }
 
-/// Whether a text is one of the profile's grammar whose only assertion has a label, and sides with
-/// the outlines of a rewriting's. Where memory runs out, the answer is no.
+/// Whether a text is one of the profile's grammar whose only assertion has a label, a `disable iff`
+/// or none, and sides with the outlines of a rewriting's.
 fn text_says(
     alloc: Global,
     text: &str,
     label: &[u8],
+    is_disabled: bool,
     antecedent: &Sequence,
     consequent: &Sequence,
-) -> bool
-    ensures { IsTrue result → SaysRewriting label.now
-        (written_form antecedent.now) (written_form consequent.now) text.now }
+) -> Result<bool, AllocError>
+    ensures { IfOk result (λ yes. IsTrue yes → SaysRewriting label.now is_disabled
+        (written_form antecedent.now) (written_form consequent.now) text.now) }
 {
     match lex(alloc, text) {
         Ok(tokens) => tokens_say(
@@ -149,27 +186,34 @@ fn text_says(
             text.as_bytes(),
             tokens.as_slice(),
             label,
+            is_disabled,
             antecedent,
             consequent,
         ),
-        Err(_) => false,
+        Err(LexFault::Memory) => Err(AllocError),
+        Err(_) => Ok(false),
     }
 }
 
-/// Whether bytes are a text of the profile's grammar whose only assertion has a label, and sides
-/// with the outlines of these two sequences. Where memory runs out, the answer is no.
+/// Whether bytes are a text of the profile's grammar whose only assertion has a label, a `disable
+/// iff` or none, and sides with the outlines of these two sequences.
+///
+/// # Errors
+///
+/// Want of memory.
 pub fn says_rewriting(
     alloc: Global,
     bytes: &[u8],
     label: &[u8],
+    is_disabled: bool,
     antecedent: &Sequence,
     consequent: &Sequence,
-) -> bool
-    ensures { IsTrue result → SaysRewriting label.now
-        (written_form antecedent.now) (written_form consequent.now) bytes.now }
+) -> Result<bool, AllocError>
+    ensures { IfOk result (λ yes. IsTrue yes → SaysRewriting label.now is_disabled
+        (written_form antecedent.now) (written_form consequent.now) bytes.now) }
 {
     match str::from_utf8(bytes) {
-        Ok(text) => text_says(alloc, text, label, antecedent, consequent),
-        Err(_) => false,
+        Ok(text) => text_says(alloc, text, label, is_disabled, antecedent, consequent),
+        Err(_) => Ok(false),
     }
 }

@@ -3,18 +3,20 @@
 ghost use Rattle.vcd_reader.specs.Dump.{Contents};
 ghost use Rattle.vcd_reader.specs.Held.{HoldsContents};
 
+use crate::team::{TeamFront, read_team, status_with};
 use cli::{Fault, NoGate, PagedReport, Paths, check_all, page_over, report_over};
 use cli_lint::{Rest, rest_over};
 use cli_shell::{
-    FormFiles, Provenance, Sources, moved_fault, open, print_report, read_chosen, shown_lines,
-    shown_status, told_paths, write_bytes,
+    FormFiles, Provenance, Sources, chosen_sources, moved_fault, open, print_report, read_chosen,
+    shown_lines, shown_status, told_paths, write_bytes,
 };
+use cli_words::TeamFiles;
 use cycle_window::WindowSize;
 use signals::Counted;
 use source_files::{Added, Origin};
 use std::fs::Files;
 use std::io;
-use std::io::{Eprint, Print};
+use std::io::{Cursor, Eprint, Print, Read};
 use std::sync::Wait;
 use std::thread::Threads;
 use vcd_reader::{Dump, read_dump};
@@ -33,6 +35,8 @@ pub struct Asked<'a> {
     pub vcd: &'a str,
     pub sva: &'a [String],
     pub axi: Option<&'a str>,
+    /// A team's files, which are judged in place of a text where there are any.
+    pub team_files: &'a TeamFiles,
     /// Patterns of the names of the assertions that are judged; none where all are.
     pub only: &'a [String],
     /// Whether what is refused is told, and the rest is judged.
@@ -41,6 +45,17 @@ pub struct Asked<'a> {
     pub files: FormFiles<'a>,
     /// The file of the page.
     pub html: Option<&'a str>,
+}
+
+impl<'a> Asked<'a> {
+    /// The files of the text, or those of a team.
+    fn files_of_text(&self) -> &'a [String] {
+        if self.team_files.files.is_empty() {
+            self.sva
+        } else {
+            self.team_files.files.as_slice()
+        }
+    }
 }
 
 /// How many failed attempts of each assertion a page shows.
@@ -65,7 +80,7 @@ fn paged_over<'a, R: Files + AllocGlobal + Threads + Wait + Sync>(
         let page = Vec::new(rt.alloc());
         return Ok(PagedReport { timed, page });
     }
-    let told = told_paths(rt.alloc(), asked.sva, asked.axi)?;
+    let told = told_paths(rt.alloc(), asked.files_of_text(), asked.axi)?;
     let paths = Paths {
         dump: asked.vcd,
         text: told.as_str(),
@@ -97,9 +112,9 @@ fn write_page<R: Files + AllocGlobal>(
 }
 
 /// Judges a text over a dump by a team; the report goes to standard output.
-fn judge_by_team<'a, R: Files + Print + AllocGlobal + Threads + Wait + Sync>(
+fn judge_by_team<'a, R: Files + Print + AllocGlobal + Threads + Wait + Sync, D: Read + Drop>(
     rt: &R,
-    dump: R::File,
+    dump: D,
     text: &'a str,
     team: Team,
 ) -> Result<[u64; 5], Fault<'a>> {
@@ -129,7 +144,7 @@ fn judge_over<'a, R: Files + Print + AllocGlobal + Threads + Wait + Sync>(
     requires held { (c : Contents) × HoldsContents dump c }
 {
     let made = paged_over(rt, dump, text, origin, asked)?;
-    let paths = told_paths(rt.alloc(), asked.sva, asked.axi)?;
+    let paths = told_paths(rt.alloc(), asked.files_of_text(), asked.axi)?;
     let from = Provenance {
         dump: asked.vcd,
         text: paths.as_str(),
@@ -141,9 +156,9 @@ fn judge_over<'a, R: Files + Print + AllocGlobal + Threads + Wait + Sync>(
 
 /// Reads a dump, and judges a text over it, as [`judge_over`] does. Windows and workers out of
 /// their range are refused before anything is read.
-fn judge_into_forms<'a, R: Files + Print + AllocGlobal + Threads + Wait + Sync>(
+fn judge_into_forms<'a, R: Files + Print + AllocGlobal + Threads + Wait + Sync, D: Read + Drop>(
     rt: &R,
-    dump: R::File,
+    dump: D,
     text: &'a str,
     origin: &Origin<'_>,
     asked: &Asked<'_>,
@@ -229,9 +244,9 @@ fn serve_going<R: Files + Print + Eprint + AllocGlobal + Threads + Wait + Sync>(
 }
 
 /// Judges a text over a dump, and answers the status.
-fn serve_whole<R: Files + Print + Eprint + AllocGlobal + Threads + Wait + Sync>(
+fn serve_whole<R: Files + Print + Eprint + AllocGlobal + Threads + Wait + Sync, D: Read + Drop>(
     rt: &R,
-    dump: R::File,
+    dump: D,
     sources: &Sources,
     asked: &Asked<'_>,
 ) -> u8 {
@@ -248,8 +263,50 @@ fn serve_whole<R: Files + Print + Eprint + AllocGlobal + Threads + Wait + Sync>(
     shown(rt, origin.added, outcome)
 }
 
-/// Opens the dump, then reads the text, and judges it, or what is left of it where what is refused
-/// is to be told and left out.
+/// Judges a text over a dump, or what is left of it where what is refused is to be told and left
+/// out.
+fn serve_sources<R: Files + Print + Eprint + AllocGlobal + Threads + Wait + Sync, D: Read + Drop>(
+    rt: &R,
+    dump: D,
+    sources: &Sources,
+    asked: &Asked<'_>,
+) -> u8 {
+    if !asked.keep_going {
+        return serve_whole(rt, dump, sources, asked);
+    }
+    match read_dump(rt.alloc(), &mut Counted::new(dump)) {
+        Ok(dump) => serve_going(rt, dump, sources, asked),
+        Err(fault) => shown_status(rt, Err(Fault::from(fault))),
+    }
+}
+
+/// Judges what is written of a team's files over a dump: status 2 where an assertion is refused.
+fn serve_team<R: Files + Print + Eprint + AllocGlobal + Threads + Wait + Sync, D: Read + Drop>(
+    rt: &R,
+    mut dump: D,
+    asked: &Asked<'_>,
+) -> u8 {
+    let front = match read_team(rt, &mut dump, asked.team_files) {
+        Ok(front) => front,
+        Err(fault) => return shown_status(rt, Err(fault)),
+    };
+    let TeamFront {
+        head,
+        sources,
+        is_whole,
+    } = front;
+    let Some(sources) = sources else {
+        return 2;
+    };
+    let sources = match chosen_sources(rt.alloc(), sources, asked.only) {
+        Ok(sources) => sources,
+        Err(fault) => return shown_status(rt, Err(fault)),
+    };
+    let dump = Cursor::new(head).chain(dump);
+    status_with(is_whole, serve_sources(rt, dump, &sources, asked))
+}
+
+/// Opens the dump, then reads the text or a team's files, and judges it.
 pub fn serve_check<R: Files + Print + Eprint + AllocGlobal + Threads + Wait + Sync>(
     rt: &R,
     asked: &Asked<'_>,
@@ -258,15 +315,11 @@ pub fn serve_check<R: Files + Print + Eprint + AllocGlobal + Threads + Wait + Sy
         Ok(dump) => dump,
         Err(fault) => return shown_status(rt, Err(fault)),
     };
-    let sources = match read_chosen(rt, asked.sva, asked.axi, asked.only) {
-        Ok(sources) => sources,
-        Err(fault) => return shown_status(rt, Err(fault)),
-    };
-    if !asked.keep_going {
-        return serve_whole(rt, dump, &sources, asked);
+    if !asked.team_files.files.is_empty() {
+        return serve_team(rt, dump, asked);
     }
-    match read_dump(rt.alloc(), &mut Counted::new(dump)) {
-        Ok(dump) => serve_going(rt, dump, &sources, asked),
-        Err(fault) => shown_status(rt, Err(Fault::from(fault))),
+    match read_chosen(rt, asked.sva, asked.axi, asked.only) {
+        Ok(sources) => serve_sources(rt, dump, &sources, asked),
+        Err(fault) => shown_status(rt, Err(fault)),
     }
 }

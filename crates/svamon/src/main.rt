@@ -4,6 +4,7 @@
 //! svamon check --vcd top.vcd --sva rules.sva [--sva more.sva] [--axi ports.txt] [--only 'req_*']
 //!     [--keep-going] [--workers 4] [--window 1024] [--junit report.xml] [--json report.json]
 //!     [--html report.html]
+//! svamon check --vcd top.vcd --sv checks.sv [--sv more.sv] [--scope tb.dut] [--bound 30] [--split]
 //! svamon judge --vcd top.vcd --sva rules.sva [--axi ports.txt]
 //! svamon build --vcd top.vcd --sva rules.sva [--axi ports.txt] --name r --out r.svm
 //! svamon run --vcd top.vcd --code r.svm [--workers 4] [--window 1024]
@@ -11,7 +12,7 @@
 //! svamon upgrade r.svm --out r2.svm
 //! svamon explain --vcd top.vcd --sva rules.sva [--axi ports.txt] [--only r] [--start 9] [--most 1]
 //! svamon lint --vcd top.vcd --sva rules.sva [--axi ports.txt]
-//! svamon import rules.sv [--scope tb.dut] [--bound 30] [--vcd top.vcd] [--clock tb.clk]
+//! svamon import checks.sv [--scope tb.dut] [--bound 30] [--vcd top.vcd] [--clock tb.clk] [--split]
 //! svamon names --vcd top.vcd [--match addr] [--scope tb.dut]
 //! svamon rules --axi ports.txt
 //! svamon --version
@@ -25,9 +26,9 @@
 //! the contracts of `cli` (`check_all`, `report_all`, `report_over`, `judge_one`, `build_one`),
 //! of `report_page` (`page`), of `report_forms` (`junit_report`, `json_report`), of `cli_bytecode`
 //! (`verify_code`, `run_code`, `upgrade_code`), of `cli_lint` (`lint_over`), of `cli_names`
-//! (`names_one`), of `import_files` (`imported`, `text_of`, `status_of`), of `source_files`
-//! (`joined`, `chosen`) and of `axi4_rules` (`port_rules`), whose definitions stand in their
-//! `specs/`.
+//! (`names_one`), of `import_files` (`imported`, `text_of`, `placed`, `status_of`), of
+//! `source_files` (`joined`, `chosen`) and of `axi4_rules` (`port_rules`), whose definitions stand
+//! in their `specs/`.
 //!
 //! Not promised: what a file holds, that the line of a fault reaches anyone, and that the process
 //! ends with the status: these are tested (`docs/TESTED.md`). `docs/USING.md` goes through the
@@ -35,8 +36,12 @@
 #![tactic(auto)]
 
 mod check;
+mod dump_front;
+mod dump_header;
 mod import;
 mod serve;
+mod team;
+mod team_commands;
 
 use std::process::ExitCode;
 use std::thread::Builder;

@@ -1,7 +1,8 @@
 //! The commands, from the words of the command line to the answer.
 
 use crate::check::{Asked, Team, serve_check};
-use crate::import::{self, serve_import};
+use crate::import::serve_import;
+use crate::team_commands::{serve_team_explain, serve_team_lint};
 use cli::{Fault, NoGate, Request, Wanted, build_one, explain_one, judge_one};
 use cli_bytecode::{run_code, upgrade_code, verify_code};
 use cli_lint::{LintFault, lint_one};
@@ -15,7 +16,7 @@ use source_files::Origin;
 use std::env::Env;
 use std::fs::Files;
 use std::io;
-use std::io::{Eprint, Print};
+use std::io::{Eprint, Print, Read};
 use std::sync::Wait;
 use std::thread::Threads;
 use workers_core::TeamSize;
@@ -54,12 +55,11 @@ const WORKERS: u64 = 4;
 
 /// Explains failed attempts of a text's assertions over a dump; the text goes to standard output.
 /// The answer is as that of a report, of which the third number counts what was explained.
-fn explain_text<'a, R: Files + Print + AllocGlobal + Threads + Wait + Sync>(
-    rt: &R,
-    dump: R::File,
-    sources: &'a Sources,
-    wanted: &Wanted<'_>,
-) -> Result<[u64; 5], Fault<'a>> {
+pub(crate) fn explain_text<
+    'a,
+    R: Files + Print + AllocGlobal + Threads + Wait + Sync,
+    D: Read + Drop,
+>(rt: &R, dump: D, sources: &'a Sources, wanted: &Wanted<'_>) -> Result<[u64; 5], Fault<'a>> {
     let mut dump = Counted::new(dump);
     let mut out = Counted::new(io::writer(rt));
     let text = sources.text.as_str();
@@ -323,6 +323,7 @@ fn serve<R: Files + Print + Eprint + AllocGlobal + Threads + Wait + Sync>(
             vcd,
             sva,
             axi,
+            team: team_files,
             only,
             keep_going,
             workers,
@@ -343,6 +344,7 @@ fn serve<R: Files + Print + Eprint + AllocGlobal + Threads + Wait + Sync>(
                 vcd: vcd.as_str(),
                 sva: sva.as_slice(),
                 axi: path_of(axi),
+                team_files,
                 only: only.as_slice(),
                 keep_going: *keep_going,
                 team,
@@ -385,6 +387,7 @@ fn serve<R: Files + Print + Eprint + AllocGlobal + Threads + Wait + Sync>(
             vcd,
             sva,
             axi,
+            team,
             only,
             start,
             most,
@@ -394,9 +397,20 @@ fn serve<R: Files + Print + Eprint + AllocGlobal + Threads + Wait + Sync>(
                 start: *start,
                 most: *most,
             };
+            if !team.files.is_empty() {
+                return serve_team_explain(rt, vcd.as_str(), team, &wanted);
+            }
             serve_explain(rt, vcd.as_str(), sva.as_slice(), path_of(axi), &wanted)
         }
-        Request::Lint { vcd, sva, axi } => {
+        Request::Lint {
+            vcd,
+            sva,
+            axi,
+            team,
+        } => {
+            if !team.files.is_empty() {
+                return serve_team_lint(rt, vcd.as_str(), team);
+            }
             serve_lint(rt, vcd.as_str(), sva.as_slice(), path_of(axi))
         }
         Request::Names {
@@ -410,24 +424,7 @@ fn serve<R: Files + Print + Eprint + AllocGlobal + Threads + Wait + Sync>(
             };
             serve_names(rt, vcd.as_str(), &filter)
         }
-        Request::Import {
-            files,
-            scope,
-            bound,
-            vcd,
-            clock,
-            define,
-        } => {
-            let wanted = import::Wanted {
-                files: files.as_slice(),
-                scope: path_of(scope),
-                bound: *bound,
-                vcd: path_of(vcd),
-                clock: path_of(clock),
-                define: define.as_slice(),
-            };
-            serve_import(rt, &wanted)
-        }
+        Request::Import { team, vcd } => serve_import(rt, team, path_of(vcd)),
         Request::Rules { axi } => serve_rules(rt, axi.as_str()),
         Request::Upgrade { code, out } => serve_upgrade(rt, code.as_str(), out.as_str()),
     }

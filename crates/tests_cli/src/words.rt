@@ -1,6 +1,7 @@
 //! The words of commands, read and refused.
 
 use cli::{Fault, Request, WordsFault, read_words, status};
+use cli_words::TeamFiles;
 use std::alloc::{AllocError, Global};
 use std::test::Fail;
 
@@ -34,6 +35,22 @@ fn texts_of(
     format!(in alloc; "{vcd} {sva} {}", file_or_none(axi))
 }
 
+/// A team's files, and how they are read; nothing where there are none.
+fn team_of(alloc: Global, team: &TeamFiles) -> Result<String, AllocError> {
+    if team.files.is_empty() {
+        return Ok(String::new(alloc));
+    }
+    let files = listed(alloc, team.files.as_slice())?;
+    let define = listed(alloc, team.define.as_slice())?;
+    format!(in alloc;
+        " {files} {} {} {} {define} {}",
+        file_or_none(&team.scope),
+        team.bound.unwrap_or(0),
+        file_or_none(&team.clock),
+        team.split
+    )
+}
+
 /// What is asked for, in a line.
 fn line_of(alloc: Global, request: &Request) -> Result<String, AllocError> {
     match request {
@@ -41,6 +58,7 @@ fn line_of(alloc: Global, request: &Request) -> Result<String, AllocError> {
             vcd,
             sva,
             axi,
+            team,
             only,
             keep_going,
             workers,
@@ -51,8 +69,9 @@ fn line_of(alloc: Global, request: &Request) -> Result<String, AllocError> {
         } => {
             let texts = texts_of(alloc, vcd.as_str(), sva.as_slice(), axi)?;
             let only = listed(alloc, only.as_slice())?;
+            let team = team_of(alloc, team)?;
             format!(in alloc;
-                "check {texts} {only} {keep_going} {workers} {window} {} {} {}",
+                "check {texts}{team} {only} {keep_going} {workers} {window} {} {} {}",
                 file_or_none(junit),
                 file_or_none(json),
                 file_or_none(html)
@@ -62,9 +81,15 @@ fn line_of(alloc: Global, request: &Request) -> Result<String, AllocError> {
             let texts = texts_of(alloc, vcd.as_str(), sva.as_slice(), axi)?;
             format!(in alloc; "judge {texts}")
         }
-        Request::Lint { vcd, sva, axi } => {
+        Request::Lint {
+            vcd,
+            sva,
+            axi,
+            team,
+        } => {
             let texts = texts_of(alloc, vcd.as_str(), sva.as_slice(), axi)?;
-            format!(in alloc; "lint {texts}")
+            let team = team_of(alloc, team)?;
+            format!(in alloc; "lint {texts}{team}")
         }
         Request::Names {
             vcd,
@@ -75,23 +100,9 @@ fn line_of(alloc: Global, request: &Request) -> Result<String, AllocError> {
             file_or_none(matching),
             file_or_none(scope)
         ),
-        Request::Import {
-            files,
-            scope,
-            bound,
-            vcd,
-            clock,
-            define,
-        } => {
-            let files = listed(alloc, files.as_slice())?;
-            let define = listed(alloc, define.as_slice())?;
-            format!(in alloc;
-                "import {files} {} {} {} {} {define}",
-                file_or_none(scope),
-                bound.unwrap_or(0),
-                file_or_none(vcd),
-                file_or_none(clock)
-            )
+        Request::Import { team, vcd } => {
+            let team = team_of(alloc, team)?;
+            format!(in alloc; "import{team} {}", file_or_none(vcd))
         }
         Request::Rules { axi } => format!(in alloc; "rules {axi}"),
         Request::Verify { code } => format!(in alloc; "verify {code}"),
@@ -116,13 +127,15 @@ fn line_of(alloc: Global, request: &Request) -> Result<String, AllocError> {
             vcd,
             sva,
             axi,
+            team,
             only,
             start,
             most,
         } => {
             let texts = texts_of(alloc, vcd.as_str(), sva.as_slice(), axi)?;
+            let team = team_of(alloc, team)?;
             format!(in alloc;
-                "explain {texts} {} {} {} {most}",
+                "explain {texts}{team} {} {} {} {most}",
                 file_or_none(only),
                 start.is_some(),
                 start.unwrap_or(0)
@@ -192,11 +205,12 @@ fn words_are_read(rt: HostRuntime) -> Result<(), Fail> {
             "svamon judge --vcd a.vcd --sva a.sva --axi p",
             "judge a.vcd a.sva p",
         ),
-        ("svamon import a b", "import a,b none 0 none none "),
+        ("svamon import a b", "import a,b none 0 none  false none"),
         (
             "svamon import --bound 127 a --scope t --define x=1 --vcd v --define y b --clock c",
-            "import a,b t 127 v c x=1,y",
+            "import a,b t 127 c x=1,y false v",
         ),
+        ("svamon import a --split", "import a none 0 none  true none"),
         ("svamon import", "refused 2 true"),
         ("svamon import a --bound 0", "refused 2 true"),
         ("svamon import a --bound 128", "refused 2 true"),
@@ -239,6 +253,40 @@ fn words_are_read(rt: HostRuntime) -> Result<(), Fail> {
         ("svamon upgrade a.svm", "refused 2 true"),
         ("svamon run --vcd a.vcd", "refused 2 true"),
         ("svamon verify a.svm b.svm", "refused 2 true"),
+    ] {
+        assert!(rt; told(rt.alloc(), words)?.as_str() == wanted, "{words}");
+    }
+    Ok(())
+}
+
+#[test]
+fn words_of_a_team_are_read(rt: HostRuntime) -> Result<(), Fail> {
+    for (words, wanted) in [
+        (
+            "svamon check --vcd v --sv a --sv b",
+            "check v  none a,b none 0 none  false  false 4 1024 none none none",
+        ),
+        (
+            "svamon check --sv a --define x --only r* --bound 7 --clock c --split --vcd v",
+            "check v  none a none 7 c x true r* false 4 1024 none none none",
+        ),
+        (
+            "svamon explain --vcd v --sv a --start 3 --bound 127",
+            "explain v  none a none 127 none  false none true 3 1",
+        ),
+        (
+            "svamon lint --scope t --vcd v --sv a",
+            "lint v  none a t 0 none  false",
+        ),
+        ("svamon check --vcd v --sv a --sva b", "refused 2 true"),
+        ("svamon check --vcd v --sv a --axi b", "refused 2 true"),
+        ("svamon check --vcd v --sva a --bound 3", "refused 2 true"),
+        ("svamon explain --vcd v --axi a --scope t", "refused 2 true"),
+        ("svamon lint --vcd v --sva a --split", "refused 2 true"),
+        ("svamon lint --vcd v --clock c", "refused 2 true"),
+        ("svamon check --vcd v --sv a --bound 128", "refused 2 true"),
+        ("svamon check --vcd v --sv", "refused 2 true"),
+        ("svamon judge --vcd v --sv a", "refused 2 true"),
     ] {
         assert!(rt; told(rt.alloc(), words)?.as_str() == wanted, "{words}");
     }

@@ -58,7 +58,9 @@ fn said<'p, 't>(
     match spelling.assertion(b"r", opened, &sides) {
         Ok(text) => {
             let consequent = &sides.consequent;
-            if !says_rewriting(alloc, &text, b"r", &sides.antecedent, consequent) {
+            let is_disabled = opened.disable.is_some();
+            let antecedent = &sides.antecedent;
+            if !says_rewriting(alloc, &text, b"r", is_disabled, antecedent, consequent)? {
                 return Ok(text);
             }
         }

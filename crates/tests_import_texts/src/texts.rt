@@ -1,6 +1,6 @@
 //! What no clause says of texts of assertions.
 
-use import_elaboration::Opener;
+use import_elaboration::{Opened, Opener};
 use import_readback::says_rewriting;
 use import_rewriting::Rewriting;
 use import_scopes::File;
@@ -132,13 +132,20 @@ fn joined_delay(alloc: Global) -> Result<Box<Sequence>, AllocError> {
 }
 
 /// A text, if it says a rewriting.
-fn read_back<'s>(alloc: Global, text: &'s [u8], label: &[u8], rewriting: &Rewriting) -> &'s [u8] {
+fn read_back<'s>(
+    alloc: Global,
+    text: &'s [u8],
+    label: &[u8],
+    opened: &Opened<'_>,
+    rewriting: &Rewriting,
+) -> Result<&'s [u8], AllocError> {
+    let is_disabled = opened.disable.is_some();
     let antecedent = &rewriting.antecedent;
     let consequent = &rewriting.consequent;
-    if says_rewriting(alloc, text, label, antecedent, consequent) {
-        return text;
+    if says_rewriting(alloc, text, label, is_disabled, antecedent, consequent)? {
+        return Ok(text);
     }
-    b"another text"
+    Ok(b"another text")
 }
 
 /// The text of a file's first assertion with a rewriting in place of its property, or the code of
@@ -160,7 +167,9 @@ fn spell(
         if let Ok(opened) = opener.open(*assertion) {
             let mut spelling = Spelling::new(alloc, opener.parts(), scope, &[]);
             match spelling.assertion(label, &opened, rewriting) {
-                Ok(text) => out.extend_from_slice(read_back(alloc, &text, label, rewriting))?,
+                Ok(text) => out.extend_from_slice(read_back(
+                    alloc, &text, label, &opened, rewriting,
+                )?)?,
                 Err(refused) => out.extend_from_slice(refused.reason.code().as_bytes())?,
             }
         }

@@ -5,7 +5,7 @@ use Rattle.cli_words.proofs.command.explain_command.Goals as goal
 pub returns : goal.returns
 returns c =
     let only =
-    one_option _ _ _ _ _ c.in_ok-arg.ensures c.in_ok-text_command.ensures c.only_option.ensures.rule
+    one_option _ _ _ _ _ c.in_ok-arg.ensures c.in_ok-team_command.ensures c.only_option.ensures.rule
     c.only_option.ensures.local in
     let start =
     one_option _ _ _ _ _ c.in_ok-arg-2.ensures only c.start_option.ensures.rule c.start_option.ensures.local in

@@ -9,5 +9,7 @@ returns c =
     c.free_option.ensures.local in
     let clock =
     one_option _ _ _ _ _ c.in_ok-arg-2.ensures dump c.free_option-2.ensures.rule c.free_option-2.ensures.local in
-    IfOk-weaker c.arg-3.result _ _
-    (λ r h. one_option _ r _ _ _ h clock c.many_option.ensures.rule c.many_option.ensures.local) c.arg-3.ensures
+    let define =
+    one_option _ _ _ _ _ c.in_ok-arg-3.ensures clock c.many_option.ensures.rule c.many_option.ensures.local in
+    IfOk-weaker c.arg-4.result _ _
+    (λ r h. one_option _ r _ _ _ h define c.flag_option.ensures.rule c.flag_option.ensures.local) c.arg-4.ensures

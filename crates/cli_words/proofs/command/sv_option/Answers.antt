@@ -1,0 +1,21 @@
+use Rattle.std.proofs.Common.{ap}
+use Rattle.std.proofs.lemmas.Result.{IfOk-weaker}
+use Rattle.cli_words.specs.Words.{tied}
+use Rattle.cli_words.proofs.CommandLaws.{tied_by_another, local_by_another}
+use Rattle.cli_words.proofs.command.sv_option.Goals as goal
+
+pub returns-clause-rule : goal.returns-clause-rule
+returns-clause-rule c =
+    let apart =
+    tied_by_another c.many_option.result c.in_ok-apart.apart _ _ c.in_ok-apart.ensures
+    (ap tied c.many_option.ensures.rule) in
+    IfOk-weaker c.conflicts_with-2.result _ _ (λ r h. tied_by_another c.in_ok-apart.apart r _ _ h (ap tied apart))
+    c.conflicts_with-2.ensures
+
+pub returns-clause-local : goal.returns-clause-local
+returns-clause-local c =
+    let apart =
+    local_by_another c.many_option.result c.in_ok-apart.apart _ c.in_ok-apart.ensures
+    c.many_option.ensures.local in
+    IfOk-weaker c.conflicts_with-2.result _ _ (λ r h. local_by_another c.in_ok-apart.apart r _ h apart)
+    c.conflicts_with-2.ensures

@@ -1,0 +1,140 @@
+//! Files, and what becomes of their assertions.
+
+use import_files::{
+    ImportFault, Imported, Reading, imported, messages_of, placed, status_of, text_of,
+};
+use source_files::{Part, place_before};
+use std::alloc::{AllocError, Global};
+use std::test::Fail;
+
+/// What is written of a file, what is told, and the status.
+#[derive(Drop)]
+struct Said {
+    text: String,
+    told: String,
+    status: u8,
+}
+
+/// The assertions of a file, with a bound of 100.
+fn import(alloc: Global, text: &str, split: bool) -> Result<Imported, ImportFault> {
+    let reading = Reading {
+        scope: None,
+        bound: Some(100),
+        clock: None,
+        widths: &[],
+        names: &[],
+        split,
+    };
+    imported(alloc, text, &[], &reading)
+}
+
+/// Bytes as a text.
+fn text_in(alloc: Global, bytes: &[u8]) -> Result<String, AllocError> {
+    String::from_str(alloc, str::from_utf8(bytes).unwrap_or(""))
+}
+
+/// The messages on a file `f`.
+fn told_of(alloc: Global, text: &str, all: &Imported) -> Result<String, AllocError> {
+    let mut parts = Vec::new(alloc);
+    parts.push(Part {
+        path: String::from_str(alloc, "f")?,
+        text: String::from_str(alloc, text)?,
+    })?;
+    messages_of(alloc, parts.as_slice(), Some(100), all)
+}
+
+fn said(alloc: Global, text: &str, split: bool) -> Result<Said, ImportFault> {
+    let all = import(alloc, text, split)?;
+    let written = text_of(alloc, &all)?;
+    Ok(Said {
+        text: text_in(alloc, written.as_slice())?,
+        told: told_of(alloc, text, &all)?,
+        status: status_of(&all),
+    })
+}
+
+/// A property of two parts that together weigh over 127.
+const HEAVY: &str = "r: assert property (@(posedge c) a |-> (##[1:90] b) and ##[1:80] d);\n";
+
+#[test]
+fn one_that_is_too_heavy_becomes_two(rt: HostRuntime) -> Result<(), Fail> {
+    let alloc = rt.alloc();
+    let whole = said(alloc, HEAVY, false)?;
+    assert!(rt; whole.status == 2 && whole.told.as_str().contains("refused r TooHeavy: "));
+    let halves = said(alloc, HEAVY, true)?;
+    assert!(rt; halves.status == 0);
+    assert!(rt;
+        halves.text.as_str()
+            == "r__1: assert property (@(posedge c) a |-> ##[1:90] b);\n\
+        r__2: assert property (@(posedge c) a |-> ##[1:80] d);\n"
+    );
+    assert!(rt; halves.told.as_str() == "f:1:1: note r Renamed: r__1 and r__2\n");
+    Ok(())
+}
+
+#[test]
+fn one_that_is_light_stays_one(rt: HostRuntime) -> Result<(), Fail> {
+    let text = "r: assert property (@(posedge c) a |-> (##1 b) and ##1 d);\n";
+    let found = said(rt.alloc(), text, true)?;
+    assert!(rt; found.status == 0 && found.told.as_str() == "");
+    Ok(())
+}
+
+#[test]
+fn booleans_that_imply_are_noted(rt: HostRuntime) -> Result<(), Fail> {
+    let text = "r: assert property (@(posedge c) a implies b);\n";
+    let found = said(rt.alloc(), text, false)?;
+    assert!(rt; found.told.as_str().starts_with("f:1:1: note r Vacuity: "));
+    Ok(())
+}
+
+#[test]
+fn covers_alone_write_nothing(rt: HostRuntime) -> Result<(), Fail> {
+    let text = "r: cover property (@(posedge c) a);\n";
+    let found = said(rt.alloc(), text, false)?;
+    assert!(rt; found.status == 2 && found.text.as_str() == "");
+    Ok(())
+}
+
+#[test]
+fn names_of_a_scope_and_of_one_round_it(rt: HostRuntime) -> Result<(), Fail> {
+    let text =
+        "let x = a; let y = b;\nmodule m; let x = d;\nr: assert property (@(posedge c) x && y);\n\
+        endmodule s: assert property (@(posedge c) x);";
+    let found = said(rt.alloc(), text, false)?;
+    assert!(rt;
+        found.text.as_str()
+            == "r: assert property (@(posedge c) d && b);\n\
+        s: assert property (@(posedge c) a);\n"
+    );
+    Ok(())
+}
+
+/// Whether a byte of a text begins with a label.
+fn place_of(text: &str, label: &str) -> usize {
+    text.find(label).unwrap_or(0)
+}
+
+#[test]
+fn what_is_judged_stands_where_the_files_have_it(rt: HostRuntime) -> Result<(), Fail> {
+    let alloc = rt.alloc();
+    let text =
+        "// first\n  r: assert property (@(posedge c) a);\ns: assert property (@(posedge c) b);";
+    let all = import(alloc, text, false)?;
+    let judged = placed(alloc, text, &all)?;
+    let added = judged.added.as_slice();
+    let (first, second) = (
+        place_of(judged.text.as_str(), "r:"),
+        place_of(judged.text.as_str(), "s:"),
+    );
+    assert!(rt; first == 11 && place_before(added, first) == 11);
+    assert!(rt; place_before(added, first + 20) == 11);
+    assert!(rt; place_before(added, second) == 48 && place_before(added, second + 9) == 48);
+    assert!(rt;
+        judged
+            .text
+            .as_str()
+            .starts_with("        \n  r: assert property (@(posedge c) a);\n")
+    );
+    Ok(())
+}
