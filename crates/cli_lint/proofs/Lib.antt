@@ -1,3 +1,2 @@
-pub mod FrontLaws
-pub mod PathLaws
+pub mod ReadLaws
 pub mod TellLaws

@@ -1,4 +1,1 @@
-pub mod Dumps
-pub mod Refused
-pub mod Rests
 pub mod Tells

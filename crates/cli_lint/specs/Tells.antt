@@ -14,11 +14,11 @@ use Rattle.source_files.specs.Chosen.{place_before}
 use Rattle.source_files.specs.Parts.{IsSpot}
 use Rattle.diagnostics.specs.declared.front.Refusal.{Refusal}
 use Rattle.diagnostics.specs.Items.{AreItemEnds}
-use Rattle.diagnostics.specs.Linted.{IsTold}
 use Rattle.diagnostics.specs.Told.{refusal_text, total_text}
 use Rattle.vcd_reader.specs.Variables.{Declared}
 use Rattle.vcd_reader.specs.Dump.{Contents, GaveDump}
-use Rattle.cli_lint.specs.Refused.{IsRefused}
+use Rattle.lint_refusals.specs.Counted.{counted}
+use Rattle.lint_refusals.specs.Rests.{AreTold}
 
 -- the path and the text of a file, and nothing where there is none
 abbrev pub path_of : Option Part → List ℕ
@@ -53,36 +53,39 @@ pub record TellsEach (parts : List Part) (added : List Added) (refusals : List R
   pub each : AllZip (IsToldOf parts added) refusals pieces
   pub is : text ≡ flat_map (λ p. p) pieces
 
--- The text that tells of refusals, in the order of their places, and how many of so many items are
--- refused.
-pub record TellsAll (parts : List Part) (added : List Added) (refusals : List Refusal) (items : ℕ)
-    (text : List ℕ) : Type 0 where
+-- The text that tells of refusals, in the order of their places, then of notes, and then how many
+-- of so many items are refused.
+pub record TellsAll (parts : List Part) (added : List Added) (refusals notes : List Refusal)
+    (items : ℕ) (text : List ℕ) : Type 0 where
   pub ordered : List Refusal
   pub moved : IsPermutation refusals ordered
   pub rising : IsNonDecreasingBy (λ r. r.at) ordered
   pub front : List ℕ
   pub tells : TellsEach parts added ordered front
-  pub is : text ≡ front ++ total_text (length refusals) (max items (length refusals))
+  pub after : List ℕ
+  pub noted : TellsEach parts added notes after
+  pub is : text ≡ (front ++ after) ++ total_text (length refusals) (max items (length refusals))
 
--- The text tells so many refusals, each of the text without the items that were refused before it,
--- and this is left.
+-- The text tells so many refusals of a text, of which this is left; and then notes.
 pub record TellsRefusals (vs : List Declared) (text : List ℕ) (parts : List Part)
-    (added : List Added) (refused : ℕ) (told : List ℕ) (rest : Option (String Global)) :
-    Type 0 where
+    (added : List Added) (notes : List Refusal) (refused : ℕ) (told : List ℕ)
+    (rest : Option (String Global)) : Type 0 where
   pub ends : List ℕ
   pub items : IsOk (tokens_of text) → AreItemEnds text ends
   pub refusals : List Refusal
-  pub told_of : IsTold (IsRefused vs) ends text (map (λ r. r.at) refusals) rest
+  pub told_of : AreTold vs ends text (map (λ r. r.at) refusals) rest
   pub many : length refusals ≡ refused
-  pub tells : TellsAll parts added refusals (length ends) told
+  pub tells : TellsAll parts added refusals notes (counted text ends refusals) told
 
 -- The source gave a dump, and the sink took the text that tells all refusals of a text over it.
-pub record IsLinted (text : List ℕ) (parts : List Part) (source_before source_after : SourceState)
-    (sink_before sink_after : SinkState) (refused : ℕ) : Type 0 where
+pub record IsLinted (text : List ℕ) (parts : List Part) (added : List Added)
+    (source_before source_after : SourceState) (sink_before sink_after : SinkState)
+    (refused : ℕ) : Type 0 where
   pub contents : Contents
   pub gave : GaveDump source_before.remaining source_after.remaining contents
   pub told : List ℕ
   pub rest : Option (String Global)
-  pub tells : TellsRefusals contents.variables text parts [] refused told rest
+  pub notes : List Refusal
+  pub tells : TellsRefusals contents.variables text parts added notes refused told rest
   pub written : Appends sink_before.contents sink_after.contents told
   pub flushed : sink_after.keeps_back ≡ false

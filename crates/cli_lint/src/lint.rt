@@ -1,63 +1,26 @@
 //! The call of the command `lint`.
 
-ghost use Rattle.std.specs.Prelude.{◌≡◌, ℕ, List, [], map, length, IfOk, IfSome, OnOk, IsOk};
-ghost use Rattle.std.specs.Prelude.{false, string_bytes};
+ghost use Rattle.std.specs.Prelude.{◌≡◌, List, [], false, string_bytes, Ok, IfOk, OnOk};
 ghost use Rattle.std.specs.Io.KnownBytes.{Appends};
-ghost use Rattle.lexer.specs.Cutting.{tokens_of};
-ghost use Rattle.diagnostics.specs.Items.{AreItemEnds};
-ghost use Rattle.diagnostics.specs.Linted.{IsTold};
-ghost use Rattle.vcd_reader.specs.Held.{variables_of};
-ghost use Rattle.cli_lint.specs.Refused.{IsAccepted, IsRefused};
-ghost use Rattle.cli_lint.specs.Rests.{IsLeft, IsRest};
+ghost use Rattle.diagnostics.specs.declared.front.Refusal.{Refusal};
+ghost use Rattle.vcd_reader.specs.Dump.{Contents, Gave, dump_of};
+ghost use Rattle.vcd_reader.specs.Held.{variables_of, Parses};
+ghost use Rattle.lint_refusals.specs.Refused.{IsAccepted};
+ghost use Rattle.lint_refusals.specs.Rests.{IsRest};
 ghost use Rattle.cli_lint.specs.Tells.{TellsRefusals, IsLinted};
 
-use crate::dump_paths::names_of;
 use crate::fault::LintFault;
-use crate::front::DumpFront;
 use crate::refusals::text_of;
-use diagnostics::{Linted, item_ends, lint};
-use signals::{Sink, Source, write_all};
-use source_files::{Origin, Part};
+use diagnostics::{Linted, Refusal};
+use lint_dump_notes::{Beside, told_notes};
+use lint_messages::{Meant, Unnamed, names_of, unnamed_in};
+use lint_notes::PortSaid;
+use lint_refusals::lint_over;
+use signals::{Counted, ReadAllError, Sink, Source, read_all, write_all};
+use source_files::Origin;
 use std::alloc::{AllocError, Global};
-use vcd_reader::{Dump, read_dump};
+use vcd_reader::{Dump, VcdFault, read_dump};
 use verdicts::ReportFault;
-
-/// What is told of a text, and how many items it has.
-#[derive(Drop)]
-pub struct Told {
-    pub linted: Linted,
-    pub items: usize,
-}
-
-/// All refusals of a text over a dump, and the text without the items that are refused. `names` are
-/// those that it may mean.
-pub fn lint_over(
-    alloc: Global,
-    dump: &Dump,
-    names: &[String],
-    text: &str,
-) -> Result<Told, AllocError>
-    ensures told { IfOk result (λ t. (ends : List ℕ) × (length ends ≡ t.items)
-        × (IsOk (tokens_of text.now) → AreItemEnds text.now ends)
-        × IsTold (IsRefused (variables_of dump.now)) ends text.now
-        (map (λ r. r.at) t.linted.refusals.items) t.linted.rest) }
-    ensures accepted { IfOk result (λ t. t.linted.refusals.items ≡ []
-        → IsAccepted (variables_of dump.now) text.now) }
-    ensures left { IfOk result
-        (λ t. IfSome t.linted.rest (IsLeft (variables_of dump.now) text.now)) }
-{
-    let ends = item_ends(alloc, text)?;
-    let front = DumpFront {
-        dump,
-        names,
-        whole: text,
-    };
-    let linted = lint(alloc, &front, text, ends.as_slice())?;
-    Ok(Told {
-        linted,
-        items: ends.len(),
-    })
-}
 
 /// What is told of a text: how much of it is refused, and the text without that.
 #[derive(Drop)]
@@ -79,21 +42,123 @@ pub fn rest_over(
     origin: &Origin<'_>,
 ) -> Result<Rest, AllocError>
     ensures tells { IfOk result (λ r. TellsRefusals (variables_of dump.now) text.now
-        origin.now.parts.now origin.now.added.now r.refused (string_bytes r.told) r.text) }
+        origin.now.parts.now origin.now.added.now [] r.refused (string_bytes r.told) r.text) }
     ensures rest { IfOk result (λ r.
         IsRest (variables_of dump.now) text.now r.refused r.text) }
     ensures accepted { IfOk result (λ r. r.refused ≡ 0
         → IsAccepted (variables_of dump.now) text.now) }
 {
     let names = names_of(alloc, dump, text)?;
-    let mut told = lint_over(alloc, dump, names.as_slice(), text)?;
+    let meant = Meant {
+        dump,
+        names: names.as_slice(),
+        unnamed: &[],
+        origin: *origin,
+    };
+    let mut told = lint_over(alloc, &meant, text)?;
     let refused = told.linted.refusals.len();
-    let written = text_of(alloc, origin, &mut told.linted.refusals, told.items)?;
+    let written = text_of(alloc, origin, &mut told.linted.refusals, &[], told.items)?;
     Ok(Rest {
         told: written,
         refused,
         text: told.linted.rest,
     })
+}
+
+/// The same, with notes on what is left.
+fn noted_over(
+    alloc: Global,
+    dump: Dump,
+    text: &str,
+    origin: &Origin<'_>,
+    unnamed: &[Unnamed],
+    beside: &Beside<'_>,
+) -> Result<Rest, AllocError>
+    ensures { IfOk result (λ r. (notes : List Refusal)
+        × TellsRefusals (variables_of dump) text.now origin.now.parts.now origin.now.added.now
+        notes r.refused (string_bytes r.told) r.text) }
+{
+    let names = names_of(alloc, &dump, text)?;
+    let meant = Meant {
+        dump: &dump,
+        names: names.as_slice(),
+        unnamed,
+        origin: *origin,
+    };
+    let mut told = lint_over(alloc, &meant, text)?;
+    let notes = notes_on(alloc, dump, &told.linted, beside)?;
+    let refused = told.linted.refusals.len();
+    let refusals = &mut told.linted.refusals;
+    let written = text_of(alloc, origin, refusals, notes.as_slice(), told.items)?;
+    let left = told.linted.rest;
+    Ok(Rest {
+        told: written,
+        refused,
+        text: left,
+    })
+}
+
+/// The notes on what is left of a text.
+fn notes_on(
+    alloc: Global,
+    dump: Dump,
+    linted: &Linted,
+    beside: &Beside<'_>,
+) -> Result<Vec<Refusal>, AllocError> {
+    match &linted.rest {
+        None => Ok(Vec::new(alloc)),
+        Some(rest) => told_notes(
+            alloc,
+            dump,
+            rest.as_str(),
+            beside,
+            linted.refusals.is_empty(),
+        ),
+    }
+}
+
+/// The most bytes of a dump.
+const MOST_BYTES: u64 = 1 << 48;
+
+/// All that a source has.
+fn bytes_of<S: Source>(alloc: Global, source: &mut S) -> Result<Vec<u8>, LintFault>
+    ensures { IfOk result (λ bytes. Gave (S.state source.old).remaining
+        (S.state source.new).remaining bytes.items) }
+{
+    match read_all(alloc, source, MOST_BYTES) {
+        Ok(bytes) => Ok(bytes),
+        Err(ReadAllError::Memory) => Err(LintFault::Memory),
+        Err(ReadAllError::Failed) => Err(LintFault::Vcd(VcdFault::Read)),
+        Err(ReadAllError::TooLarge) => Err(LintFault::Vcd(VcdFault::TooLarge)),
+    }
+}
+
+/// The dump that bytes are.
+fn dump_of(alloc: Global, bytes: &[u8]) -> Result<Dump, VcdFault>
+    ensures { IfOk result (Parses bytes.now) }
+{
+    let mut source = Counted::new(bytes);
+    read_dump(alloc, &mut source)
+}
+
+/// What is told of a text over the dump that bytes are.
+fn told_over(
+    alloc: Global,
+    bytes: &[u8],
+    text: &str,
+    origin: &Origin<'_>,
+    ports: &[PortSaid],
+) -> Result<Rest, LintFault>
+    ensures { IfOk result (λ r. (c : Contents) × (dump_of bytes.now ≡ Ok c)
+        × (notes : List Refusal)
+        × TellsRefusals c.variables text.now origin.now.parts.now origin.now.added.now notes
+        r.refused (string_bytes r.told) r.text) }
+{
+    let dump = dump_of(alloc, bytes)?;
+    let unnamed = unnamed_in(alloc, bytes)?;
+    let beside = Beside { bytes, ports };
+    let rest = noted_over(alloc, dump, text, origin, unnamed.as_slice(), &beside)?;
+    Ok(rest)
 }
 
 /// Writes what is told, and hands it on.
@@ -112,10 +177,11 @@ fn write_told<W: Sink>(out: &mut W, told: &str) -> Result<(), LintFault>
 }
 
 /// Tells all refusals of a text over the dump that a source gives, in the order of their places:
-/// each with its file's path, its line and column there, and why; then that line, and a caret; and
-/// at the end how many items are refused. The text is that of these files, joined.
+/// each with its file's path, its line and its column there, and why; then that line, and a caret.
+/// Then come notes on what is accepted, and at the end how many items are refused. The text was
+/// made of the origin's files; the ports are those whose rules are in it.
 ///
-/// The answer is how many.
+/// The answer is how many refusals there are.
 ///
 /// # Errors
 ///
@@ -124,15 +190,15 @@ pub fn lint_one<S: Source, W: Sink>(
     alloc: Global,
     source: &mut S,
     text: &str,
-    parts: &[Part],
+    origin: &Origin<'_>,
+    ports: &[PortSaid],
     out: &mut W,
 ) -> Result<u64, LintFault>
-    ensures { IfOk result (IsLinted text.now parts.now (S.state source.old) (S.state source.new)
-        (W.state out.old) (W.state out.new)) }
+    ensures { IfOk result (IsLinted text.now origin.now.parts.now origin.now.added.now
+        (S.state source.old) (S.state source.new) (W.state out.old) (W.state out.new)) }
 {
-    let dump = read_dump(alloc, source)?;
-    let origin = Origin { parts, added: &[] };
-    let rest = rest_over(alloc, &dump, text, &origin)?;
+    let bytes = bytes_of(alloc, source)?;
+    let rest = told_over(alloc, bytes.as_slice(), text, origin, ports)?;
     write_told(out, rest.told.as_str())?;
     Ok(rest.refused as u64)
 }

@@ -39,19 +39,22 @@ fn told_of(alloc: Global, origin: &Origin<'_>, refusals: &[Refusal]) -> Result<S
     Ok(text)
 }
 
-/// The text that tells of refusals, in the order of their places, and how many of so many items are
-/// refused.
+/// The text that tells of refusals, in the order of their places, then of notes, and then how many
+/// of so many items are refused.
 pub(crate) fn text_of(
     alloc: Global,
     origin: &Origin<'_>,
     refusals: &mut Vec<Refusal>,
+    notes: &[Refusal],
     items: usize,
 ) -> Result<String, AllocError>
     ensures { IfOk result (λ text. TellsAll origin.now.parts.now origin.now.added.now
-        refusals.old.items items (string_bytes text)) }
+        refusals.old.items notes.now items (string_bytes text)) }
 {
     refusals.sort_by_key(|refusal| refusal.at)?;
+    let noted = told_of(alloc, origin, notes)?;
     let mut text = told_of(alloc, origin, refusals.as_slice())?;
+    text.push_str(noted.as_str())?;
     let count = refusals.len();
     push_total(&mut text, count, items.max(count))?;
     Ok(text)

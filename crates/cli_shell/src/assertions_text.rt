@@ -17,6 +17,15 @@ pub struct Sources {
     pub text: String,
     /// What was added to it.
     pub added: Vec<Added>,
+    /// The text of the port file, if there is one.
+    pub ports: Option<String>,
+}
+
+/// The texts that are judged, and that of the port file, if there is one.
+#[derive(Drop)]
+struct Read {
+    parts: Vec<Part>,
+    ports: Option<String>,
 }
 
 /// Adds one more.
@@ -47,25 +56,50 @@ fn read_all<R: Files + AllocGlobal>(
     Ok(all)
 }
 
+/// A path as it is told: a line feed as `\n`, so that it stands in one line.
+fn told_path(alloc: Global, path: &str) -> Result<String, AllocError> {
+    let mut told = String::new(alloc);
+    let mut mark = "";
+    for line in path.split('\n') {
+        told.push_str(mark)?;
+        told.push_str(line)?;
+        mark = "\\n";
+    }
+    Ok(told)
+}
+
 /// The texts of the files of some paths, which are all read before one is found to be no text.
 fn read_texts<R: Files + AllocGlobal>(rt: &R, paths: &[&str]) -> Result<Vec<Part>, Fault<'static>> {
     let mut parts = Vec::new(rt.alloc());
     for (bytes, path) in read_all(rt, paths)?.into_iter().zip(paths.iter()) {
         let text = text_of(rt.alloc(), bytes, *path)?;
-        let path = String::from_str(rt.alloc(), *path)?;
+        let path = told_path(rt.alloc(), *path)?;
         push(&mut parts, Part { path, text })?;
     }
     Ok(parts)
 }
 
+/// The rules of the ports of a port file, as the text of a file.
+fn rules_of(alloc: Global, ports: &Part) -> Result<Part, Fault<'static>> {
+    let text = port_rules(alloc, ports.text.as_str())?;
+    let told = ports.path.as_str();
+    let path = format!(in alloc; "rules of {told}")?;
+    Ok(Part { path, text })
+}
+
 /// The texts with the rules of the ports of a port file, which is the last of them, in its place.
-fn with_rules(alloc: Global, mut parts: Vec<Part>, axi: &str) -> Result<Vec<Part>, Fault<'static>> {
-    if let Some(ports) = parts.pop() {
-        let text = port_rules(alloc, ports.text.as_str())?;
-        let path = format!(in alloc; "rules of {axi}")?;
-        push(&mut parts, Part { path, text })?;
+fn with_rules(alloc: Global, mut parts: Vec<Part>) -> Result<Read, Fault<'static>> {
+    match parts.pop() {
+        None => Ok(Read { parts, ports: None }),
+        Some(ports) => {
+            let rules = rules_of(alloc, &ports)?;
+            push(&mut parts, rules)?;
+            Ok(Read {
+                parts,
+                ports: Some(ports.text),
+            })
+        }
     }
-    Ok(parts)
 }
 
 /// The paths of the files of a text, and after them that of a port file where there is one.
@@ -86,12 +120,12 @@ fn read_parts<R: Files + AllocGlobal>(
     rt: &R,
     sva: &[String],
     axi: Option<&str>,
-) -> Result<Vec<Part>, Fault<'static>> {
+) -> Result<Read, Fault<'static>> {
     let paths = paths_of(rt, sva, axi)?;
     let parts = read_texts(rt, paths.as_slice())?;
     match axi {
-        None => Ok(parts),
-        Some(axi) => with_rules(rt.alloc(), parts, axi),
+        None => Ok(Read { parts, ports: None }),
+        Some(_) => with_rules(rt.alloc(), parts),
     }
 }
 
@@ -102,12 +136,13 @@ pub fn read_sources<R: Files + AllocGlobal>(
     sva: &[String],
     axi: Option<&str>,
 ) -> Result<Sources, Fault<'static>> {
-    let parts = read_parts(rt, sva, axi)?;
-    let text = joined(rt.alloc(), parts.as_slice())?;
+    let read = read_parts(rt, sva, axi)?;
+    let text = joined(rt.alloc(), read.parts.as_slice())?;
     Ok(Sources {
-        parts,
+        parts: read.parts,
         text,
         added: Vec::new(rt.alloc()),
+        ports: read.ports,
     })
 }
 
@@ -133,6 +168,7 @@ pub fn chosen_sources(
         parts: sources.parts,
         text: choice.text,
         added,
+        ports: sources.ports,
     })
 }
 

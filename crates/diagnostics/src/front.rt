@@ -1,7 +1,9 @@
 //! What refuses texts.
 
-ghost use Rattle.std.specs.Prelude.{◌≡◌, ℕ, List, IfOk, MatchOption};
+ghost use Rattle.std.specs.Prelude.{◌≡◌, ◌≤◌, ℕ, List, IfOk, IfSome, MatchOption};
+ghost use Rattle.std.specs.Str.{IsCharBoundary};
 
+use crate::span::Span;
 use std::alloc::{AllocError, Global};
 
 /// A refusal: the byte of the text where it stands, and why.
@@ -19,8 +21,24 @@ pub trait FrontEnd {
     // whether a text is refused, and the refusal stands at a byte
     ghost refuses: { Self → List ℕ → ℕ → Type 0 };
 
+    // whether the item between two places of a text is refused alone, and at a byte
+    ghost refuses_alone: { Self → List ℕ → ℕ → ℕ → ℕ → Type 0 };
+
     /// The first refusal of a text, if there is one.
     fn refusal(&self, alloc: Global, text: &str) -> Result<Option<Refusal>, AllocError>
         ensures { IfOk result (λ r. MatchOption r (accepts self.now text.now)
             (λ refusal. refuses self.now text.now refusal.at)) };
+
+    /// The refusal of an item of a text, if it is refused alone, whatever stands beside it.
+    fn refusal_alone(
+        &self,
+        alloc: Global,
+        text: &str,
+        span: Span,
+    ) -> Result<Option<Refusal>, AllocError>
+        requires order { span.start ≤ span.end }
+        requires start { IsCharBoundary text.now span.start }
+        requires end { IsCharBoundary text.now span.end }
+        ensures { IfOk result (λ r. IfSome r
+            (λ refusal. refuses_alone self.now text.now span.start span.end refusal.at)) };
 }

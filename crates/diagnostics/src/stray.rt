@@ -28,7 +28,7 @@ fn is_word_before(text: &str, at: usize, word: &str) -> bool
 }
 
 /// Whether what stands before a byte closes what no item opens.
-fn closes_nothing(text: &str, at: usize) -> bool
+pub(crate) fn closes_nothing(text: &str, at: usize) -> bool
     ensures { result ≡ closes_nothing text.now at }
 {
     is_word_before(text, at, "endclocking")

@@ -1,8 +1,8 @@
 //! Each function on its happy path.
 
 use crate::{
-    CODES, FrontEnd, Linted, MARKS, Place, Refusal, SIGNS, WORDS, blanked, hint_at, hint_beside,
-    item_at, item_ends, lint, nearest, place_of, push_refusal, push_total, span_at,
+    CODES, FrontEnd, Linted, MARKS, Place, Refusal, SIGNS, Span, WORDS, blanked, hint_at,
+    hint_beside, item_at, item_ends, lint, nearest, place_of, push_refusal, push_total, span_at,
 };
 use std::alloc::{AllocError, Global};
 use std::test::Fail;
@@ -134,12 +134,29 @@ impl FrontEnd for NoX {
 
     ghost refuses = { λ _ _ _. Unit {0} };
 
+    ghost refuses_alone = { λ _ _ _ _ _. Unit {0} };
+
     fn refusal(&self, alloc: Global, text: &str) -> Result<Option<Refusal>, AllocError> {
         match text.find('x') {
             None => Ok(None),
             Some(at) => Ok(Some(Refusal {
                 at,
                 message: String::from_str(alloc, "x")?,
+            })),
+        }
+    }
+
+    fn refusal_alone(
+        &self,
+        alloc: Global,
+        text: &str,
+        span: Span,
+    ) -> Result<Option<Refusal>, AllocError> {
+        match text[span.start..span.end].find("yx") {
+            None => Ok(None),
+            Some(at) => Ok(Some(Refusal {
+                at: span.start.saturating_add(at),
+                message: String::from_str(alloc, "yx")?,
             })),
         }
     }
@@ -172,5 +189,19 @@ fn words_that_close_nothing(rt: HostRuntime) -> Result<(), Fail> {
         return Err(Fail::from("nothing is left"));
     };
     assert!(rt; rest.as_str() == "a;                c;");
+    Ok(())
+}
+
+#[test]
+fn what_is_refused_alone_is_told_first(rt: HostRuntime) -> Result<(), Fail> {
+    let text = "x; a; yx; end yx;";
+    let ends = item_ends(rt.alloc(), text)?;
+    let Linted { refusals, rest } = lint(rt.alloc(), &NoX, text, ends.as_slice())?;
+    let mut places = Vec::new(rt.alloc());
+    for refusal in &refusals {
+        places.push(refusal.at)?;
+    }
+    assert!(rt; places.as_slice() == [6, 0, 15, 15].as_slice());
+    assert!(rt; rest.is_some());
     Ok(())
 }

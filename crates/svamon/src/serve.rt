@@ -3,9 +3,10 @@
 use crate::check::{Asked, Team, serve_check};
 use crate::import::serve_import;
 use crate::team_commands::{serve_team_explain, serve_team_lint};
+use axi4_rules::{Case, Port, PortFault, read_ports};
 use cli::{Fault, NoGate, Request, Wanted, build_one, explain_one, judge_one};
 use cli_bytecode::{run_code, upgrade_code, verify_code};
-use cli_lint::{LintFault, lint_one};
+use cli_lint::{LintFault, PortSaid, lint_one};
 use cli_names::{Filter, NamesFault, names_one};
 use cli_shell::{
     FormFiles, Sources, open, print_rules, read_bytes, read_sources, refuse_words, request_of,
@@ -13,6 +14,7 @@ use cli_shell::{
 };
 use signals::Counted;
 use source_files::Origin;
+use std::alloc::{AllocError, Global};
 use std::env::Env;
 use std::fs::Files;
 use std::io;
@@ -113,22 +115,73 @@ fn lint_fault(fault: LintFault) -> Fault<'static> {
     }
 }
 
-/// Tells all refusals of a text over a dump; they go to standard output. The answer is how many.
-fn lint_text<R: Files + Print + AllocGlobal>(
+/// A port, as it is compared with a dump.
+fn port_said(port: &Port) -> Result<PortSaid, AllocError> {
+    Ok(PortSaid {
+        name: port.name.clone()?,
+        prefix: port.prefix.clone()?,
+        upper: matches!(port.case, Case::Upper),
+        addr: port.addr,
+        data: port.data_width,
+        id: port.id,
+    })
+}
+
+/// The ports of a port file, if there is one; its faults were told before.
+fn ports_of(alloc: Global, text: &Option<String>) -> Result<Vec<PortSaid>, AllocError> {
+    let mut said = Vec::new(alloc);
+    let Some(text) = text else {
+        return Ok(said);
+    };
+    match read_ports(alloc, text.as_str()) {
+        Ok(ports) => {
+            for (port, _mode) in &ports {
+                said.push(port_said(port)?)?;
+            }
+            Ok(said)
+        }
+        Err(PortFault::Memory) => Err(AllocError),
+        Err(_) => Ok(said),
+    }
+}
+
+/// Tells all refusals of a text over a dump, and notes; they go to standard output. The answer is
+/// how many refusals there are.
+fn lint_text<R: Files + Print + AllocGlobal, D: Read + Drop>(
     rt: &R,
-    dump: R::File,
+    dump: D,
     sources: &Sources,
 ) -> Result<u64, LintFault> {
     let mut dump = Counted::new(dump);
     let mut out = Counted::new(io::writer(rt));
+    let ports = ports_of(rt.alloc(), &sources.ports)?;
     let text = sources.text.as_str();
+    let origin = Origin {
+        parts: sources.parts.as_slice(),
+        added: sources.added.as_slice(),
+    };
     lint_one(
         rt.alloc(),
         &mut dump,
         text,
-        sources.parts.as_slice(),
+        &origin,
+        ports.as_slice(),
         &mut out,
     )
+}
+
+/// Tells all refusals of a text over a dump, and notes, and answers the status: 2 where one was
+/// refused, 0 where none was.
+pub(crate) fn lint_status<R: Files + Print + Eprint + AllocGlobal, D: Read + Drop>(
+    rt: &R,
+    dump: D,
+    sources: &Sources,
+) -> u8 {
+    match lint_text(rt, dump, sources) {
+        Ok(0) => 0,
+        Ok(_) => 2,
+        Err(fault) => shown_status(rt, Err(lint_fault(fault))),
+    }
 }
 
 /// Opens the dump, then reads the text, and tells its refusals: status 2 where one was told, 0
@@ -147,11 +200,7 @@ fn serve_lint<R: Files + Print + Eprint + AllocGlobal>(
         Ok(sources) => sources,
         Err(fault) => return shown_status(rt, Err(fault)),
     };
-    match lint_text(rt, dump, &sources) {
-        Ok(0) => 0,
-        Ok(_) => 2,
-        Err(fault) => shown_status(rt, Err(lint_fault(fault))),
-    }
+    lint_status(rt, dump, &sources)
 }
 
 /// Why the names of a dump are not told, as a fault of a command.

@@ -1,4 +1,4 @@
-use Rattle.std.proofs.Common.{◌∙◌, ℕ, string_bytes, sym, subst}
+use Rattle.std.proofs.Common.{◌∙◌, ℕ, [], string_bytes, sym, subst}
 use Rattle.cli_lint.specs.Tells.{TellsAll}
 use Rattle.cli_lint.proofs.lint.rest_over.Goals as goal
 
@@ -13,6 +13,6 @@ returns-clause-tells c =
       refusals = told.linted.refusals.items;
       told_of = looked.3;
       many = sym (c.len-refused.ensures ∙ told.linted.refusals.ok.0);
-      tells = subst (λ (n : ℕ). TellsAll origin.parts.now origin.added.now told.linted.refusals.items n
-          (string_bytes c.in_ok-written.written)) (sym looked.1) c.in_ok-written.ensures;
+      tells = subst (λ (n : ℕ). TellsAll origin.parts.now origin.added.now told.linted.refusals.items [] n
+          (string_bytes c.in_ok-written.written)) looked.1 c.in_ok-written.ensures;
     }

@@ -11,8 +11,11 @@ returns c =
     let origin = c.args.origin.now in
     let items = c.args.items in
     let front = string_bytes c.in_ok-text.text in
+    let after = string_bytes c.in_ok-noted.noted in
     let many : c.len-count.result ≡ length c.args.refusals.now.items =
     c.len-count.ensures ∙ c.in_ok-sort_by_key.ensures.len ∙ c.args.refusals.now.ok.0 in
+    let grown : string_bytes c.push_str.new.self ≡ front ++ after =
+    c.in_ok-push_str.ensures ∙ ap (λ (l : List ℕ). front ++ l) c.as_str.ensures.value in
     record {
       ordered = c.sort_by_key.new.self.items;
       moved = c.in_ok-sort_by_key.ensures.permutation;
@@ -21,7 +24,10 @@ returns c =
       front = front;
       tells = subst (λ (rs : List Refusal). TellsEach origin.parts.now origin.added.now rs front)
           c.as_slice.ensures.value c.in_ok-text.ensures;
+      after = after;
+      noted = c.in_ok-noted.ensures;
       is = c.in_ok-push_total.ensures.is
-          ∙ ap (λ (n : ℕ). front ++ total_text c.len-count.result n) c.max.ensures
-          ∙ ap (λ (n : ℕ). front ++ total_text n (max items n)) many;
+          ∙ ap (λ (l : List ℕ). l ++ total_text c.len-count.result c.max.result) grown
+          ∙ ap (λ (n : ℕ). (front ++ after) ++ total_text c.len-count.result n) c.max.ensures
+          ∙ ap (λ (n : ℕ). (front ++ after) ++ total_text n (max items n)) many;
     }

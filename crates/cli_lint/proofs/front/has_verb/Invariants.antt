@@ -1,8 +1,0 @@
-use Rattle.std.proofs.Common.{◌≡◌, drop}
-use Rattle.std.specs.List.{list_any}
-use Rattle.cli_lint.specs.Rests.{is_verb}
-use Rattle.cli_lint.proofs.front.has_verb.Given as goal
-
--- what the tokens so far leave to the others
-abbrev pub invariant-loop-token : goal.invariant-loop-token
-invariant-loop-token l = list_any is_verb l.tokens ≡ list_any is_verb (drop l.token-index l.tokens)

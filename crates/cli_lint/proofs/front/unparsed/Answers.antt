@@ -1,6 +1,0 @@
-use Rattle.cli_lint.specs.Refused.{unparsed}
-use Rattle.cli_lint.proofs.front.unparsed.Goals as goal
-
-pub returns : goal.returns
-returns c =
-    unparsed c.args.fault c.args.tokens.now c.requires.cut c.requires.refused c.in_ok-parse_refusal.ensures

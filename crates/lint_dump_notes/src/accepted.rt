@@ -1,0 +1,32 @@
+//! What notes are told from.
+
+use assertions::Suite;
+use lexer::Token;
+use lint_notes::{Note, PortSaid};
+use parser::File;
+use std::alloc::AllocError;
+
+/// What notes are told from, beside a text and a dump.
+#[derive(Clone, Copy)]
+pub struct Beside<'a> {
+    /// The bytes that the dump was read from.
+    pub bytes: &'a [u8],
+    pub ports: &'a [PortSaid],
+}
+
+/// A text that is accepted, and what it spells.
+#[derive(Clone, Copy)]
+pub(crate) struct Accepted<'a, 't> {
+    pub(crate) text: &'a str,
+    pub(crate) tokens: &'a [Token<'t>],
+    pub(crate) file: &'a File<'t>,
+    pub(crate) suite: &'a Suite,
+}
+
+/// Adds notes.
+pub(crate) fn push_all(notes: &mut Vec<Note>, more: Vec<Note>) -> Result<(), AllocError> {
+    for note in more {
+        notes.push(note)?;
+    }
+    Ok(())
+}

@@ -1,0 +1,244 @@
+//! What is told of each fault of a text.
+
+ghost use Rattle.std.specs.Prelude.{◌≡◌, IfOk, Some};
+ghost use Rattle.parser_grammar.specs.Views.{items_of};
+ghost use Rattle.lint_suites.specs.Suites.{clock_byte};
+ghost use Rattle.lint_messages.specs.Bytes.{byte_of_lex, byte_of_parse, byte_of_type};
+
+use crate::doubles::told_double;
+use crate::meant::Meant;
+use crate::paths::{is_listed, path_at, push_others, told_path};
+use crate::selects::told_select;
+use crate::token_hints::{not_hint, token_hint};
+use crate::weights::side_weight;
+use compiler::CompileFault;
+use diagnostics::{CODES, MARKS, Refusal, SIGNS, WORDS, hint_at, hint_beside};
+use lexer::LexFault;
+use lint_suites::clock_byte;
+use parser::{File, ParseFault};
+use std::alloc::{AllocError, Global};
+use types_suites::TypeFault;
+
+/// A refusal at a byte, with a hint after it if there is one.
+fn refusal_at(
+    alloc: Global,
+    at: usize,
+    what: &str,
+    hint: Option<&str>,
+) -> Result<Refusal, AllocError>
+    ensures { IfOk result (λ r. r.at ≡ at) }
+{
+    let mut message = String::from_str(alloc, what)?;
+    if let Some(hint) = hint {
+        message.push_str("; ")?;
+        message.push_str(hint)?;
+    }
+    Ok(Refusal { at, message })
+}
+
+/// A refusal of a code that says what may stand there.
+fn coded(alloc: Global, at: usize, code: &str, what: &str) -> Result<Refusal, AllocError>
+    ensures { IfOk result (λ r. r.at ≡ at) }
+{
+    refusal_at(alloc, at, what, hint_beside(code, &CODES))
+}
+
+/// What is told of a text without tokens.
+pub fn lex_refusal(alloc: Global, text: &str, fault: LexFault) -> Result<Refusal, AllocError>
+    ensures { IfOk result (λ r. byte_of_lex fault ≡ Some r.at) }
+{
+    match fault {
+        LexFault::BadCharacter(at) => {
+            refusal_at(alloc, at, "L1 BadCharacter", hint_at(text, at, &MARKS))
+        }
+        LexFault::BadNumber(at) => coded(alloc, at, "L2", "L2 BadNumber"),
+        LexFault::UnclosedComment(at) => coded(alloc, at, "L3", "L3 UnclosedComment"),
+        LexFault::Memory => Err(AllocError),
+    }
+}
+
+/// What to write where a token can't go on.
+fn hint_beside_token(text: &str, at: usize) -> Option<&'static str> {
+    match hint_at(text, at, &MARKS) {
+        Some(hint) => Some(hint),
+        None => token_hint(text, at),
+    }
+}
+
+/// What is told of a token that can't go on.
+fn expected(alloc: Global, text: &str, at: usize, what: &str) -> Result<Refusal, AllocError>
+    ensures { IfOk result (λ r. r.at ≡ at) }
+{
+    let message = format!(in alloc; "P1 Expected {what}")?;
+    refusal_at(alloc, at, message.as_str(), hint_beside_token(text, at))
+}
+
+/// What to write for a word or a symbol that the profile leaves out.
+fn hint_of_word(text: &str, at: usize, word: &str) -> Option<&'static str> {
+    if let Some(hint) = not_hint(text, at) {
+        return Some(hint);
+    }
+    match hint_beside(word, &WORDS) {
+        Some(hint) => Some(hint),
+        None => match hint_beside(word, &SIGNS) {
+            Some(hint) => Some(hint),
+            None => token_hint(text, at),
+        },
+    }
+}
+
+/// What is told of a word or a symbol that the profile leaves out.
+fn outside(alloc: Global, text: &str, at: usize, word: &str) -> Result<Refusal, AllocError>
+    ensures { IfOk result (λ r. r.at ≡ at) }
+{
+    let message = format!(in alloc; "P2 OutsideProfile {word}")?;
+    refusal_at(alloc, at, message.as_str(), hint_of_word(text, at, word))
+}
+
+/// What is told of a text whose tokens spell no items.
+pub fn parse_refusal(alloc: Global, text: &str, fault: ParseFault) -> Result<Refusal, AllocError>
+    ensures { IfOk result (λ r. byte_of_parse fault.entry ≡ Some r.at) }
+{
+    match fault {
+        ParseFault::Expected(what, at) => expected(alloc, text, at, what),
+        ParseFault::OutsideProfile(word, at) => outside(alloc, text, at, word),
+        ParseFault::TooDeep(at) => coded(alloc, at, "P3", "P3 TooDeep"),
+        ParseFault::BadBound(at) => coded(alloc, at, "P4", "P4 BadBound"),
+        ParseFault::Memory => Err(AllocError),
+    }
+}
+
+/// What is told of a path that stands for nothing that can be read there.
+fn unknown(alloc: Global, meant: &Meant<'_>, text: &str, at: usize) -> Result<Refusal, AllocError>
+    ensures { IfOk result (λ r. r.at ≡ at) }
+{
+    let path = path_at(text, at);
+    let mut message = told_path(alloc, meant, "Y1 UnknownName", path)?;
+    let end = at.saturating_add(path.len());
+    push_others(alloc, meant, text, end, &mut message)?;
+    Ok(Refusal { at, message })
+}
+
+/// What is told of a name that stands for two items.
+fn duplicate(
+    alloc: Global,
+    meant: &Meant<'_>,
+    text: &str,
+    file: &File,
+    at: usize,
+) -> Result<Refusal, AllocError>
+    ensures { IfOk result (λ r. r.at ≡ at) }
+{
+    let what = told_double(alloc, meant, file, path_at(text, at), at)?;
+    coded(alloc, at, "Y2", what.as_str())
+}
+
+/// What is told of a clock that isn't that of the first assertion.
+fn other_clock(
+    alloc: Global,
+    meant: &Meant<'_>,
+    text: &str,
+    at: usize,
+) -> Result<Refusal, AllocError>
+    ensures { IfOk result (λ r. r.at ≡ at) }
+{
+    let path = path_at(text, at);
+    if is_listed(meant.names, path) {
+        return coded(alloc, at, "Y7", "Y7 OtherClock");
+    }
+    let message = told_path(alloc, meant, "Y7 OtherClock", path)?;
+    Ok(Refusal { at, message })
+}
+
+/// What is told of a select of bits that its name doesn't have.
+fn out_of_range(
+    alloc: Global,
+    meant: &Meant<'_>,
+    text: &str,
+    file: &File,
+    at: usize,
+) -> Result<Refusal, AllocError>
+    ensures { IfOk result (λ r. r.at ≡ at) }
+{
+    let what = told_select(alloc, meant, text, file, path_at(text, at), at)?;
+    coded(alloc, at, "Y4", what.as_str())
+}
+
+/// What is told of a side that weighs too much.
+fn too_wide(alloc: Global, file: &File, at: usize) -> Result<Refusal, AllocError>
+    ensures { IfOk result (λ r. r.at ≡ at) }
+{
+    let weight = side_weight(alloc, file, at)?;
+    if weight <= 127 {
+        return coded(alloc, at, "Y9", "Y9 TooWide");
+    }
+    let mut message = format!(in alloc; "Y9 TooWide; weighs {weight}, at most 127; ")?;
+    message.push_str("make it two assertions, as S and T, or A or B before the arrow; ")?;
+    message.push_str("or count in a counter")?;
+    Ok(Refusal { at, message })
+}
+
+/// What is told of an assertion that has no program.
+pub fn program_refusal(alloc: Global, at: usize, fault: CompileFault) -> Result<Refusal, AllocError>
+    ensures { IfOk result (λ r. r.at ≡ at) }
+{
+    let message = match fault {
+        CompileFault::TooManyAtoms => {
+            "K1 TooManyAtoms; over 127 booleans, those of named sequences among them: cut it in two"
+        }
+        CompileFault::CodeTooLong => {
+            "K2 CodeTooLong; (a or b) ##0 (c or d), and, intersect multiply: cut it in two"
+        }
+        CompileFault::TooManySlots => {
+            "K3 TooManySlots; over 255 signals and counters, those of its counters among them"
+        }
+        CompileFault::TextTooLong => {
+            "K4 TextTooLong; its name, its clock or the path of a signal has over 65,535 bytes"
+        }
+        CompileFault::Memory => return Err(AllocError),
+    };
+    refusal_at(alloc, at, message, None)
+}
+
+/// What is told of items whose clock is no variable of one bit.
+pub fn clock_refusal(
+    alloc: Global,
+    meant: &Meant<'_>,
+    file: &File,
+    clock: &str,
+) -> Result<Refusal, AllocError>
+    ensures { IfOk result (λ r. r.at ≡ clock_byte (items_of file.now)) }
+{
+    let message = match meant.dump.var(clock) {
+        None => told_path(alloc, meant, "C1 NoClock", clock)?,
+        Some(_) => format!(in alloc; "C2 ClockWidth {clock}; a clock has one bit")?,
+    };
+    Ok(Refusal {
+        at: clock_byte(file),
+        message,
+    })
+}
+
+/// What is told of a fault of types.
+pub fn type_refusal(
+    alloc: Global,
+    meant: &Meant<'_>,
+    text: &str,
+    file: &File,
+    fault: TypeFault,
+) -> Result<Refusal, AllocError>
+    ensures { IfOk result (λ r. byte_of_type fault ≡ Some r.at) }
+{
+    match fault {
+        TypeFault::UnknownName(at) => unknown(alloc, meant, text, at),
+        TypeFault::Duplicate(at) => duplicate(alloc, meant, text, file, at),
+        TypeFault::WiderThan128(at) => coded(alloc, at, "Y3", "Y3 WiderThan128"),
+        TypeFault::SliceRange(at) => out_of_range(alloc, meant, text, file, at),
+        TypeFault::Degenerate(at) => coded(alloc, at, "Y5", "Y5 Degenerate"),
+        TypeFault::AdmitsEmpty(at) => coded(alloc, at, "Y6", "Y6 AdmitsEmpty"),
+        TypeFault::OtherClock(at) => other_clock(alloc, meant, text, at),
+        TypeFault::CyclicSequence(at) => coded(alloc, at, "Y8", "Y8 CyclicSequence"),
+        TypeFault::TooWide(at) => too_wide(alloc, file, at),
+        TypeFault::Memory => Err(AllocError),
+    }
+}

@@ -1,0 +1,4 @@
+pub mod Alone
+pub mod Counted
+pub mod Refused
+pub mod Rests
