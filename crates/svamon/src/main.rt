@@ -24,7 +24,7 @@
 //! It opens files (`cli_shell`) and hands over what is in them; what a command answers is said by
 //! the contracts of `cli` (`check_all`, `report_all`, `report_over`, `judge_one`, `build_one`),
 //! of `report_page` (`page`), of `report_forms` (`junit_report`, `json_report`), of `cli_bytecode`
-//! (`verify_code`, `run_code`, `upgrade_code`), of `cli_lint` (`lint_over`), of `cli_names`
+//! (`verify_code`, `run_code`, `upgrade_code`), of `cli_lint` (`lint_over`), of `cli_names_command`
 //! (`names_one`), of `import_files` (`imported`, `text_of`, `status_of`), of `source_files`
 //! (`joined`, `chosen`) and of `axi4_rules` (`port_rules`), whose definitions stand in their
 //! `specs/`.
