@@ -6,7 +6,7 @@ use crate::team_commands::{serve_team_explain, serve_team_lint};
 use cli::{Fault, NoGate, Request, Wanted, build_one, explain_one, judge_one};
 use cli_bytecode::{run_code, upgrade_code, verify_code};
 use cli_lint::{LintFault, lint_one};
-use cli_names::{Filter, NamesFault, names_one};
+use cli_names_command::{Filter, NamesFault, names_one};
 use cli_shell::{
     FormFiles, Sources, open, print_rules, read_bytes, read_sources, refuse_words, request_of,
     shown_status, shown_version, words_of, write_bytes,
