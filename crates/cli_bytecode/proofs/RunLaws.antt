@@ -10,7 +10,7 @@ use Rattle.verifier.specs.declared.refusal.Refusal.{Refusal}
 use Rattle.verifier.specs.declared.refusal.Refusal.TheVariants as refusals
 use Rattle.cycle_window.specs.declared.fault.WindowFault.{WindowFault}
 use Rattle.cycle_window.specs.declared.fault.WindowFault.TheVariants as windows
-use Rattle.machine_batches.specs.Reported.{WhyNoRun}
+use Rattle.machine_decisions.specs.Reported.{WhyNoRun}
 use Rattle.cli_faults.specs.Faults.{vcd_fault, window_fault}
 use Rattle.cli_faults.specs.declared.fault.Fault.{Fault}
 use Rattle.cli_faults.specs.declared.fault.Fault.TheVariants.{

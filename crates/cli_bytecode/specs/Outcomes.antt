@@ -14,7 +14,7 @@ use Rattle.cycle_window.specs.declared.fault.WindowFault.TheVariants as windows
 use Rattle.verdicts.specs.declared.write.ReportFault.TheVariants as reports
 use Rattle.verdicts.specs.Lines.{ReportData}
 use Rattle.verdicts.specs.Texts.{report_text}
-use Rattle.machine_batches.specs.Reported.{ReportsRun, WhyNoRun}
+use Rattle.machine_decisions.specs.Reported.{ReportsRun, WhyNoRun}
 use Rattle.cli_faults.specs.declared.fault.Fault.{Fault}
 use Rattle.cli_faults.specs.declared.fault.Fault.TheVariants.{Vcd, BadSize, BadWorkers, Window}
 use Rattle.cli_faults.specs.declared.fault.Fault.TheVariants.{Report, Code}

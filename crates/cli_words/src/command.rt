@@ -1,7 +1,7 @@
 //! The commands and their options.
 
 ghost use Rattle.std.specs.Prelude.{◌≡◌, Some, IfOk, true, false, codes};
-ghost use Rattle.clap.specs.Words.{App, app_of, rule_of, new_app, with_rule, with_subcommand};
+ghost use Rattle.clap.specs.Words.{App, Rule, app_of, rule_of, new_app, with_rule, with_subcommand};
 ghost use Rattle.cli_words.specs.Words.{tied, scoped_text_app, team_app};
 ghost use Rattle.clap.specs.declared.builder.value_parser.ValueParser.TheVariants.{Unsigned};
 ghost use Rattle.cli_words.specs.Words.{file_rule, word_rule, axi_rule, workers_rule};
@@ -27,6 +27,15 @@ const DEFINE: &str = "Defines a macro; may be given again and again";
 
 /// What `--split` is.
 const SPLIT: &str = "Makes two of an assertion of two properties that is too heavy";
+
+/// What `--junit` is.
+const JUNIT: &str = "Writes the report into a file, as JUnit's XML";
+
+/// What `--json` is.
+const JSON: &str = "Writes the report into a file, as JSON";
+
+/// What `--html` is.
+const HTML: &str = "Writes the report into a file, as a page of HTML";
 
 /// An option with one value that has to be there.
 fn named_option<'a>(alloc: Global, name: &'a str, value: &'a str, help: &'a str) -> Arg<'a>
@@ -289,6 +298,27 @@ fn text_command<'a>(alloc: Global, name: &'a str, about: &'a str) -> Result<Comm
     dump_command(alloc, name, about, text)?.arg(axi_option(alloc))
 }
 
+/// The command with one more option, if that could be made.
+fn with_option<'a>(
+    command: Command<'a>,
+    option: Result<Arg<'a>, AllocError>,
+) -> Result<Command<'a>, AllocError>
+    ensures { (r : Rule) → IfOk option.entry (λ o. rule_of o ≡ r)
+        → IfOk option.entry (λ o. o.global ≡ false)
+        → IfOk result (λ c. app_of c ≡ with_rule (app_of command.entry) r) }
+{
+    command.arg(option?)
+}
+
+/// The command with one more option, which wants a team's files.
+fn with_tied<'a>(command: Command<'a>, option: Arg<'a>) -> Result<Command<'a>, AllocError>
+    requires { option.global ≡ false }
+    ensures { IfOk result (λ c. app_of c
+        ≡ with_rule (app_of command.entry) (tied (rule_of option.entry))) }
+{
+    with_option(command, beside_sv(option))
+}
+
 /// A command that reads a dump, and texts and ports, or a team's files.
 fn scoped_text_command<'a>(
     alloc: Global,
@@ -298,27 +328,20 @@ fn scoped_text_command<'a>(
     ensures { IfOk result (λ c. app_of c ≡ scoped_text_app name.entry.now) }
 {
     let text = sva_or_sv_option(alloc)?;
-    let files = sv_option(alloc)?;
-    let scope = beside_sv(free_option(alloc, "scope", "PATH", SCOPE))?;
-    let bound = beside_sv(bound_option(alloc))?;
-    dump_command(alloc, name, about, text)?
-        .arg(axi_option(alloc))?
-        .arg(files)?
-        .arg(scope)?
-        .arg(bound)
+    let command = dump_command(alloc, name, about, text)?.arg(axi_option(alloc))?;
+    let command = with_option(command, sv_option(alloc))?;
+    let command = with_tied(command, free_option(alloc, "scope", "PATH", SCOPE))?;
+    with_tied(command, bound_option(alloc))
 }
 
 /// The same, with all options for a team's files.
 fn team_command<'a>(alloc: Global, name: &'a str, about: &'a str) -> Result<Command<'a>, AllocError>
     ensures { IfOk result (λ c. app_of c ≡ team_app name.entry.now) }
 {
-    let clock = beside_sv(free_option(alloc, "clock", "PATH", CLOCK))?;
-    let define = beside_sv(many_option(alloc, "define", "NAME[=TEXT]", DEFINE))?;
-    let split = beside_sv(flag_option(alloc, "split", SPLIT))?;
-    scoped_text_command(alloc, name, about)?
-        .arg(clock)?
-        .arg(define)?
-        .arg(split)
+    let command = scoped_text_command(alloc, name, about)?;
+    let command = with_tied(command, free_option(alloc, "clock", "PATH", CLOCK))?;
+    let command = with_tied(command, many_option(alloc, "define", "NAME[=TEXT]", DEFINE))?;
+    with_tied(command, flag_option(alloc, "split", SPLIT))
 }
 
 /// `check`, with what it reads and which assertions it judges.
@@ -336,23 +359,12 @@ fn chosen_command<'a>(alloc: Global) -> Result<Command<'a>, AllocError>
 fn check_command<'a>(alloc: Global) -> Result<Command<'a>, AllocError>
     ensures { IfOk result (λ c. app_of c ≡ check_app) }
 {
-    let junit = form_option(
-        alloc,
-        "junit",
-        "Writes the report into a file, as JUnit's XML",
-    );
-    let json = form_option(alloc, "json", "Writes the report into a file, as JSON");
-    let html = form_option(
-        alloc,
-        "html",
-        "Writes the report into a file, as a page of HTML",
-    );
     chosen_command(alloc)?
         .arg(workers_option(alloc))?
         .arg(window_option(alloc))?
-        .arg(junit)?
-        .arg(json)?
-        .arg(html)
+        .arg(form_option(alloc, "junit", JUNIT))?
+        .arg(form_option(alloc, "json", JSON))?
+        .arg(form_option(alloc, "html", HTML))
 }
 
 fn build_command<'a>(alloc: Global) -> Result<Command<'a>, AllocError>

@@ -50,7 +50,7 @@ use Rattle.verdicts.specs.Lines.{LineData, ReportData, line_data_of, report_of}
 use Rattle.std.proofs.lemmas.List.{length-map}
 use Rattle.workers.specs.Reports.{IsJobReport}
 use Rattle.laws_compiler.specs.LineLaws.{AreVerdicts}
-use Rattle.machine_batches.specs.Lines.{line_over, IsLineOver}
+use Rattle.machine_decisions.specs.Lines.{line_over, IsLineOver}
 use Rattle.cycle_window.specs.Ticks.{ticks_of, row_of}
 use Rattle.vcd_reader.specs.declared.dump.Dump.{Dump}
 use Rattle.vcd_reader.specs.Held.{HoldsContents, variables_of, steps_in, high_of}

@@ -54,7 +54,7 @@ use Rattle.vcd_reader.proofs.ValueLaws.{digits}
 use Rattle.cycle_window.specs.Bound.{Misfit, Wanted, misfit, or_refused, first_refused}
 use Rattle.workers_core.specs.Jobs.{sampled}
 use Rattle.cycle_window.specs.Ticks.{ticks_of, sample, row_of}
-use Rattle.machine_batches.specs.Reported.{wanted_slot}
+use Rattle.machine_decisions.specs.Reported.{wanted_slot}
 use Rattle.compiler.specs.Programs.{IsSlotOf}
 use Rattle.compiler.proofs.ListLaws.{some-one, map-twice, map-alike, by-index}
 use Rattle.laws_compiler.specs.Laws.{AreSuiteRows, picked_row}

@@ -22,7 +22,7 @@ use Rattle.bytecode.specs.Values.{ProgramData, SectionData}
 use Rattle.verifier.specs.Programs.{IsAccepted}
 use Rattle.machine_definition.specs.Clocks.{disabling}
 use Rattle.verdicts.specs.Lines.{line_data_of}
-use Rattle.machine_batches.specs.Lines.{IsLineOver}
+use Rattle.machine_decisions.specs.Lines.{IsLineOver}
 use Rattle.laws_automata.specs.Automata.{AutomatonFollows}
 use Rattle.laws_automata.specs.Effects.{automaton_of}
 use Rattle.laws_automata.specs.Monitors.{program_monitor}

@@ -13,7 +13,7 @@ use Rattle.verdicts.specs.declared.line.Failure.{Failure}
 use Rattle.verdicts.specs.Tallies.{fails_at, failing_at, failing_in, clock_behind, end_of, failing_of}
 use Rattle.laws_automata.specs.Standing.{select_ticks, falls_at}
 use Rattle.laws_automata.specs.Laws.{fallen, all_fallen, open_starts}
-use Rattle.machine_batches.specs.Lines.{failure_of}
+use Rattle.machine_decisions.specs.Lines.{failure_of}
 use Rattle.laws_compiler.specs.LineLaws.{FallsBefore, still_open}
 
 -- one attempt more that falls at a clock or doesn't

@@ -15,7 +15,7 @@ use Rattle.assertions.proofs.Verdicts.{IsVerdict-verdict, IsVerdict-only}
 use Rattle.machine_definition.specs.Clocks.{Attempt}
 use Rattle.machine_definition.specs.Runs.{Decides}
 use Rattle.machine_definition.specs.Runs.{open_ones}
-use Rattle.machine_batches.specs.Lines.{failure_of, line_over}
+use Rattle.machine_decisions.specs.Lines.{failure_of, line_over}
 use Rattle.laws_automata.specs.Monitors.{program_monitor}
 use Rattle.laws_automata.specs.Laws.{all_fallen, starts_of}
 use Rattle.laws_automata.proofs.Selections.{map-same}

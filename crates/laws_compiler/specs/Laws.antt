@@ -12,7 +12,7 @@ use Rattle.assertions.specs.Verdicts.{antecedent_of}
 use Rattle.bytecode.specs.Values.{ProgramData}
 use Rattle.verifier.specs.Programs.{IsAccepted}
 use Rattle.verdicts.specs.Lines.{line_data_of}
-use Rattle.machine_batches.specs.Lines.{IsLineOver}
+use Rattle.machine_decisions.specs.Lines.{IsLineOver}
 use Rattle.laws_compiler.specs.LineLaws.{AreVerdicts}
 use Rattle.compiler.specs.Programs.{IsProgramOf}
 

@@ -14,7 +14,7 @@ use Rattle.assertions.specs.Attempts.{Antecedent, IsVerdict}
 use Rattle.laws_automata.specs.Monitors.{program_monitor}
 use Rattle.laws_automata.specs.History.{SamplesAs}
 use Rattle.laws_automata.specs.Laws.{Watches, Fills, all_fallen, open_starts}
-use Rattle.machine_batches.specs.Lines.{line_over, IsLineOver}
+use Rattle.machine_decisions.specs.Lines.{line_over, IsLineOver}
 
 -- the verdict falls before this clock, if it falls
 abbrev pub FallsBefore : ℕ → Verdict → Type 0

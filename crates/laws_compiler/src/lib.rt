@@ -17,7 +17,7 @@
 //! `specs/Laws.antt` (rows, the rows of a program's own signals, what it decides),
 //! `specs/LineLaws.antt`. The verdicts are those of `assertions`, the machine that of
 //! `machine_definition`, what a program decides by the meaning of its assertion that of
-//! `laws_automata`, its line that of `machine_batches`.
+//! `laws_automata`, its line that of `machine_decisions`.
 //!
 //! Not promised: that there is a program of each assertion, which is the compiler's.
 #![tactic(auto)]

@@ -45,10 +45,10 @@ use Rattle.laws_automata.proofs.Selections.{map-same, select-same}
 use Rattle.laws_automata.proofs.Histories.{listed}
 use Rattle.laws_automata.proofs.Deciding.{falling-fallen}
 use Rattle.laws_automata.proofs.Rows.{by-meaning}
-use Rattle.machine_batches.proofs.BatchLaws.{joined, later}
-use Rattle.machine_batches.proofs.CutLaws.{cuts, ends-as}
-use Rattle.machine_batches.specs.Batches.{rows_between, batch_of, decided_in}
-use Rattle.machine_batches.proofs.JoinLaws.{came, split-at}
+use Rattle.machine_decisions.proofs.BatchLaws.{joined, later}
+use Rattle.machine_decisions.proofs.CutLaws.{cuts, ends-as}
+use Rattle.machine_decisions.specs.Batches.{rows_between, batch_of, decided_in}
+use Rattle.machine_decisions.proofs.JoinLaws.{came, split-at}
 use Rattle.laws_compiler.specs.LineLaws.{row_of}
 use Rattle.laws_workers.specs.Headline.{fallen_between}
 

@@ -46,7 +46,7 @@ use Rattle.laws_automata.specs.History.{SamplesAs}
 use Rattle.laws_automata.specs.Laws.{open_starts, starts_of}
 use Rattle.machine_definition.specs.Outcomes.{done}
 use Rattle.machine_definition.specs.Machine.{State, opening, clocks}
-use Rattle.machine_batches.specs.Batches.{batch_of}
+use Rattle.machine_decisions.specs.Batches.{batch_of}
 use Rattle.laws_compiler.specs.LineLaws.{row_of as row_at}
 use Rattle.assertions.specs.Reads.{Reads}
 use Rattle.compiler.specs.Programs.{IsSlotOf, IsProgramOf}

@@ -2,8 +2,8 @@
 use Rattle.std.proofs.Common.{◌≡◌, ℕ, ◌+◌, ◌-◌, ◌≤◌, List, ◌++◌, length, refl, sym, ap, ◌∙◌, subst, arith}
 use Rattle.signals.specs.declared.verdict.Decided.{Decided}
 use Rattle.machine_definition.specs.Runs.{run_from}
-use Rattle.machine_batches.specs.Batches.{rows_between, batch_of, decided_in, HasCome}
-use Rattle.machine_batches.proofs.JoinLaws.{come-to, ends-in}
+use Rattle.machine_decisions.specs.Batches.{rows_between, batch_of, decided_in, HasCome}
+use Rattle.machine_decisions.proofs.JoinLaws.{come-to, ends-in}
 use Rattle.workers_single.proofs.RunLaws.{Runs, accepted-on, length-between}
 use Rattle.workers_core.specs.States.{
   MonitorState,

@@ -5,7 +5,7 @@ use Rattle.std.specs.List.{range_with_len}
 use Rattle.verifier.specs.Programs.{IsAccepted}
 use Rattle.machine_definition.specs.Outcomes.{done}
 use Rattle.machine_definition.specs.Machine.{opening, clocks}
-use Rattle.machine_batches.specs.Batches.{batch_of}
+use Rattle.machine_decisions.specs.Batches.{batch_of}
 use Rattle.workers_core.specs.States.{MonitorState, WorkerState, BatchState, CoreState, Setting}
 use Rattle.workers_core.specs.States.{place, advanced, monitor_cleared, batch}
 use Rattle.laws_workers.specs.Steps.{owned_lists}

@@ -19,8 +19,8 @@ use Rattle.machine_definition.proofs.Parts.{began, IsRunning}
 use Rattle.verifier.proofs.LifeLaws.{start_life-most}
 use Rattle.machine_memory.specs.Pooled.{Pooled, pooled, slot_after}
 use Rattle.machine_memory.specs.Walk.{WalkIsAt, left_at}
-use Rattle.machine_visits.specs.declared.attempt.AttemptRecord.{AttemptRecord}
-use Rattle.machine_visits.specs.Records.{attempt_of}
+use Rattle.machine_attempts.specs.declared.attempt.AttemptRecord.{AttemptRecord}
+use Rattle.machine_attempts.specs.Records.{attempt_of}
 use Rattle.machine.specs.Live.{attempts_in}
 use Rattle.machine.proofs.PoolSteps as steps
 

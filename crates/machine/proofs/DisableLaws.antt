@@ -10,8 +10,8 @@ use Rattle.machine_definition.specs.Outcomes.{Ran, done, trapped, and_then}
 use Rattle.machine_definition.specs.Clocks.{disable_all}
 use Rattle.machine_memory.specs.Pooled.{Pooled, pooled, first_slot, slot_after}
 use Rattle.machine_memory.specs.Walk.{WalkIsAt}
-use Rattle.machine_visits.specs.declared.attempt.AttemptRecord.{AttemptRecord}
-use Rattle.machine_visits.specs.Records.{attempt_of}
+use Rattle.machine_attempts.specs.declared.attempt.AttemptRecord.{AttemptRecord}
+use Rattle.machine_attempts.specs.Records.{attempt_of}
 use Rattle.machine.specs.Live.{attempts_in, AreDisabled}
 use Rattle.machine.proofs.PoolSteps as steps
 

@@ -19,10 +19,10 @@ use Rattle.machine_definition.proofs.Visits.{Visited, visit-meets}
 use Rattle.machine_definition.proofs.Parts.{since, IsOwed}
 use Rattle.machine_memory.specs.Pooled.{Pooled, pooled, slot_after}
 use Rattle.machine_memory.specs.Walk.{WalkIsAt, left_at}
-use Rattle.machine_visits.specs.declared.fates.Fates.{Fates}
-use Rattle.machine_visits.specs.declared.obligation.ObligationRecord.{ObligationRecord}
-use Rattle.machine_visits.specs.Marks.{fate_mark, mark_set, is_fate_open, fates_of, AreRecent}
-use Rattle.machine_visits.specs.Records.{obligation_of, left_open}
+use Rattle.machine_attempts.specs.declared.fates.Fates.{Fates}
+use Rattle.machine_attempts.specs.declared.obligation.ObligationRecord.{ObligationRecord}
+use Rattle.machine_attempts.specs.Marks.{fate_mark, mark_set, is_fate_open, fates_of, AreRecent}
+use Rattle.machine_attempts.specs.Records.{obligation_of, left_open}
 use Rattle.machine.specs.Live.{obligations_in, OpenedLately, AreVisited}
 use Rattle.machine.proofs.PoolSteps as steps
 

@@ -11,10 +11,10 @@ use Rattle.machine_definition.specs.Outcomes.{Ran, done, trapped, and_then}
 use Rattle.machine_definition.specs.Clocks.{Attempt, Fate, Settlement, settle, settle_all, stays, ends}
 use Rattle.machine_memory.specs.Pooled.{Pooled, pooled, slot_after}
 use Rattle.machine_memory.specs.Walk.{WalkIsAt, left_at}
-use Rattle.machine_visits.specs.declared.attempt.AttemptRecord.{AttemptRecord}
-use Rattle.machine_visits.specs.declared.fates.Fates.{Fates}
-use Rattle.machine_visits.specs.Marks.{fates_of, AreRecent, SettlesAs}
-use Rattle.machine_visits.specs.Records.{attempt_of, settled}
+use Rattle.machine_attempts.specs.declared.attempt.AttemptRecord.{AttemptRecord}
+use Rattle.machine_attempts.specs.declared.fates.Fates.{Fates}
+use Rattle.machine_attempts.specs.Marks.{fates_of, AreRecent, SettlesAs}
+use Rattle.machine_attempts.specs.Records.{attempt_of, settled}
 use Rattle.machine.specs.Live.{attempts_in, HaveBegun, AreSettled}
 use Rattle.machine_definition.specs.Runs.{open_ones}
 use Rattle.machine.proofs.PoolSteps as steps

@@ -6,15 +6,15 @@ ghost use Rattle.verifier.specs.Programs.{IsAccepted};
 ghost use Rattle.machine_memory.specs.Pooled.{pooled};
 ghost use Rattle.machine_definition.specs.Outcomes.{done};
 ghost use Rattle.machine_definition.specs.Clocks.{visit_attempts};
-ghost use Rattle.machine_visits.specs.Bases.{AreBases};
+ghost use Rattle.machine_attempts.specs.Bases.{AreBases};
 ghost use Rattle.machine.specs.Live.{attempts_in, visit_cost, AreRunning, HaveBegun, AreSettled};
 ghost use Rattle.machine.specs.Live.{AreDisabled};
 ghost use Rattle.machine_definition.specs.Runs.{open_ones};
 
 use arrayvec::ArrayVec;
 use bytecode::Program;
+use machine_attempts::{AttemptRecord, Fates, visit_positions};
 use machine_memory::Pool;
-use machine_visits::{AttemptRecord, Fates, visit_positions};
 use signals::{Decided, Verdict};
 
 /// Visits each attempt in order of its start, and answers whether any accepted.

@@ -23,8 +23,8 @@ use crate::own::{
 use crate::repeats::verdict_at;
 use arrayvec::ArrayVec;
 use bytecode::Program;
+use machine_attempts::{AttemptRecord, ObligationRecord};
 use machine_memory::Pool;
-use machine_visits::{AttemptRecord, ObligationRecord};
 use signals::Decided;
 
 /// The live attempts and obligations, the number of clocks that were run, and what clocks with

@@ -4,13 +4,13 @@ ghost use Rattle.std.specs.Prelude.{◌≡◌, ◌+◌, ◌*◌, ◌≤◌, [], 
 ghost use Rattle.bytecode.specs.Programs.{data_of};
 ghost use Rattle.verifier.specs.Programs.{IsAccepted};
 ghost use Rattle.machine_memory.specs.Pooled.{pooled};
-ghost use Rattle.machine_visits.specs.Bases.{AreBases};
+ghost use Rattle.machine_attempts.specs.Bases.{AreBases};
 ghost use Rattle.machine.specs.Live.{obligations_in, visit_cost, AreOwed, OpenedLately};
 ghost use Rattle.machine.specs.Live.{AreVisited};
 
 use bytecode::Program;
+use machine_attempts::{Fates, ObligationRecord, visit_positions};
 use machine_memory::Pool;
-use machine_visits::{Fates, ObligationRecord, visit_positions};
 
 /// Visits each obligation in order of its tick, retires those that ended, and answers what became
 /// of them.

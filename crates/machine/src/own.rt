@@ -3,8 +3,8 @@
 ghost use Rattle.std.specs.Prelude.{◌≡◌, ◌<◌, ◌≤◌, ◌*◌, ◌∷◌, [], length};
 ghost use Rattle.bytecode.specs.Programs.{data_of};
 ghost use Rattle.verifier.specs.Programs.{IsAccepted};
-ghost use Rattle.machine_visits.specs.Bases.{AreBases};
-ghost use Rattle.machine_visits.specs.Records.{attempt_of};
+ghost use Rattle.machine_attempts.specs.Bases.{AreBases};
+ghost use Rattle.machine_attempts.specs.Records.{attempt_of};
 ghost use Rattle.machine.specs.Live.{attempts_in, obligations_in, visit_cost, new_obligation};
 ghost use Rattle.machine.specs.Live.{new_attempt, with_new};
 ghost use Rattle.machine.specs.Live.{AreVisited, AreSettled, AreDisabled};
@@ -13,8 +13,8 @@ ghost use Rattle.machine_definition.specs.Clocks.{Attempt};
 
 use arrayvec::ArrayVec;
 use bytecode::Program;
+use machine_attempts::{AttemptRecord, Fates, ObligationRecord, Visit, visit_positions};
 use machine_memory::Pool;
-use machine_visits::{AttemptRecord, Fates, ObligationRecord, Visit, visit_positions};
 use signals::{Decided, Verdict};
 
 /// The attempt of the clock `now`, before its visit.

@@ -26,9 +26,9 @@
 //! the contracts of `cli` (`check_all`, `report_all`, `report_over`, `judge_one`, `build_one`),
 //! of `report_page` (`page`), of `report_forms` (`junit_report`, `json_report`), of `cli_bytecode`
 //! (`verify_code`, `run_code`, `upgrade_code`), of `cli_lint` (`lint_one`, `rest_over`), of
-//! `cli_names` (`names_one`), of `import_files` (`imported`, `text_of`, `placed`, `status_of`), of
-//! `source_files` (`joined`, `chosen`) and of `axi4_rules` (`port_rules`, `read_ports`), whose
-//! definitions stand in their `specs/`.
+//! `cli_names_command` (`names_one`), of `import_files` (`imported`, `text_of`, `placed`,
+//! `status_of`), of `source_files` (`joined`, `chosen`) and of `axi4_rules` (`port_rules`,
+//! `read_ports`), whose definitions stand in their `specs/`.
 //!
 //! Not promised: what a file holds, that the line of a fault reaches anyone, and that the process
 //! ends with the status: these are tested (`docs/TESTED.md`). `docs/USING.md` goes through the

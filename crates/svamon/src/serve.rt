@@ -7,7 +7,7 @@ use axi4_rules::{Case, Port, PortFault, read_ports};
 use cli::{Fault, NoGate, Request, Wanted, build_one, explain_one, judge_one};
 use cli_bytecode::{run_code, upgrade_code, verify_code};
 use cli_lint::{LintFault, PortSaid, lint_one};
-use cli_names::{Filter, NamesFault, names_one};
+use cli_names_command::{Filter, NamesFault, names_one};
 use cli_shell::{
     FormFiles, Sources, open, print_rules, read_bytes, read_sources, refuse_words, request_of,
     shown_status, shown_version, words_of, write_bytes,

@@ -1,6 +1,6 @@
 //! A batch by its receipt, from another thread.
 
-use machine_batches::{Batch, Streaks};
+use machine_decisions::{Batch, Streaks};
 use signals::{Decided, Verdict};
 use std::alloc::{AllocError, Global};
 use std::test::Fail;

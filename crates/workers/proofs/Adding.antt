@@ -14,7 +14,7 @@ use Rattle.cycle_window.specs.declared.window.Window.{Window}
 use Rattle.cycle_window.specs.Held.{first_in}
 use Rattle.machine_definition.specs.Clocks.{Attempt}
 use Rattle.machine_definition.specs.Runs.{open_ones}
-use Rattle.machine_batches.specs.Batches.{batch_of}
+use Rattle.machine_decisions.specs.Batches.{batch_of}
 use Rattle.verdicts.specs.declared.line.Line.{Line}
 use Rattle.verdicts.specs.Tallies.{tally_of}
 use Rattle.verdicts.specs.Lines.{LineData, ReportData, line}
@@ -27,7 +27,7 @@ use Rattle.workers_single.proofs.CoreLaws.{same-traced}
 use Rattle.workers_single.proofs.LineLaws.{job-traced}
 use Rattle.workers_shared.specs.declared.board.Board.{Board}
 use Rattle.workers_shared.specs.Receipts.{shown_by}
-use Rattle.machine_batches.specs.Lines.{attempts_of}
+use Rattle.machine_decisions.specs.Lines.{attempts_of}
 use Rattle.workers_shared.specs.Counts.{count_of}
 use Rattle.workers_shared.specs.Shares.{each_capped}
 use Rattle.workers_rounds.specs.declared.work.Published.{Published}

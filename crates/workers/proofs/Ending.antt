@@ -7,8 +7,8 @@ use Rattle.signals.specs.declared.verdict.Decided.{Decided}
 use Rattle.bytecode.specs.Values.{ProgramData}
 use Rattle.vcd_reader.specs.Dump.{Contents}
 use Rattle.machine_definition.specs.Runs.{open_ones}
-use Rattle.machine_batches.specs.Batches.{batch_of}
-use Rattle.machine_batches.specs.Lines.{attempts_of}
+use Rattle.machine_decisions.specs.Batches.{batch_of}
+use Rattle.machine_decisions.specs.Lines.{attempts_of}
 use Rattle.workers_core.specs.declared.job.Job.{Job}
 use Rattle.workers_core.specs.Opening.{monitor_part}
 use Rattle.workers_core.specs.Values.{Says, job_value, rows_over}

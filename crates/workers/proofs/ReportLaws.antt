@@ -46,9 +46,9 @@ use Rattle.cycle_window.specs.Held.{ticks_in, code_in}
 use Rattle.verdicts.specs.declared.line.Counts.{Counts}
 use Rattle.verdicts.specs.declared.line.Line.{Line}
 use Rattle.verdicts.specs.Lines.{LineData, ReportData, line, held_count, total_of, report_of}
-use Rattle.machine_batches.specs.Lines.{IsLineOver, attempts_of}
-use Rattle.machine_batches.specs.Reported.{IsBoundClock, HasSignals, rows_of, ReportsRun, wanted_slot}
-use Rattle.machine_batches.proofs.BoundLaws.{bound}
+use Rattle.machine_decisions.specs.Lines.{IsLineOver, attempts_of}
+use Rattle.machine_decisions.specs.Reported.{IsBoundClock, HasSignals, rows_of, ReportsRun, wanted_slot}
+use Rattle.machine_decisions.proofs.BoundLaws.{bound}
 use Rattle.workers_core.specs.declared.job.Job.{Job}
 use Rattle.workers_core.specs.Jobs.{sampled}
 use Rattle.workers_core.specs.Values.{JobValue, Says, job_value, rows_over}

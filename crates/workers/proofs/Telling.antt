@@ -12,10 +12,10 @@ use Rattle.cycle_window.specs.declared.window.Window.{Window}
 use Rattle.cycle_window.specs.Held.{first_in, end_in}
 use Rattle.machine_definition.specs.Outcomes.{done, and_then}
 use Rattle.machine_definition.specs.Machine.{State, opening, clocks}
-use Rattle.machine_batches.proofs.CutLaws.{ends-as}
-use Rattle.machine_batches.specs.Lines.{attempts_of}
-use Rattle.machine_batches.specs.Batches.{rows_between, decided_in, batch_of, HasCome}
-use Rattle.machine_batches.proofs.JoinLaws.{come-to}
+use Rattle.machine_decisions.proofs.CutLaws.{ends-as}
+use Rattle.machine_decisions.specs.Lines.{attempts_of}
+use Rattle.machine_decisions.specs.Batches.{rows_between, decided_in, batch_of, HasCome}
+use Rattle.machine_decisions.proofs.JoinLaws.{come-to}
 use Rattle.workers_core.specs.declared.job.Job.{Job}
 use Rattle.workers_core.specs.declared.monitor.Monitor.{Monitor}
 use Rattle.workers_core.specs.Opening.{MonitorPart, part_at, monitor_part, parts_from, IsNew}

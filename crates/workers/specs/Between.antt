@@ -4,8 +4,8 @@ use Rattle.bytecode.specs.Values.{ProgramData}
 use Rattle.vcd_reader.specs.Dump.{Contents}
 use Rattle.cycle_window.specs.declared.window.Window.{Window}
 use Rattle.cycle_window.specs.Held.{ticks_in, size_in, end_in}
-use Rattle.machine_batches.specs.Batches.{batch_of}
-use Rattle.machine_batches.specs.Lines.{attempts_of}
+use Rattle.machine_decisions.specs.Batches.{batch_of}
+use Rattle.machine_decisions.specs.Lines.{attempts_of}
 use Rattle.workers_core.specs.declared.job.Job.{Job}
 use Rattle.workers_core.specs.Values.{Says, job_value, rows_over}
 use Rattle.workers_single.specs.declared.growing_line.GrowingLine.{GrowingLine}

@@ -20,7 +20,7 @@
 //!
 //! The definitions: the report of a job over the contents of its dump in `specs/Reports.antt`, a
 //! run between two rounds in `specs/Between.antt`, what workers and lines count in
-//! `specs/Tallied.antt`. The report of a program is that of `machine_batches`, in its
+//! `specs/Tallied.antt`. The report of a program is that of `machine_decisions`, in its
 //! `specs/Reported.antt`. That a round is a list of steps of the core is a law of `laws_workers`.
 //!
 //! Not promised: that the call returns, that two workers were at work at once, who ran which

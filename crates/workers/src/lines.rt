@@ -3,7 +3,7 @@
 ghost use Rattle.std.specs.Prelude.{◌≡◌, ℕ, All, IfOk, Some, length, map, slice_get};
 ghost use Rattle.vcd_reader.specs.Dump.{Contents};
 ghost use Rattle.verdicts.specs.Lines.{line};
-ghost use Rattle.machine_batches.specs.Lines.{IsLineOver, attempts_of};
+ghost use Rattle.machine_decisions.specs.Lines.{IsLineOver, attempts_of};
 ghost use Rattle.workers_core.specs.Values.{Says, job_value, rows_over};
 ghost use Rattle.workers_single.specs.declared.growing_line.GrowingLine.{GrowingLine};
 ghost use Rattle.workers_single.specs.Lines.{AreLinesOf};

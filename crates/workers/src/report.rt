@@ -6,8 +6,8 @@ ghost use Rattle.vcd_reader.specs.Held.{HoldsContents, variables_of};
 ghost use Rattle.cycle_window.specs.Bound.{IsClock, IsClockFault, IsSignalFault};
 ghost use Rattle.cycle_window.specs.Held.{code_in, AreClocksOf};
 ghost use Rattle.verdicts.specs.Shown.{data_of};
-ghost use Rattle.machine_batches.specs.Lines.{attempts_of};
-ghost use Rattle.machine_batches.specs.Reported.{HasSignals, ReportsRun, WhyNoRun, wanted_slot};
+ghost use Rattle.machine_decisions.specs.Lines.{attempts_of};
+ghost use Rattle.machine_decisions.specs.Reported.{HasSignals, ReportsRun, WhyNoRun, wanted_slot};
 
 use crate::runs::job_report;
 use cycle_window::{Clocks, WindowFault, WindowSize};

@@ -3,7 +3,7 @@
 ghost use Rattle.std.specs.Prelude.{◌≡◌, ◌≤◌, ◌<◌, All, IfOk, IfErr, length};
 ghost use Rattle.vcd_reader.specs.Dump.{Contents};
 ghost use Rattle.verdicts.specs.Shown.{data_of};
-ghost use Rattle.machine_batches.specs.Lines.{attempts_of};
+ghost use Rattle.machine_decisions.specs.Lines.{attempts_of};
 ghost use Rattle.workers_core.specs.Values.{Says, WhyNoCore, job_value};
 ghost use Rattle.workers_shared.specs.Blanks.{HaveParts, HaveNames};
 ghost use Rattle.workers.specs.Between.{clocks_of};

@@ -2,7 +2,7 @@
 
 ghost use Rattle.std.specs.Prelude.{◌≡◌, ◌+◌, ◌^◌, ◌<◌, ℕ, Some, All, OnOk, IfOk, length, map};
 ghost use Rattle.std.specs.Prelude.{slice_get};
-ghost use Rattle.machine_batches.specs.Lines.{attempts_of};
+ghost use Rattle.machine_decisions.specs.Lines.{attempts_of};
 ghost use Rattle.workers_shared.specs.Receipts.{IsReceiptOf, shown_by};
 ghost use Rattle.workers_single.specs.declared.growing_line.GrowingLine.{GrowingLine};
 ghost use Rattle.workers_single.specs.Taken.{TookIn};

@@ -38,7 +38,7 @@ use Rattle.cycle_window.specs.Bound.{
   first_refused,
   places_of,
 }
-use Rattle.machine_batches.specs.Reported.{wanted_slot}
+use Rattle.machine_decisions.specs.Reported.{wanted_slot}
 use Rattle.workers_core.specs.Opening.{MonitorPart, part_at, parts_from}
 use Rattle.workers_core.specs.Wanted.{wanted_in}
 

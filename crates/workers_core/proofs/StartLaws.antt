@@ -35,11 +35,11 @@ use Rattle.cycle_window.specs.Bound.{Wanted, first_refused, places_of}
 use Rattle.cycle_window.specs.Held.{columns_in, dump_in, places_in, clock_in, code_in, size_in, first_in, end_in}
 use Rattle.cycle_window.specs.Held.{AreColumnsOf, AreClocksOf, IsWindowOf}
 use Rattle.machine_definition.specs.Machine.{State, opening}
-use Rattle.machine_batches.specs.Reported.{wanted_slot}
-use Rattle.machine_batches.proofs.BoundLaws.{bound}
-use Rattle.machine_batches.specs.declared.batch.Batch.{Batch}
-use Rattle.machine_batches.specs.Batches.{HasCome}
-use Rattle.machine_batches.proofs.JoinLaws.{come-first}
+use Rattle.machine_decisions.specs.Reported.{wanted_slot}
+use Rattle.machine_decisions.proofs.BoundLaws.{bound}
+use Rattle.machine_decisions.specs.declared.batch.Batch.{Batch}
+use Rattle.machine_decisions.specs.Batches.{HasCome}
+use Rattle.machine_decisions.proofs.JoinLaws.{come-first}
 use Rattle.workers_core.specs.declared.job.Job.{Job}
 use Rattle.workers_core.specs.declared.core_parts.CoreParts.{CoreParts}
 use Rattle.workers_core.specs.declared.monitor.Monitor.{Monitor}

@@ -13,9 +13,9 @@ use Rattle.cycle_window.specs.declared.window.Window.{Window}
 use Rattle.cycle_window.specs.Ticks.{ticks_of, row_of}
 use Rattle.cycle_window.specs.Held.{columns_in, places_in, clock_in}
 use Rattle.machine.specs.Running.{Running}
-use Rattle.machine_batches.specs.declared.batch.Batch.{Batch}
-use Rattle.machine_batches.specs.Batches.{batch_of, decided_in}
-use Rattle.machine_batches.proofs.JoinLaws.{come-first}
+use Rattle.machine_decisions.specs.declared.batch.Batch.{Batch}
+use Rattle.machine_decisions.specs.Batches.{batch_of, decided_in}
+use Rattle.machine_decisions.proofs.JoinLaws.{come-first}
 use Rattle.workers_core.specs.declared.monitor.Monitor.{Monitor}
 use Rattle.workers_core.specs.States.{BatchState, batch, published_by}
 use Rattle.workers_core.specs.Standing.{monitor_state, seen, IsSame, MonitorStands, IsCleared}

@@ -6,7 +6,7 @@ use Rattle.vcd_reader.specs.Dump.{Contents}
 use Rattle.cycle_window.specs.Ticks.{ticks_of}
 use Rattle.machine_definition.specs.Outcomes.{done}
 use Rattle.machine_definition.specs.Machine.{opening, clocks}
-use Rattle.machine_batches.specs.Batches.{batch_of}
+use Rattle.machine_decisions.specs.Batches.{batch_of}
 use Rattle.workers_core.specs.States.{MonitorState, BatchState, EachStandsOnce, place, published_by}
 use Rattle.workers_core.specs.Values.{JobValue, CoreValue, rows_over}
 

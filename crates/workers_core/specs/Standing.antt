@@ -11,7 +11,7 @@ use Rattle.machine_definition.specs.Outcomes.{done}
 use Rattle.machine_definition.specs.Machine.{clock}
 use Rattle.machine_definition.specs.Runs.{run_from}
 use Rattle.verifier.specs.Programs.{IsAccepted}
-use Rattle.machine_batches.specs.Batches.{HasCome}
+use Rattle.machine_decisions.specs.Batches.{HasCome}
 use Rattle.workers_core.specs.declared.monitor.Monitor.{Monitor}
 use Rattle.workers_core.specs.States.{MonitorState}
 

@@ -9,7 +9,7 @@ use Rattle.bytecode.specs.Values.{ProgramData}
 use Rattle.machine_definition.specs.Outcomes.{Ran, done, trapped}
 use Rattle.machine_definition.specs.Machine.{State, Outcome}
 use Rattle.machine_definition.specs.Runs.{run_from}
-use Rattle.machine_batches.specs.Batches.{rows_between}
+use Rattle.machine_decisions.specs.Batches.{rows_between}
 use Rattle.workers_core.specs.declared.step.Step.{Step}
 use Rattle.workers_core.specs.declared.step.Step.TheVariants as steps
 use Rattle.workers_core.specs.declared.step.Reply.{Reply}

@@ -12,7 +12,7 @@ use crate::step::{Reply, Step};
 use crate::team_size::TeamSize;
 use arrayvec::ArrayVec;
 use cycle_window::WindowSize;
-use machine_batches::Batch;
+use machine_decisions::Batch;
 use signals::Decided;
 use std::alloc::{AllocError, Global};
 use std::marker::Model;

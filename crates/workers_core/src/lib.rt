@@ -23,7 +23,7 @@
 //! to its users, and why there is none), `specs/Cores.antt` (how it begins), and
 //! `specs/Following.antt` (what every core has: each monitor in the checked machine's state over
 //! the trace's first rows, and each batch that of its monitor for its clocks). Below them are
-//! `specs/Standing.antt` and `specs/Parts.antt`. Batches are those of `machine_batches`, the
+//! `specs/Standing.antt` and `specs/Parts.antt`. Batches are those of `machine_decisions`, the
 //! checked machine that of `machine_definition`.
 //!
 //! Not promised: that any monitor is ever claimed, or that a foreign program means anything.

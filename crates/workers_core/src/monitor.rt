@@ -11,7 +11,7 @@ ghost use Rattle.machine_definition.specs.Runs.{open_ones};
 use arrayvec::ArrayVec;
 use cycle_window::Window;
 use machine::Machine;
-use machine_batches::{Batch, Streak, Streaks};
+use machine_decisions::{Batch, Streak, Streaks};
 use signals::Decided;
 use std::alloc::{AllocError, Global};
 use std::mem;

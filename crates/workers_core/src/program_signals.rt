@@ -6,7 +6,7 @@ ghost use Rattle.vcd_reader.specs.Variables.{variable_named};
 ghost use Rattle.vcd_reader.specs.Held.{variables_of};
 ghost use Rattle.cycle_window.specs.Bound.{misfit, first_refused, IsMisfit, IsSignalFault};
 ghost use Rattle.cycle_window.specs.Signals.{wanted_of};
-ghost use Rattle.machine_batches.specs.Reported.{wanted_slot};
+ghost use Rattle.machine_decisions.specs.Reported.{wanted_slot};
 ghost use Rattle.workers_core.specs.Wanted.{wanted_in};
 
 use bytecode::Slot;

@@ -22,11 +22,11 @@ use Rattle.machine_definition.specs.Outcomes.{Ran, done, and_then}
 use Rattle.machine_definition.specs.Machine.{State, Outcome, opening, clocks}
 use Rattle.machine_definition.specs.Runs.{run_from}
 use Rattle.machine.specs.Running.{Running}
-use Rattle.machine_batches.specs.Reported.{wanted_slot}
-use Rattle.machine_batches.proofs.BoundLaws.{bound}
-use Rattle.machine_batches.specs.declared.batch.Batch.{Batch}
-use Rattle.machine_batches.specs.Batches.{rows_between, decided_in, batch_of, HasCome}
-use Rattle.machine_batches.proofs.JoinLaws.{come-to, come-anew, ends-in, came}
+use Rattle.machine_decisions.specs.Reported.{wanted_slot}
+use Rattle.machine_decisions.proofs.BoundLaws.{bound}
+use Rattle.machine_decisions.specs.declared.batch.Batch.{Batch}
+use Rattle.machine_decisions.specs.Batches.{rows_between, decided_in, batch_of, HasCome}
+use Rattle.machine_decisions.proofs.JoinLaws.{come-to, come-anew, ends-in, came}
 use Rattle.workers_core.specs.declared.job.Job.{Job}
 use Rattle.workers_core.specs.declared.monitor.Monitor.{Monitor}
 use Rattle.workers_core.specs.States.{BatchState, batch}

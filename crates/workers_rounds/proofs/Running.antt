@@ -8,7 +8,7 @@ use Rattle.signals.specs.declared.verdict.Verdict.{Verdict}
 use Rattle.verdicts.specs.Tallies.{is_holds, is_vacuous, is_fails, is_disabled}
 use Rattle.cycle_window.specs.declared.window.Window.{Window}
 use Rattle.cycle_window.specs.Held.{first_in, end_in}
-use Rattle.machine_batches.specs.declared.batch.Batch.{Batch}
+use Rattle.machine_decisions.specs.declared.batch.Batch.{Batch}
 use Rattle.workers_core.specs.declared.job.Job.{Job}
 use Rattle.crossbeam_queue.specs.Passes.{Pass, view}
 use Rattle.workers_shared.specs.declared.board.Board.{Board}

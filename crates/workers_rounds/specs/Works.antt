@@ -8,8 +8,8 @@ use Rattle.vcd_reader.specs.Dump.{Contents}
 use Rattle.cycle_window.specs.declared.window.Window.{Window}
 use Rattle.cycle_window.specs.Held.{first_in, end_in}
 use Rattle.verdicts.specs.Tallies.{is_holds, is_vacuous, is_fails, is_disabled}
-use Rattle.machine_batches.specs.declared.batch.Batch.{Batch}
-use Rattle.machine_batches.specs.Batches.{batch_of}
+use Rattle.machine_decisions.specs.declared.batch.Batch.{Batch}
+use Rattle.machine_decisions.specs.Batches.{batch_of}
 use Rattle.workers_core.specs.declared.job.Job.{Job}
 use Rattle.workers_core.specs.Values.{Says, job_value, rows_over}
 use Rattle.workers_shared.specs.declared.board.Board.{Board}

@@ -10,7 +10,7 @@ ghost use Rattle.workers_rounds.specs.Works.{IsSized, IsBatch, monitor_clock_of}
 
 use arrayvec::ArrayVec;
 use cycle_window::Window;
-use machine_batches::Batch;
+use machine_decisions::Batch;
 use signals::Decided;
 use std::alloc::{AllocError, Global};
 use workers_shared::Numbered;

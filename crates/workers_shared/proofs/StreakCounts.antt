@@ -26,10 +26,10 @@ use Rattle.std.proofs.lemmas.List.Sums.{sum_by-append}
 use Rattle.signals.specs.declared.verdict.Verdict.{Verdict}
 use Rattle.signals.specs.declared.verdict.Decided.{Decided}
 use Rattle.verdicts.specs.Tallies.{is_holds, is_vacuous, is_fails, is_disabled}
-use Rattle.machine_batches.specs.declared.streak.Streak.{Streak}
-use Rattle.machine_batches.specs.Streaks.{streak_attempts, attempts_in_all}
-use Rattle.machine_batches.proofs.StreakLaws.{streak-more, streak-count, IsKind}
-use Rattle.machine_batches.proofs.StreakLaws.{kind-holds, kind-vacuous, kind-fails, kind-disabled}
+use Rattle.machine_decisions.specs.declared.streak.Streak.{Streak}
+use Rattle.machine_decisions.specs.Streaks.{streak_attempts, attempts_in_all}
+use Rattle.machine_decisions.proofs.StreakLaws.{streak-more, streak-count, IsKind}
+use Rattle.machine_decisions.proofs.StreakLaws.{kind-holds, kind-vacuous, kind-fails, kind-disabled}
 use Rattle.workers_shared.specs.Counts.{count_of, counts_of}
 
 -- so many verdicts of one kind

@@ -1,7 +1,7 @@
 -- What a clause says of a board and its receipts.
 use Rattle.std.specs.Prelude.{ℕ}
 use Rattle.boxcar.specs.Table.{Shows}
-use Rattle.machine_batches.specs.declared.batch.Batch.{Batch}
+use Rattle.machine_decisions.specs.declared.batch.Batch.{Batch}
 use Rattle.workers_shared.specs.declared.board.Board.{Board}
 use Rattle.workers_shared.specs.declared.board.Receipt.{Receipt}
 

@@ -3,7 +3,7 @@
 ghost use Rattle.std.specs.Prelude.{◌≡◌, IfOk, IfErr};
 
 use boxcar::Pushed;
-use machine_batches::Batch;
+use machine_decisions::Batch;
 use std::alloc::{AllocError, Global};
 use std::sync::Wait;
 

@@ -1,11 +1,11 @@
 //! How many verdicts of each kind a batch has.
 
 ghost use Rattle.std.specs.Prelude.{◌≡◌, ◌^◌};
-ghost use Rattle.machine_batches.specs.Streaks.{streak_attempts};
+ghost use Rattle.machine_decisions.specs.Streaks.{streak_attempts};
 ghost use Rattle.workers_shared.specs.Counts.{counts_of};
 ghost use Rattle.workers_shared.specs.Shares.{EachAtMost};
 
-use machine_batches::{Batch, Streak};
+use machine_decisions::{Batch, Streak};
 use signals::Verdict;
 
 /// How many attempts of the streak hold, are vacuous, fail and are disabled.

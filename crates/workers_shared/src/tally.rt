@@ -2,7 +2,7 @@
 ghost use Rattle.std.specs.Prelude.{◌≡◌, ℕ, ◌-◌, ◌^◌, min};
 
 use crate::counts::batch_counts;
-use machine_batches::Batch;
+use machine_decisions::Batch;
 use std::alloc::{AllocError, Global};
 use std::marker::{Brand, PhantomData};
 use std::sync::ledger::{self, Blank, Book, Ledger};

@@ -33,7 +33,7 @@ use Rattle.cycle_window.specs.Ticks.{ticks_of}
 use Rattle.machine_definition.specs.Runs.{open_ones}
 use Rattle.verdicts.specs.declared.line.Line.{Line}
 use Rattle.verdicts.specs.Lines.{LineData, line}
-use Rattle.machine_batches.specs.Lines.{line_over, attempts_of, IsLineOver}
+use Rattle.machine_decisions.specs.Lines.{line_over, attempts_of, IsLineOver}
 use Rattle.workers_core.specs.declared.job.Job.{Job}
 use Rattle.workers_core.specs.States.{MonitorState, place, published_by}
 use Rattle.workers_core.specs.Values.{CoreValue, job_value, rows_over}

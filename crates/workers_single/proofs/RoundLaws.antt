@@ -37,7 +37,7 @@ use Rattle.cycle_window.specs.Ticks.{ticks_of, row_of}
 use Rattle.machine_definition.specs.Outcomes.{Ran, done}
 use Rattle.machine_definition.specs.Machine.{Outcome}
 use Rattle.machine_definition.specs.Runs.{run_from}
-use Rattle.machine_batches.specs.Batches.{rows_between}
+use Rattle.machine_decisions.specs.Batches.{rows_between}
 use Rattle.bytecode.specs.Values.{ProgramData}
 use Rattle.workers_core.specs.States.{
   CoreState,

@@ -29,11 +29,11 @@ use Rattle.machine_definition.specs.Machine.{State, Outcome, opening, clock, clo
 use Rattle.machine_definition.specs.Runs.{run_from, Decides}
 use Rattle.machine_definition.specs.Bounds.{IsReached}
 use Rattle.machine_definition.proofs.Machine.{never}
-use Rattle.machine_batches.proofs.BatchLaws.{joined, later}
-use Rattle.machine_batches.proofs.CutLaws.{ends-as}
-use Rattle.machine_batches.proofs.CountLaws.{CountsAll, clock-counts}
-use Rattle.machine_batches.specs.Batches.{rows_between, decided_in, batch_of}
-use Rattle.machine_batches.proofs.JoinLaws.{clocks-append, split-at}
+use Rattle.machine_decisions.proofs.BatchLaws.{joined, later}
+use Rattle.machine_decisions.proofs.CutLaws.{ends-as}
+use Rattle.machine_decisions.proofs.CountLaws.{CountsAll, clock-counts}
+use Rattle.machine_decisions.specs.Batches.{rows_between, decided_in, batch_of}
+use Rattle.machine_decisions.proofs.JoinLaws.{clocks-append, split-at}
 
 -- A run without a trap: a clock for each row, and each attempt that was live or began there is
 -- decided or live.

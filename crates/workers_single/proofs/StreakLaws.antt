@@ -41,13 +41,13 @@ use Rattle.signals.specs.declared.verdict.Decided.{Decided}
 use Rattle.verdicts.specs.declared.line.Counts.{Counts}
 use Rattle.verdicts.specs.declared.line.Failure.{Failure}
 use Rattle.verdicts.specs.Tallies.{tally_of, is_holds, is_vacuous, is_fails, is_disabled, is_open}
-use Rattle.machine_batches.specs.declared.streak.Streak.{Streak}
-use Rattle.machine_batches.specs.Ages.{verdict_moved, nth}
-use Rattle.machine_batches.specs.Lines.{failure_of}
-use Rattle.machine_batches.specs.Streaks.{streak_attempts, attempts_in_all}
-use Rattle.machine_batches.proofs.StreakLaws.{streak-count, IsKind}
-use Rattle.machine_batches.proofs.StreakLaws.{kind-holds, kind-vacuous, kind-fails, kind-disabled}
-use Rattle.machine_batches.proofs.StreakLaws.{kind-open}
+use Rattle.machine_decisions.specs.declared.streak.Streak.{Streak}
+use Rattle.machine_decisions.specs.Ages.{verdict_moved, nth}
+use Rattle.machine_decisions.specs.Lines.{failure_of}
+use Rattle.machine_decisions.specs.Streaks.{streak_attempts, attempts_in_all}
+use Rattle.machine_decisions.proofs.StreakLaws.{streak-count, IsKind}
+use Rattle.machine_decisions.proofs.StreakLaws.{kind-holds, kind-vacuous, kind-fails, kind-disabled}
+use Rattle.machine_decisions.proofs.StreakLaws.{kind-open}
 use Rattle.workers_single.specs.Growing.{more_of}
 
 verdicts-counted : (is : Verdict → Bool) (ds : List Decided) →

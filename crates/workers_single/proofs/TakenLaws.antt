@@ -33,7 +33,7 @@ use Rattle.std.proofs.lemmas.Bool.{eq-eqb, ne_eqb}
 use Rattle.std.proofs.lemmas.Grind.{flat_map-append}
 use Rattle.std.proofs.lemmas.List.{map-append, append-nil, take_more, take-append-drop}
 use Rattle.signals.specs.declared.verdict.Decided.{Decided}
-use Rattle.machine_batches.specs.declared.batch.Batch.{Batch}
+use Rattle.machine_decisions.specs.declared.batch.Batch.{Batch}
 use Rattle.workers_core.specs.States.{BatchState, published_by}
 use Rattle.workers_core.specs.Parts.{batch_state}
 use Rattle.workers_single.specs.declared.growing_line.GrowingLine.{GrowingLine}

@@ -3,7 +3,7 @@ use Rattle.std.specs.Prelude.{List}
 use Rattle.std.specs.List.{AllZip}
 use Rattle.vcd_reader.specs.Dump.{Contents}
 use Rattle.verdicts.specs.Lines.{LineData}
-use Rattle.machine_batches.specs.Lines.{IsLineOver}
+use Rattle.machine_decisions.specs.Lines.{IsLineOver}
 use Rattle.workers_core.specs.Values.{JobValue, rows_over}
 
 -- A line for each program of the job, in order, over the program's rows of the trace.

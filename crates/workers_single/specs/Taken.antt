@@ -2,8 +2,8 @@
 use Rattle.std.specs.Prelude.{◌≡◌, ℕ, ◌==◌, if◌then◌else◌, List, [], length, map, filter_map}
 use Rattle.signals.specs.declared.verdict.Decided.{Decided}
 use Rattle.verdicts.specs.Tallies.{tally_of}
-use Rattle.machine_batches.specs.declared.batch.Batch.{Batch}
-use Rattle.machine_batches.specs.Lines.{failure_of, attempts_of}
+use Rattle.machine_decisions.specs.declared.batch.Batch.{Batch}
+use Rattle.machine_decisions.specs.Lines.{failure_of, attempts_of}
 use Rattle.workers_single.specs.declared.growing_line.GrowingLine.{GrowingLine}
 
 -- these attempts were taken in

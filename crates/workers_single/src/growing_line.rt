@@ -5,11 +5,11 @@ ghost use Rattle.std.specs.Prelude.{filter_map, string_bytes};
 ghost use Rattle.signals.specs.declared.verdict.Decided.{Decided};
 ghost use Rattle.verdicts.specs.Lines.{line};
 ghost use Rattle.verdicts.specs.Tallies.{is_fails};
-ghost use Rattle.machine_batches.specs.Lines.{failure_of, line_over, attempts_of};
-ghost use Rattle.machine_batches.specs.Streaks.{streak_attempts};
+ghost use Rattle.machine_decisions.specs.Lines.{failure_of, line_over, attempts_of};
+ghost use Rattle.machine_decisions.specs.Streaks.{streak_attempts};
 ghost use Rattle.workers_single.specs.Growing.{more_of};
 
-use machine_batches::{Streak, Streaks};
+use machine_decisions::{Streak, Streaks};
 use signals::{Decided, Verdict};
 use std::alloc::{AllocError, Global};
 use verdicts::{Counts, Failure, Line};

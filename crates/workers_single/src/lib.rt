@@ -17,7 +17,7 @@
 //!
 //! The definitions: the lines of a job over the contents of its dump in `specs/Lines.antt`; a core
 //! between two rounds and in the midst of one in `specs/Rounds.antt`. The line of a program over
-//! rows is that of `machine_batches`, in its `specs/Lines.antt`; jobs, their rows, cores and why
+//! rows is that of `machine_decisions`, in its `specs/Lines.antt`; jobs, their rows, cores and why
 //! there is none are those of `workers_core`, in its `specs/Values.antt`.
 //!
 //! Not promised: that memory suffices, or that a program of unknown origin means anything.

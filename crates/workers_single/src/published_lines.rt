@@ -3,14 +3,14 @@
 ghost use Rattle.std.specs.Prelude.{◌≡◌, ◌+◌, ◌^◌, ◌<◌, ◌++◌, ℕ, List, [], Some, IfOk, OnOk};
 ghost use Rattle.std.specs.Prelude.{length, map, slice_get};
 ghost use Rattle.signals.specs.declared.verdict.Decided.{Decided};
-ghost use Rattle.machine_batches.specs.Lines.{attempts_of};
+ghost use Rattle.machine_decisions.specs.Lines.{attempts_of};
 ghost use Rattle.workers_core.specs.States.{published_by};
 ghost use Rattle.workers_core.specs.Parts.{batch_state};
 ghost use Rattle.workers_single.specs.declared.growing_line.GrowingLine.{GrowingLine};
 ghost use Rattle.workers_single.specs.Taken.{TookIn, of_monitor};
 
 use crate::growing_line::GrowingLine;
-use machine_batches::Batch;
+use machine_decisions::Batch;
 use std::alloc::{AllocError, Global};
 
 /// So many lines of which nothing was taken in.

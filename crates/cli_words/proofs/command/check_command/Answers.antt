@@ -10,11 +10,9 @@ returns c =
     let window =
     one_option _ _ _ _ _ c.in_ok-arg-2.ensures workers c.window_option.ensures.rule c.window_option.ensures.local in
     let junit =
-    one_option _ _ _ _ _ c.in_ok-arg-3.ensures window c.form_option-junit.ensures.rule
-    c.form_option-junit.ensures.local in
+    one_option _ _ _ _ _ c.in_ok-arg-3.ensures window c.form_option.ensures.rule c.form_option.ensures.local in
     let json =
-    one_option _ _ _ _ _ c.in_ok-arg-4.ensures junit c.form_option-json.ensures.rule
-    c.form_option-json.ensures.local in
+    one_option _ _ _ _ _ c.in_ok-arg-4.ensures junit c.form_option-2.ensures.rule c.form_option-2.ensures.local in
     IfOk-weaker c.arg-5.result _ _
-    (λ r h. one_option _ r _ _ _ h json c.form_option-html.ensures.rule c.form_option-html.ensures.local)
+    (λ r h. one_option _ r _ _ _ h json c.form_option-3.ensures.rule c.form_option-3.ensures.local)
     c.arg-5.ensures

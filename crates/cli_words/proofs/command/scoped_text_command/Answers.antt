@@ -1,7 +1,7 @@
-use Rattle.std.proofs.Common.{◌∙◌, ap, codes}
+use Rattle.std.proofs.Common.{◌≡◌, ◌∙◌, ap, codes}
 use Rattle.std.proofs.lemmas.Result.{IfOk-weaker}
-use Rattle.clap.specs.Words.{Rule, new_app, with_rule}
-use Rattle.cli_words.specs.Words.{file_rule, tied}
+use Rattle.clap.specs.Words.{App, Rule, new_app, with_rule}
+use Rattle.cli_words.specs.Words.{file_rule, option_rule, many_rule, bound_rule, tied}
 use Rattle.cli_words.proofs.CommandLaws.{one_option}
 use Rattle.cli_words.proofs.command.scoped_text_command.Goals as goal
 
@@ -12,14 +12,18 @@ pub returns : goal.returns
 returns c =
     let dump = with_rule (new_app c.args.name.now) (file_rule (codes "vcd")) in
     let text = c.in_ok-dump_command.ensures ∙ ap (λ (r : Rule). with_rule dump r) c.in_ok-text.ensures.rule in
-    let ports = one_option _ _ _ _ _ c.in_ok-arg.ensures text c.axi_option.ensures.rule c.axi_option.ensures.local in
+    let ports =
+    one_option _ _ _ _ _ c.in_ok-command.ensures text c.axi_option.ensures.rule c.axi_option.ensures.local in
+    let sv : Rule = tied (many_rule (codes "sv")) in
     let files =
-    one_option _ _ _ _ _ c.in_ok-arg-2.ensures ports c.in_ok-files.ensures.rule c.in_ok-files.ensures.local in
+    c.in_ok-command-2.ensures sv c.sv_option.ensures.rule c.sv_option.ensures.local
+    ∙ ap (λ (a : App). with_rule a sv) ports in
     let scope =
-    one_option _ _ _ _ _ c.in_ok-arg-3.ensures files
-    (c.in_ok-scope.ensures.rule ∙ ap tied c.free_option.ensures.rule) c.in_ok-scope.ensures.local in
-    IfOk-weaker c.arg-4.result _ _
+    c.in_ok-command-3.ensures
+    ∙ ap (λ (r : Rule). with_rule _ (tied r)) c.free_option.ensures.rule
+    ∙ ap (λ (a : App). with_rule a (tied (option_rule (codes "scope")))) files in
+    IfOk-weaker c.with_tied-2.result _ _
     (λ r h.
-    one_option _ r _ _ _ h scope (c.in_ok-bound.ensures.rule ∙ ap tied c.bound_option.ensures.rule)
-    c.in_ok-bound.ensures.local)
-    c.arg-4.ensures
+    h ∙ ap (λ (b : Rule). with_rule _ (tied b)) c.bound_option.ensures.rule
+    ∙ ap (λ (a : App). with_rule a (tied bound_rule)) scope)
+    c.with_tied-2.ensures

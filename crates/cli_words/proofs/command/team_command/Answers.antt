@@ -1,19 +1,21 @@
-use Rattle.std.proofs.Common.{◌∙◌, ap}
+use Rattle.std.proofs.Common.{◌∙◌, ap, codes}
 use Rattle.std.proofs.lemmas.Result.{IfOk-weaker}
-use Rattle.cli_words.specs.Words.{tied}
-use Rattle.cli_words.proofs.CommandLaws.{one_option}
+use Rattle.clap.specs.Words.{App, Rule, with_rule}
+use Rattle.cli_words.specs.Words.{option_rule, many_rule, flag_rule, tied}
 use Rattle.cli_words.proofs.command.team_command.Goals as goal
 
 pub returns : goal.returns
 returns c =
     let clock =
-    one_option _ _ _ _ _ c.in_ok-arg.ensures c.in_ok-scoped_text_command.ensures
-    (c.in_ok-clock.ensures.rule ∙ ap tied c.free_option.ensures.rule) c.in_ok-clock.ensures.local in
+    c.in_ok-command-2.ensures
+    ∙ ap (λ (r : Rule). with_rule _ (tied r)) c.free_option.ensures.rule
+    ∙ ap (λ (a : App). with_rule a (tied (option_rule (codes "clock")))) c.in_ok-command.ensures in
     let define =
-    one_option _ _ _ _ _ c.in_ok-arg-2.ensures clock
-    (c.in_ok-define.ensures.rule ∙ ap tied c.many_option.ensures.rule) c.in_ok-define.ensures.local in
-    IfOk-weaker c.arg-3.result _ _
+    c.in_ok-command-3.ensures
+    ∙ ap (λ (r : Rule). with_rule _ (tied r)) c.many_option.ensures.rule
+    ∙ ap (λ (a : App). with_rule a (tied (many_rule (codes "define")))) clock in
+    IfOk-weaker c.with_tied-3.result _ _
     (λ r h.
-    one_option _ r _ _ _ h define (c.in_ok-split.ensures.rule ∙ ap tied c.flag_option.ensures.rule)
-    c.in_ok-split.ensures.local)
-    c.arg-3.ensures
+    h ∙ ap (λ (b : Rule). with_rule _ (tied b)) c.flag_option.ensures.rule
+    ∙ ap (λ (a : App). with_rule a (tied (flag_rule (codes "split")))) define)
+    c.with_tied-3.ensures

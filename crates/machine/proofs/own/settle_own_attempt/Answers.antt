@@ -2,8 +2,8 @@ use Rattle.std.proofs.Common.{ℕ, List, [], ◌∷◌, ◌++◌, ◌-◌, Some,
 use Rattle.machine_definition.specs.Outcomes.{done}
 use Rattle.machine_definition.specs.Clocks.{Attempt}
 use Rattle.machine_memory.specs.Pooled.{Pooled}
-use Rattle.machine_visits.specs.declared.attempt.AttemptRecord.{AttemptRecord}
-use Rattle.machine_visits.specs.Records.{attempt_of}
+use Rattle.machine_attempts.specs.declared.attempt.AttemptRecord.{AttemptRecord}
+use Rattle.machine_attempts.specs.Records.{attempt_of}
 use Rattle.machine.specs.Live.{attempts_in}
 use Rattle.machine.proofs.OwnLaws as laws
 use Rattle.machine.proofs.own.settle_own_attempt.Goals as goal

@@ -6,7 +6,7 @@ use Rattle.std.proofs.lemmas.List.Elements.{All-push, All-same}
 use Rattle.bytecode.specs.Values.{ProgramData}
 use Rattle.verdicts.specs.declared.line.Line.{Line}
 use Rattle.verdicts.specs.Lines.{LineData, line}
-use Rattle.machine_batches.specs.Lines.{IsLineOver, attempts_of}
+use Rattle.machine_decisions.specs.Lines.{IsLineOver, attempts_of}
 use Rattle.workers_core.specs.Values.{job_value, rows_over}
 use Rattle.workers_core.proofs.CorePartLaws.{get-some}
 use Rattle.workers_single.specs.declared.growing_line.GrowingLine.{GrowingLine}

@@ -5,7 +5,7 @@ use Rattle.bytecode.specs.Values.{ProgramData}
 use Rattle.vcd_reader.specs.Dump.{Contents}
 use Rattle.verdicts.specs.declared.line.Line.{Line}
 use Rattle.verdicts.specs.Lines.{LineData, line}
-use Rattle.machine_batches.specs.Lines.{IsLineOver, attempts_of}
+use Rattle.machine_decisions.specs.Lines.{IsLineOver, attempts_of}
 use Rattle.workers_core.specs.Values.{Says, job_value, rows_over}
 use Rattle.workers_single.specs.declared.growing_line.GrowingLine.{GrowingLine}
 use Rattle.workers.specs.Between.{IsTold, clocks_of}

@@ -4,7 +4,7 @@ use Rattle.std.specs.Prelude.{slice_get}
 use Rattle.std.proofs.lemmas.List.{length-set}
 use Rattle.std.proofs.lemmas.Option.{slice_get_within}
 use Rattle.signals.specs.declared.verdict.Decided.{Decided}
-use Rattle.machine_batches.specs.declared.batch.Batch.{Batch}
+use Rattle.machine_decisions.specs.declared.batch.Batch.{Batch}
 use Rattle.workers_core.proofs.CorePartLaws.{get-some}
 use Rattle.workers_shared.specs.Receipts.{shown_by}
 use Rattle.workers_single.specs.declared.growing_line.GrowingLine.{GrowingLine}

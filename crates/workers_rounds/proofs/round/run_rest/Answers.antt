@@ -8,7 +8,7 @@ use Rattle.workers_shared.specs.Hands.{total, numbers}
 use Rattle.workers_rounds.specs.Works.{IsPublished, published_count}
 use Rattle.workers_rounds.specs.Runs.{published_numbers}
 use Rattle.workers_shared.proofs.Keeps.{all_pushed}
-use Rattle.machine_batches.specs.declared.batch.Batch.{Batch}
+use Rattle.machine_decisions.specs.declared.batch.Batch.{Batch}
 use Rattle.workers_shared.specs.Shares.{amounts, plus, EachAtMost}
 use Rattle.workers_shared.specs.Counts.{count_of, counts_of}
 use Rattle.workers_shared.specs.Receipts.{shown_by}

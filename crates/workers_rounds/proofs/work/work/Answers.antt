@@ -1,6 +1,6 @@
 use Rattle.std.proofs.Common.{◌≡◌, ◌++◌, ◌∷◌, [], ap, ◌∙◌, sym, refl, subst, arith, rules}
 use Rattle.crossbeam_queue.specs.Passes.{view}
-use Rattle.machine_batches.specs.declared.batch.Batch.{Batch}
+use Rattle.machine_decisions.specs.declared.batch.Batch.{Batch}
 use Rattle.cycle_window.specs.Held.{first_in}
 use Rattle.workers_core.proofs.CorePartLaws.{of-ok}
 use Rattle.workers_shared.specs.Receipts.{shown_by}

@@ -1,7 +1,7 @@
 use Rattle.std.proofs.Common.{◌≡◌, ◌+◌, ◌≤◌, ◌^◌, ℕ, List, ap, arith}
 use Rattle.std.specs.Prelude.{slice_index_or}
 use Rattle.verdicts.specs.Tallies.{is_holds, is_vacuous, is_fails, is_disabled}
-use Rattle.machine_batches.specs.Streaks.{attempts_in_all}
+use Rattle.machine_decisions.specs.Streaks.{attempts_in_all}
 use Rattle.workers_shared.specs.Counts.{count_of}
 use Rattle.workers_shared.proofs.StreakCounts as laws
 use Rattle.workers_shared.proofs.counts.batch_counts.Goals as goal

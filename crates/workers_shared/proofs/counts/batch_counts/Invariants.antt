@@ -1,6 +1,6 @@
 use Rattle.std.proofs.Common.{◌≡◌, take}
 use Rattle.verdicts.specs.Tallies.{is_holds, is_vacuous, is_fails, is_disabled}
-use Rattle.machine_batches.specs.Streaks.{attempts_in_all}
+use Rattle.machine_decisions.specs.Streaks.{attempts_in_all}
 use Rattle.workers_shared.specs.Counts.{count_of}
 use Rattle.workers_shared.proofs.counts.batch_counts.Given as goal
 

@@ -1,7 +1,7 @@
 use Rattle.std.proofs.Common.{◌++◌, ◌∷◌, [], List, filter_map, sym, ap, ◌∙◌}
 use Rattle.std.proofs.lemmas.List.{append-nil}
 use Rattle.signals.specs.declared.verdict.Decided.{Decided}
-use Rattle.machine_batches.specs.Lines.{failure_of}
+use Rattle.machine_decisions.specs.Lines.{failure_of}
 use Rattle.verdicts.specs.declared.line.Failure.{Failure}
 use Rattle.workers_single.proofs.StreakLaws.{none-failed, failures-more}
 use Rattle.workers_single.proofs.growing_line.push_failures.Goals as goal

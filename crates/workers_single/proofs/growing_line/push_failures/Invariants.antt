@@ -1,7 +1,7 @@
 use Rattle.std.proofs.Common.{◌≡◌, ◌++◌, map, filter_map}
 use Rattle.std.specs.List.{range_with_len}
-use Rattle.machine_batches.specs.Ages.{nth}
-use Rattle.machine_batches.specs.Lines.{failure_of}
+use Rattle.machine_decisions.specs.Ages.{nth}
+use Rattle.machine_decisions.specs.Lines.{failure_of}
 use Rattle.workers_single.proofs.growing_line.push_failures.Given as goal
 
 -- the attempts so far are added

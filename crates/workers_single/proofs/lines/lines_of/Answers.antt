@@ -26,7 +26,7 @@ use Rattle.bytecode.specs.Values.{ProgramData}
 use Rattle.machine_definition.specs.Runs.{open_ones}
 use Rattle.verdicts.specs.declared.line.Line.{Line}
 use Rattle.verdicts.specs.Lines.{LineData, line}
-use Rattle.machine_batches.specs.Lines.{IsLineOver, attempts_of}
+use Rattle.machine_decisions.specs.Lines.{IsLineOver, attempts_of}
 use Rattle.workers_core.specs.States.{BatchState, published_by}
 use Rattle.workers_core.specs.Values.{rows_over}
 use Rattle.workers_core.proofs.CorePartLaws.{get-some}

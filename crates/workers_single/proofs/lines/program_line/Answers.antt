@@ -17,7 +17,7 @@ use Rattle.std.proofs.lemmas.Option.{slice_get_within}
 use Rattle.signals.specs.declared.verdict.Decided.{Decided}
 use Rattle.bytecode.specs.Values.{ProgramData}
 use Rattle.machine_definition.specs.Runs.{open_ones}
-use Rattle.machine_batches.specs.Lines.{line_over, attempts_of}
+use Rattle.machine_decisions.specs.Lines.{line_over, attempts_of}
 use Rattle.workers_core.specs.States.{published_by}
 use Rattle.workers_single.specs.Taken.{TookIn}
 use Rattle.workers_single.proofs.CoreLaws.{less-traced, same-traced}

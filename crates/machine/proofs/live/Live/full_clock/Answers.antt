@@ -9,9 +9,9 @@ use Rattle.machine_definition.specs.Bounds.{RisesBetween}
 use Rattle.machine_definition.proofs.Parts.{began, since, IsRunning, IsOwed}
 use Rattle.machine.specs.Live.{attempts_in, obligations_in, standing_of, OpenedLately}
 use Rattle.machine_memory.specs.Pooled.{Pooled}
-use Rattle.machine_visits.specs.declared.attempt.AttemptRecord.{AttemptRecord}
-use Rattle.machine_visits.specs.declared.obligation.ObligationRecord.{ObligationRecord}
-use Rattle.machine_visits.specs.Records.{attempt_of, obligation_of}
+use Rattle.machine_attempts.specs.declared.attempt.AttemptRecord.{AttemptRecord}
+use Rattle.machine_attempts.specs.declared.obligation.ObligationRecord.{ObligationRecord}
+use Rattle.machine_attempts.specs.Records.{attempt_of, obligation_of}
 use Rattle.machine.proofs.LessLaws.{visit_attempts-less, visit_obligations-less, settle_all-less, disable_all-less}
 use Rattle.machine.proofs.ClockLaws as laws
 use Rattle.machine.proofs.live.Live.full_clock.Goals as goal

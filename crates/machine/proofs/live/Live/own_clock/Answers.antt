@@ -2,7 +2,7 @@ use Rattle.std.proofs.Common.{◌≡◌, ◌+◌, List, [], ◌∷◌, refl, sym
 use Rattle.bytecode.specs.Programs.{data_of}
 use Rattle.machine_definition.specs.Outcomes.{done}
 use Rattle.machine_definition.specs.Clocks.{Attempt, Obligation, Standing, visited, settle_all, clock_after}
-use Rattle.machine_visits.specs.Records.{attempt_of, made_by}
+use Rattle.machine_attempts.specs.Records.{attempt_of, made_by}
 use Rattle.machine.specs.Live.{attempts_in, standing_of, new_attempt, with_new}
 use Rattle.machine.specs.Own.{own_visits}
 use Rattle.machine.specs.Told.{nothing_at}

@@ -12,7 +12,7 @@ use Rattle.machine.proofs.RowLaws.{whole-row}
 use Rattle.std.proofs.Math.ListN.{length-map}
 use Rattle.machine_definition.specs.Outcomes.{done}
 use Rattle.machine_definition.specs.Values.{AreValues}
-use Rattle.machine_visits.specs.Records.{attempt_of}
+use Rattle.machine_attempts.specs.Records.{attempt_of}
 use Rattle.machine.proofs.VecLaws.{vec-long, refilled}
 use Rattle.machine.proofs.MemoryLaws as laws
 use Rattle.machine.proofs.memory.Memory.clock.Goals as goal

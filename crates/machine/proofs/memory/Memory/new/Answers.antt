@@ -6,8 +6,8 @@ use Rattle.bytecode.specs.Programs.{data_of}
 use Rattle.bytecode.specs.Instructions.{frame_of}
 use Rattle.machine_memory.specs.History.{cleared}
 use Rattle.machine_memory.specs.Pooled.{Pooled}
-use Rattle.machine_visits.specs.declared.attempt.AttemptRecord.{AttemptRecord}
-use Rattle.machine_visits.specs.declared.obligation.ObligationRecord.{ObligationRecord}
+use Rattle.machine_attempts.specs.declared.attempt.AttemptRecord.{AttemptRecord}
+use Rattle.machine_attempts.specs.declared.obligation.ObligationRecord.{ObligationRecord}
 use Rattle.machine_expressions.specs.Memory.{AreRows}
 use Rattle.machine_definition.specs.Values.{AreValues}
 use Rattle.machine_expressions.proofs.RowLaws.{AreRows-cleared}

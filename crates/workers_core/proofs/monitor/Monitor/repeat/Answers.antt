@@ -4,7 +4,7 @@ use Rattle.signals.specs.declared.verdict.Decided.{Decided}
 use Rattle.bytecode.specs.Values.{SlotData}
 use Rattle.machine.specs.Running.{Running}
 use Rattle.machine.specs.Again.{AreAgain}
-use Rattle.machine_batches.proofs.RowLaws.{row-values, values-prop}
+use Rattle.machine_decisions.proofs.RowLaws.{row-values, values-prop}
 use Rattle.workers_core.proofs.PlaceLaws as laws
 use Rattle.workers_core.proofs.monitor.Monitor.repeat.Goals as goal
 

@@ -1,6 +1,6 @@
 use Rattle.std.proofs.Common.{◌≡◌, ◌+◌, ◌++◌, List, take}
 use Rattle.signals.specs.declared.verdict.Decided.{Decided}
-use Rattle.machine_batches.specs.Lines.{attempts_of}
+use Rattle.machine_decisions.specs.Lines.{attempts_of}
 use Rattle.workers_single.specs.Taken.{TookIn}
 use Rattle.workers_single.proofs.growing_line.GrowingLine.take_in.Given as goal
 

@@ -2,9 +2,9 @@ use Rattle.std.proofs.Common.{◌++◌, map, filter_map, sym, ap, ◌∙◌, ari
 use Rattle.std.proofs.lemmas.List.Elements.{filter_map-append}
 use Rattle.std.proofs.lemmas.List.FromFn.{length-map-range_with_len}
 use Rattle.signals.specs.declared.verdict.Decided.{Decided}
-use Rattle.machine_batches.specs.Ages.{nth}
-use Rattle.machine_batches.specs.Lines.{failure_of}
-use Rattle.machine_batches.specs.Streaks.{streak_attempts}
+use Rattle.machine_decisions.specs.Ages.{nth}
+use Rattle.machine_decisions.specs.Lines.{failure_of}
+use Rattle.machine_decisions.specs.Streaks.{streak_attempts}
 use Rattle.workers_single.proofs.StreakLaws as laws
 use Rattle.workers_single.proofs.growing_line.GrowingLine.take_streak.Goals as goal
 

@@ -2,9 +2,9 @@ use Rattle.std.proofs.Common.{◌≡◌, ◌+◌, ◌++◌, List, take, length, 
 use Rattle.std.proofs.Common.{append_assoc, length-append}
 use Rattle.std.proofs.lemmas.List.FromFn.{length-map-range_with_len}
 use Rattle.signals.specs.declared.verdict.Decided.{Decided}
-use Rattle.machine_batches.specs.Ages.{nth}
-use Rattle.machine_batches.specs.Streaks.{streak_attempts, attempts_in_all}
-use Rattle.machine_batches.proofs.StreakLaws.{streak-more}
+use Rattle.machine_decisions.specs.Ages.{nth}
+use Rattle.machine_decisions.specs.Streaks.{streak_attempts, attempts_in_all}
+use Rattle.machine_decisions.proofs.StreakLaws.{streak-more}
 use Rattle.workers_single.specs.Taken.{TookIn}
 use Rattle.workers_single.proofs.StreakLaws.{streaks-few}
 use Rattle.workers_single.proofs.growing_line.GrowingLine.take_streaks.Goals as goal

@@ -1,7 +1,7 @@
 use Rattle.std.proofs.Common.{◌≡◌, ◌+◌, ◌++◌, List, take, length}
 use Rattle.signals.specs.declared.verdict.Decided.{Decided}
-use Rattle.machine_batches.specs.Lines.{attempts_of}
-use Rattle.machine_batches.specs.Streaks.{attempts_in_all}
+use Rattle.machine_decisions.specs.Lines.{attempts_of}
+use Rattle.machine_decisions.specs.Streaks.{attempts_in_all}
 use Rattle.workers_single.specs.Taken.{TookIn}
 use Rattle.workers_single.proofs.growing_line.GrowingLine.take_streaks.Given as goal
 
