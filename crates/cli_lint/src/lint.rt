@@ -35,11 +35,11 @@ pub struct Rest {
 
 /// All refusals of a text over a dump, told in the order of their places by the files that the text
 /// was made of, and the text without the items that are refused.
-pub fn rest_over(
+pub fn rest_over<'a>(
     alloc: Global,
-    dump: &Dump,
-    text: &str,
-    origin: &Origin<'_>,
+    dump: &'a Dump,
+    text: &'a str,
+    origin: &Origin<'a>,
 ) -> Result<Rest, AllocError>
     ensures tells { IfOk result (λ r. TellsRefusals (variables_of dump.now) text.now
         origin.now.parts.now origin.now.added.now [] r.refused (string_bytes r.told) r.text) }
@@ -66,12 +66,12 @@ pub fn rest_over(
 }
 
 /// The same, with notes on what is left.
-fn noted_over(
+fn noted_over<'a>(
     alloc: Global,
     dump: Dump,
-    text: &str,
-    origin: &Origin<'_>,
-    unnamed: &[Unnamed],
+    text: &'a str,
+    origin: &Origin<'a>,
+    unnamed: &'a [Unnamed],
     beside: &Beside<'_>,
 ) -> Result<Rest, AllocError>
     ensures { IfOk result (λ r. (notes : List Refusal)
@@ -142,12 +142,12 @@ fn dump_of(alloc: Global, bytes: &[u8]) -> Result<Dump, VcdFault>
 }
 
 /// What is told of a text over the dump that bytes are.
-fn told_over(
+fn told_over<'a>(
     alloc: Global,
-    bytes: &[u8],
-    text: &str,
-    origin: &Origin<'_>,
-    ports: &[PortSaid],
+    bytes: &'a [u8],
+    text: &'a str,
+    origin: &Origin<'a>,
+    ports: &'a [PortSaid],
 ) -> Result<Rest, LintFault>
     ensures { IfOk result (λ r. (c : Contents) × (dump_of bytes.now ≡ Ok c)
         × (notes : List Refusal)

@@ -50,12 +50,12 @@ fn notes_of(
 }
 
 /// The notes of the items that a text spells, if they are accepted.
-fn notes_of_file<'t>(
+fn notes_of_file<'a, 't>(
     alloc: Global,
     dump: Dump,
-    text: &str,
-    tokens: &[Token<'t>],
-    file: &File<'t>,
+    text: &'a str,
+    tokens: &'a [Token<'t>],
+    file: &'a File<'t>,
     beside: &Beside<'_>,
     whole: bool,
 ) -> Result<Vec<Note>, AllocError>

@@ -54,10 +54,10 @@ fn slice_of(declared: &Option<Vec<String>>) -> Option<&[String]>
 }
 
 /// What is told of a text whose items end there.
-fn linted_over(
+fn linted_over<'a>(
     alloc: Global,
-    meant: &Meant<'_>,
-    text: &str,
+    meant: &Meant<'a>,
+    text: &'a str,
     ends: &[usize],
 ) -> Result<Linted, AllocError>
     ensures told { IfOk result (λ l. AreTold (variables_of meant.now.dump.now) ends.now text.now
@@ -78,7 +78,7 @@ fn linted_over(
 }
 
 /// All refusals of a text over a dump, and the text without the items that are refused.
-pub fn lint_over(alloc: Global, meant: &Meant<'_>, text: &str) -> Result<Told, AllocError>
+pub fn lint_over<'a>(alloc: Global, meant: &Meant<'a>, text: &'a str) -> Result<Told, AllocError>
     ensures told { IfOk result (λ t. (ends : List ℕ)
         × (t.items ≡ counted text.now ends t.linted.refusals.items)
         × (IsOk (tokens_of text.now) → AreItemEnds text.now ends)
