@@ -1,7 +1,7 @@
 -- What is told of refusals, one by one.
-use Rattle.std.proofs.Common.{◌≡◌, ◌∙◌, ◌++◌, ◌+◌, ◌<◌, ℕ, List, [], ◌∷◌, length, take, get_or, refl, sym, ap, subst}
-use Rattle.std.proofs.Common.{add-one, append-nil}
-use Rattle.std.specs.List.{AllZip, flat_map}
+use Rattle.std.proofs.Common.{◌≡◌, ◌∙◌, ◌++◌, ◌+◌, ◌<◌, ℕ, List, [], ◌∷◌, length, take, get_or, sym, ap, subst}
+use Rattle.std.proofs.Common.{add-one}
+use Rattle.std.specs.List.{AllZip}
 use Rattle.std.proofs.lemmas.List.{flat_map_more}
 use Rattle.std.proofs.Math.Seq.{take-suc}
 use Rattle.source_files.specs.declared.added.Added.{Added}

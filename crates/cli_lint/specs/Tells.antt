@@ -1,5 +1,5 @@
 -- The text that tells of refusals, and what the command was given and wrote.
-use Rattle.std.specs.Prelude.{◌≡◌, ℕ, List, [], ◌++◌, Option, Some, None, length, map, max, Ok}
+use Rattle.std.specs.Prelude.{◌≡◌, ℕ, List, [], ◌++◌, Option, Some, None, length, map, max}
 use Rattle.std.specs.Prelude.{slice_get, string_bytes, String, IsOk, false}
 use Rattle.std.specs.List.{AllZip, flat_map}
 use Rattle.std.specs.List.Sorted.{IsPermutation, IsNonDecreasingBy}

@@ -1,5 +1,5 @@
 -- What is known of a refusal that may be there.
-use Rattle.std.proofs.Common.{◌≡◌, ◌∙◌, ℕ, Bool, true, false, cond, List, [], ◌∷◌, Option, Some, None}
+use Rattle.std.proofs.Common.{◌≡◌, ◌∙◌, ℕ, List, Option, Some, None}
 use Rattle.std.proofs.Common.{Result, Ok, Err, map, refl, sym, ap}
 use Rattle.std.specs.Prelude.{IfOk, IfSome, MatchOption, unwrap_or, option_map, slice_get}
 use Rattle.std.proofs.lemmas.Option.{slice_get-map}

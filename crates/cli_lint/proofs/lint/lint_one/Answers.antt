@@ -1,4 +1,4 @@
-use Rattle.std.proofs.Common.{◌≡◌, [], ℕ, List, Ok, string_bytes, subst}
+use Rattle.std.proofs.Common.{◌≡◌, ℕ, List, Ok, string_bytes, subst}
 use Rattle.std.specs.Io.KnownBytes.{Appends}
 use Rattle.vcd_reader.specs.Dump.{dump_of}
 use Rattle.cli_lint.proofs.lint.lint_one.Goals as goal

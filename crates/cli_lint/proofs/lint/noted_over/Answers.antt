@@ -1,4 +1,4 @@
-use Rattle.std.proofs.Common.{◌∙◌, ℕ, List, [], string_bytes, sym, subst}
+use Rattle.std.proofs.Common.{◌∙◌, ℕ, List, string_bytes, sym, subst}
 use Rattle.diagnostics.specs.declared.front.Refusal.{Refusal}
 use Rattle.cli_lint.specs.Tells.{TellsAll}
 use Rattle.cli_lint.proofs.lint.noted_over.Goals as goal

@@ -1,6 +1,6 @@
-use Rattle.std.proofs.Common.{string_bytes, subst, take}
+use Rattle.std.proofs.Common.{string_bytes, subst}
 use Rattle.diagnostics.specs.declared.front.Refusal.{Refusal}
-use Rattle.cli_lint.specs.Tells.{AddsTold, TellsEach}
+use Rattle.cli_lint.specs.Tells.{AddsTold}
 use Rattle.cli_lint.proofs.TellLaws.{tells_none, tells_more}
 use Rattle.cli_lint.proofs.refusals.told_of.Goals as goal
 

@@ -1,4 +1,4 @@
-use Rattle.std.proofs.Common.{◌≡◌, ◌∙◌, ◌+◌, ℕ, map, string_bytes, sym}
+use Rattle.std.proofs.Common.{◌≡◌, ◌∙◌, ◌+◌, map, string_bytes, sym}
 use Rattle.vcd_reader.specs.Held.{variables_of}
 use Rattle.diagnostics.specs.declared.front.Refusal.{Refusal}
 use Rattle.lint_refusals.specs.Alone.{IsRefusedPart}
