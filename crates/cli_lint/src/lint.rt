@@ -186,12 +186,12 @@ fn write_told<W: Sink>(out: &mut W, told: &str) -> Result<(), LintFault>
 /// # Errors
 ///
 /// What is wrong with the dump (V1 to V8), G1 where the sink failed, and want of memory.
-pub fn lint_one<S: Source, W: Sink>(
+pub fn lint_one<'a, S: Source, W: Sink>(
     alloc: Global,
     source: &mut S,
-    text: &str,
-    origin: &Origin<'_>,
-    ports: &[PortSaid],
+    text: &'a str,
+    origin: &Origin<'a>,
+    ports: &'a [PortSaid],
     out: &mut W,
 ) -> Result<u64, LintFault>
     ensures { IfOk result (IsLinted text.now origin.now.parts.now origin.now.added.now

@@ -15,7 +15,7 @@ returns c =
     let many : c.len-count.result ≡ length c.args.refusals.now.items =
     c.len-count.ensures ∙ c.in_ok-sort_by_key.ensures.len ∙ c.args.refusals.now.ok.0 in
     let grown : string_bytes c.push_str.new.self ≡ front ++ after =
-    c.in_ok-push_str.ensures ∙ ap (λ (l : List ℕ). front ++ l) c.as_str.ensures.value in
+    c.in_ok-push_str.ensures.bytes ∙ ap (λ (l : List ℕ). front ++ l) c.as_str.ensures.value in
     record {
       ordered = c.sort_by_key.new.self.items;
       moved = c.in_ok-sort_by_key.ensures.permutation;
