@@ -72,7 +72,7 @@ fn noted_over<'a>(
     text: &'a str,
     origin: &Origin<'a>,
     unnamed: &'a [Unnamed],
-    beside: &Beside<'_>,
+    beside: &Beside<'_, '_>,
 ) -> Result<Rest, AllocError>
     ensures { IfOk result (λ r. (notes : List Refusal)
         × TellsRefusals (variables_of dump) text.now origin.now.parts.now origin.now.added.now
@@ -103,7 +103,7 @@ fn notes_on(
     alloc: Global,
     dump: Dump,
     linted: &Linted,
-    beside: &Beside<'_>,
+    beside: &Beside<'_, '_>,
 ) -> Result<Vec<Refusal>, AllocError> {
     match &linted.rest {
         None => Ok(Vec::new(alloc)),
@@ -144,10 +144,10 @@ fn dump_of(alloc: Global, bytes: &[u8]) -> Result<Dump, VcdFault>
 /// What is told of a text over the dump that bytes are.
 fn told_over<'a>(
     alloc: Global,
-    bytes: &'a [u8],
+    bytes: &[u8],
     text: &'a str,
     origin: &Origin<'a>,
-    ports: &'a [PortSaid],
+    ports: &[PortSaid],
 ) -> Result<Rest, LintFault>
     ensures { IfOk result (λ r. (c : Contents) × (dump_of bytes.now ≡ Ok c)
         × (notes : List Refusal)
@@ -191,7 +191,7 @@ pub fn lint_one<'a, S: Source, W: Sink>(
     source: &mut S,
     text: &'a str,
     origin: &Origin<'a>,
-    ports: &'a [PortSaid],
+    ports: &[PortSaid],
     out: &mut W,
 ) -> Result<u64, LintFault>
     ensures { IfOk result (IsLinted text.now origin.now.parts.now origin.now.added.now

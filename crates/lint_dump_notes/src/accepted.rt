@@ -8,10 +8,10 @@ use std::alloc::AllocError;
 
 /// What notes are told from, beside a text and a dump.
 #[derive(Clone, Copy)]
-pub struct Beside<'a> {
+pub struct Beside<'b, 'p> {
     /// The bytes that the dump was read from.
-    pub bytes: &'a [u8],
-    pub ports: &'a [PortSaid],
+    pub bytes: &'b [u8],
+    pub ports: &'p [PortSaid],
 }
 
 /// A text that is accepted, and what it spells.

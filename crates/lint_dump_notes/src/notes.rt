@@ -29,7 +29,7 @@ fn notes_of(
     alloc: Global,
     dump: Dump,
     accepted: &Accepted<'_, '_>,
-    beside: &Beside<'_>,
+    beside: &Beside<'_, '_>,
     whole: bool,
 ) -> Result<Vec<Note>, AllocError>
     requires watched { AllByRecursion (IsWatched (variables_of dump))
@@ -56,7 +56,7 @@ fn notes_of_file<'a, 't>(
     text: &'a str,
     tokens: &'a [Token<'t>],
     file: &'a File<'t>,
-    beside: &Beside<'_>,
+    beside: &Beside<'_, '_>,
     whole: bool,
 ) -> Result<Vec<Note>, AllocError>
     requires { Spells text.now tokens.now (items_of file.now) }
@@ -83,7 +83,7 @@ fn notes_of_tokens(
     dump: Dump,
     text: &str,
     tokens: &[Token<'_>],
-    beside: &Beside<'_>,
+    beside: &Beside<'_, '_>,
     whole: bool,
 ) -> Result<Vec<Note>, AllocError>
     requires { tokens_of text.now ≡ Ok (map cut_of tokens.now) }
@@ -100,7 +100,7 @@ fn notes_over(
     alloc: Global,
     dump: Dump,
     text: &str,
-    beside: &Beside<'_>,
+    beside: &Beside<'_, '_>,
     whole: bool,
 ) -> Result<Vec<Note>, AllocError> {
     match lex(alloc, text) {
@@ -126,7 +126,7 @@ pub fn told_notes(
     alloc: Global,
     dump: Dump,
     text: &str,
-    beside: &Beside<'_>,
+    beside: &Beside<'_, '_>,
     whole: bool,
 ) -> Result<Vec<Refusal>, AllocError>
     ensures { IfOk result (λ told. IsNonDecreasingBy (λ r. r.at) told.items) }

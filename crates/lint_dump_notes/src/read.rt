@@ -101,7 +101,7 @@ pub(crate) fn push_read(
     notes: &mut Vec<Note>,
     dump: &Dump,
     accepted: &Accepted<'_, '_>,
-    beside: &Beside<'_>,
+    beside: &Beside<'_, '_>,
 ) -> Result<(), AllocError> {
     push_at_tokens(alloc, notes, dump, accepted, beside.bytes)?;
     push_of_ports(alloc, notes, dump, accepted, beside.ports)?;
