@@ -59,11 +59,13 @@ fn read_all<R: Files + AllocGlobal>(
 /// A path as it is told: a line feed as `\n`, so that it stands in one line.
 fn told_path(alloc: Global, path: &str) -> Result<String, AllocError> {
     let mut told = String::new(alloc);
-    let mut mark = "";
+    let mut is_first = true;
     for line in path.split('\n') {
-        told.push_str(mark)?;
+        if !is_first {
+            told.push_str("\\n")?;
+        }
         told.push_str(line)?;
-        mark = "\\n";
+        is_first = false;
     }
     Ok(told)
 }
