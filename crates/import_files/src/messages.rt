@@ -53,15 +53,28 @@ fn push_notes(
     Ok(())
 }
 
+/// What is told of a name that the dump has in a scope.
+fn scoped_message(
+    alloc: Global,
+    label: &str,
+    name: &str,
+    scope: &str,
+) -> Result<String, AllocError> {
+    Ok(format!(in alloc;
+        "refused {label} UnknownName: {name}; did you mean {scope}.{name}? give --scope {scope}"
+    )?)
+}
+
 /// What is told of a name that the dump lacks.
 fn unknown_message(alloc: Global, label: &str, missing: &Missing) -> Result<Message, AllocError> {
     let name = missing.name.as_str();
-    let text = match &missing.nearest {
-        Some(near) => {
+    let text = match (&missing.scope, &missing.nearest) {
+        (Some(scope), _) => scoped_message(alloc, label, name, scope.as_str())?,
+        (None, Some(near)) => {
             let near = near.as_str();
             format!(in alloc; "refused {label} UnknownName: {name}; did you mean {near}?")?
         }
-        None => format!(in alloc; "refused {label} UnknownName: the dump has no {name}")?,
+        (None, None) => format!(in alloc; "refused {label} UnknownName: the dump has no {name}")?,
     };
     Ok(Message {
         at: missing.at,

@@ -4,12 +4,30 @@ use crate::outcome::Missing;
 use crate::reading::Reading;
 use diagnostics::nearest;
 use import_elaboration::{Parts, Value};
-use import_expressions::{Terms, known_signal};
+use import_expressions::{known_signal, push_path};
 use std::alloc::{AllocError, Global};
 
 /// How many characters of a name may be wrong.
 fn most_edits(name: &str) -> u8 {
     if name.len() < 8 { 1 } else { 2 }
+}
+
+/// The first scope of a dump that has this name; none where a scope is given.
+fn scope_with(
+    alloc: Global,
+    reading: &Reading<'_>,
+    name: &str,
+) -> Result<Option<String>, AllocError> {
+    if reading.scope.is_some() || name.is_empty() {
+        return Ok(None);
+    }
+    for path in reading.names {
+        let front = path.as_str().strip_suffix(name).unwrap_or("");
+        if let Some(scope) = front.strip_suffix('.') {
+            return Ok(Some(String::from_str(alloc, scope)?));
+        }
+    }
+    Ok(None)
 }
 
 /// What is told of a name that the dump lacks.
@@ -31,7 +49,13 @@ fn missing_name(
         },
         None => None,
     };
-    Ok(Missing { name, nearest, at })
+    let scope = scope_with(alloc, reading, name.as_str())?;
+    Ok(Missing {
+        name,
+        nearest,
+        scope,
+        at,
+    })
 }
 
 /// The first signal of an opening that the dump lacks; none where no dump is given.
@@ -43,11 +67,10 @@ pub(crate) fn first_missing<'t>(
     if reading.widths.is_empty() {
         return Ok(None);
     }
-    let terms = Terms::new(alloc, parts, reading.scope, reading.widths);
     for node in parts.values.as_slice() {
         if let Value::Signal(path) = node.value {
             let mut text = Vec::new(alloc);
-            terms.push_path(&mut text, path)?;
+            push_path(&mut text, path, reading.scope)?;
             if known_signal(reading.widths, text.as_slice()).is_none() {
                 return Ok(Some(missing_name(alloc, reading, text.as_slice(), node.at)?));
             }

@@ -18,6 +18,8 @@ pub struct Missing {
     pub name: String,
     /// The nearest one that it has.
     pub nearest: Option<String>,
+    /// The first scope in which it has this very name, where no scope is given.
+    pub scope: Option<String>,
     /// The byte of the text at which it stands.
     pub at: usize,
 }
