@@ -35,6 +35,11 @@ pub one_option : (old new : Command) (o : Arg) (a : App) (r : Rule) → AddsArg 
     → o.global ≡ false → app_of new ≡ with_rule a r
 one_option old new o a r adds before is local = adds.shape local ∙ ap₂ with_rule before is
 
+-- a command of one more option that is tied to others
+pub one_tied : (old new a : App) (r s : Rule) → new ≡ with_rule old (tied r) → old ≡ a → r ≡ s
+    → new ≡ with_rule a (tied s)
+one_tied old new a r s adds before is = adds ∙ ap₂ with_rule before (ap tied is)
+
 -- a list with one more is not empty
 one_is_there : (xs : List (Bor Text)) (x : Bor Text) → is_empty (xs ++ x ∷ []) ≡ false
 one_is_there xs x =

@@ -1,8 +1,8 @@
 use Rattle.std.proofs.Common.{◌≡◌, ◌∙◌, ap, codes}
 use Rattle.std.proofs.lemmas.Result.{IfOk-weaker}
 use Rattle.clap.specs.Words.{App, Rule, new_app, with_rule}
-use Rattle.cli_words.specs.Words.{file_rule, option_rule, many_rule, bound_rule, tied}
-use Rattle.cli_words.proofs.CommandLaws.{one_option}
+use Rattle.cli_words.specs.Words.{file_rule, many_rule, tied}
+use Rattle.cli_words.proofs.CommandLaws.{one_option, one_tied}
 use Rattle.cli_words.proofs.command.scoped_text_command.Goals as goal
 
 pub dump_command-requires : goal.dump_command-requires
@@ -18,12 +18,6 @@ returns c =
     let files =
     c.in_ok-command-2.ensures sv c.sv_option.ensures.rule c.sv_option.ensures.local
     ∙ ap (λ (a : App). with_rule a sv) ports in
-    let scope =
-    c.in_ok-command-3.ensures
-    ∙ ap (λ (r : Rule). with_rule _ (tied r)) c.free_option.ensures.rule
-    ∙ ap (λ (a : App). with_rule a (tied (option_rule (codes "scope")))) files in
-    IfOk-weaker c.with_tied-2.result _ _
-    (λ r h.
-    h ∙ ap (λ (b : Rule). with_rule _ (tied b)) c.bound_option.ensures.rule
-    ∙ ap (λ (a : App). with_rule a (tied bound_rule)) scope)
+    let scope = one_tied _ _ _ _ _ c.in_ok-command-3.ensures files c.free_option.ensures.rule in
+    IfOk-weaker c.with_tied-2.result _ _ (λ r h. one_tied _ _ _ _ _ h scope c.bound_option.ensures.rule)
     c.with_tied-2.ensures
