@@ -3,7 +3,7 @@
 use crate::lowering::{Lowering, part_at};
 use crate::measure::length_of;
 use crate::nodes::{
-    Joint, boolean, boolean_of, delay, lead, repeat, throughout, together, waiting,
+    Joint, boolean, boolean_of, delay, lead, leaf_of, repeat, throughout, together, waiting,
 };
 use crate::now::Span;
 use crate::reason::{Hint, NotLowered, Reason, hinted, refused};
@@ -65,7 +65,7 @@ impl Lowering {
         self.now = start;
         let second = self.sequence(parts, second, is_last, depth - 1)?;
         self.meet(end, joint == Joint::And);
-        if let (Some(one), Some(other)) = (boolean_of(&first), boolean_of(&second)) {
+        if let (Some(one), Some(other)) = (leaf_of(&first), leaf_of(&second)) {
             let both = self.joined_truth(parts, joint, one, other, at)?;
             return Ok(boolean(self.alloc, both)?);
         }

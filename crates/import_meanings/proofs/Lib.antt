@@ -1,0 +1,4 @@
+pub mod TruthLaws
+pub mod LengthLaws
+pub mod PartLaws
+pub mod CaseLaws
