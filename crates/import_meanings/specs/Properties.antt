@@ -31,6 +31,7 @@ use Rattle.import_meanings.specs.Booleans.{IsBoolean}
 use Rattle.import_meanings.specs.Counts.{IsCount}
 use Rattle.import_meanings.specs.Lengths.{fewest_ticks}
 use Rattle.import_meanings.specs.Sequences.{IsSequence}
+use Rattle.import_meanings.specs.Halves.{AreHalves}
 
 -- the sequence of the kernel that is written so
 abbrev pub said : Written Condition → Seq Condition
@@ -131,6 +132,10 @@ mutual
     is_pair : {id p q : PartId} (pair : Pair) {f g : Form Condition} → IsPair o id pair p q
         → IsProperty o bound p f → IsProperty o bound q g
         → IsProperty o bound id (pair_of pair f g)
+    -- p and q, and p and q that are asked at each of some ticks, which is both of them asked there
+    is_both : {id p q : PartId} {f g : Form Condition} → AreHalves o id p q
+        → IsProperty o bound p f → IsProperty o bound q g
+        → IsProperty o bound id (both f g)
     -- b implies q (16.12.8) is b |-> q
     is_implies_after : {id p q : PartId} {b : Condition} {g : Form Condition}
         → IsPart o id (part.Implies p q) → IsBoolean o bound p b → IsProperty o bound q g

@@ -35,6 +35,13 @@ pub record FitsInside (r : Written Condition) (more : ℕ) (s : Written Conditio
   pub short : HasLength r inner
   pub long : HasLength s (inner + more)
 
+-- Where the shortest delay after r is written so, what follows begins after at least so many ticks.
+-- After no tick, ##0 never matches (16.9.2.1): there ##[0:n] is ##[1:n].
+pub data IsAfter (r : Written Condition) : ℕ → ℕ → Type 0 where
+  after_ticks : {least : ℕ} → HasOneLength r → IsAfter r least least
+  after_none : {least : ℕ} → HasLength r 0 → 1 ≤ least → IsAfter r least least
+  after_none_now : HasLength r 0 → IsAfter r 0 1
+
 -- b after at most so many ticks at which it is false: the first match of ##[0:more] b
 abbrev pub first_of : Condition → ℕ → Written Condition
 first_of b more = delay (repeat (boolean (negation b)) 0 more) 1 1 (boolean b)
@@ -121,16 +128,18 @@ pub data IsSequence (o : Parts) (bound : Option ℕ) : Bool → PartId → Writt
       → IsSequence o bound only id r
   is_first_only : {id p : PartId} {r : Written Condition} → IsPart o id (part.FirstMatch p)
       → 1 ≤ fewest_ticks r → IsSequence o bound true p r → IsSequence o bound true id r
-  -- first_match(##[m:n] b), first_match(r ##[m:n] b) for r of one length, first_match(b[*m:n])
+  -- first_match(##[m:n] b), first_match(r ##[m:n] b) for r of one length or none, and
+  -- first_match(b[*m:n])
   is_first_lead : {only : Bool} {id p q : PartId} {count : Count} {b : Condition} {least more : ℕ}
       → IsPart o id (part.FirstMatch p) → IsPart o p (part.Lead count q)
       → IsCount bound count least (least + more) → IsBoolean o bound q b
       → IsSequence o bound only id (lead least least (first_of b more))
   is_first_delay : {only : Bool} {id p q u : PartId} {count : Count} {b : Condition}
-      {r : Written Condition} {least more : ℕ}
+      {r : Written Condition} {start least more : ℕ}
       → IsPart o id (part.FirstMatch p) → IsPart o p (part.Delay u count q)
-      → IsCount bound count least (least + more) → IsSequence o bound false u r → HasOneLength r
-      → IsBoolean o bound q b → IsSequence o bound only id (delay r least least (first_of b more))
+      → IsCount bound count start (least + more) → IsAfter r start least
+      → IsSequence o bound false u r → IsBoolean o bound q b
+      → IsSequence o bound only id (delay r least least (first_of b more))
   is_first_repeat : {only : Bool} {id p q : PartId} {count : Count} {b : Condition}
       {least : ℕ}
       → IsPart o id (part.FirstMatch p) → IsPart o p (part.Repeat q count)

@@ -42,12 +42,12 @@ pub(crate) fn begins_at(bound: Option<u8>, count: Count, least: u8) -> bool
     }
 }
 
-/// Whether a count is from one number to so many more.
-pub(crate) fn is_from(bound: Option<u8>, count: Count, least: u8, more: u8) -> bool
-    ensures { IsTrue result → IsCount bound count least (least + more) }
+/// Whether a count is from one number to so many more than a second one.
+pub(crate) fn is_from(bound: Option<u8>, count: Count, start: u8, least: u8, more: u8) -> bool
+    ensures { IsTrue result → IsCount bound count start (least + more) }
 {
     match least.checked_add(more) {
-        Some(most) => has_count(bound, count, least, most),
+        Some(most) => has_count(bound, count, start, most),
         None => false,
     }
 }

@@ -25,20 +25,21 @@ pub(crate) fn waits(sequence: &Sequence) -> bool {
     }
 }
 
-/// Whether a count is from one number to so many more, and a part is a boolean.
+/// Whether a count is from one number to so many more than a second one, and a part is a boolean.
 pub(crate) fn is_waited(
     parts: &Parts<'_>,
     bound: Option<u8>,
     count: Count,
+    start: u8,
     least: u8,
     more: u8,
     id: PartId,
     condition: Condition,
 ) -> bool
-    ensures count { IsTrue result → IsCount bound count least (least + more) }
+    ensures count { IsTrue result → IsCount bound count start (least + more) }
     ensures boolean { IsTrue result → IsBoolean parts.now bound id condition }
 {
-    if !is_from(bound, count, least, more) {
+    if !is_from(bound, count, start, least, more) {
         return false;
     }
     is_boolean(parts, bound, id, condition, MOST_DEPTH)
@@ -66,7 +67,7 @@ fn is_first_lead(
                 if *least != *most {
                     return false;
                 }
-                is_waited(parts, bound, count, *least, more, found, condition)
+                is_waited(parts, bound, count, *least, *least, more, found, condition)
             }
             None => false,
         },

@@ -4,7 +4,7 @@ ghost use Rattle.std.specs.Prelude.{◌≡◌, ◌≤◌, ◌+◌, ◌-◌, IsTr
 ghost use Rattle.import_semantics.specs.Shapes.{written_form};
 ghost use Rattle.import_meanings.specs.Lengths.{fewest_ticks, most_ticks, delayed_ticks};
 ghost use Rattle.import_meanings.specs.Lengths.{apart, fused};
-ghost use Rattle.import_meanings.specs.Sequences.{HasLength, HasOneLength, FitsInside};
+ghost use Rattle.import_meanings.specs.Sequences.{HasLength, HasOneLength, IsAfter, FitsInside};
 
 use import_semantics::Sequence;
 
@@ -144,6 +144,35 @@ pub(crate) fn has_one_length(sequence: &Sequence) -> bool
         Some(length) => length > 0,
         None => false,
     }
+}
+
+/// Whether all matches are empty.
+fn is_empty(sequence: &Sequence) -> bool
+    ensures { IsTrue result → HasLength (written_form sequence.now) 0 }
+{
+    match length_of(sequence) {
+        Some(length) => length == 0,
+        None => false,
+    }
+}
+
+/// The shortest delay that is written where what follows a sequence begins after so many ticks.
+pub(crate) fn start_after(sequence: &Sequence, written: u32, least: u8) -> Option<u8>
+    ensures { IfSome result (λ start. IsAfter (written_form sequence.now) start least) }
+{
+    if has_one_length(sequence) {
+        return Some(least);
+    }
+    if !is_empty(sequence) {
+        return None;
+    }
+    if least == 0 {
+        return None;
+    }
+    if least == 1 && written == 0 {
+        return Some(0);
+    }
+    Some(least)
 }
 
 /// Whether each match takes a tick.

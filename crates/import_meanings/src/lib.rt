@@ -18,20 +18,27 @@
 //! `specs/Sequences.antt`; lengths in `specs/Lengths.antt`, of which `lengths_law` says that
 //! matches have them; properties in `specs/Properties.antt`; all of it in `specs/Meanings.antt`.
 //!
+//! A property may be split in two: `mean_together` says whether two properties are together what a
+//! part means. Which parts are halves of one is in `specs/Halves.antt`, and `halves_law` says that
+//! what is asked of both is asked of each.
+//!
 //! Not promised: that the answer is yes where a property is the part's meaning (forms may lie more
 //! than `MOST_DEPTH` deep, and local variables and `.triggered` are not followed); what a value is
 //! beside what its operator says.
 #![tactic(auto)]
 
+mod around;
 mod booleans;
 mod cases;
 mod counts;
 mod firsts;
 mod forms;
 mod found;
+mod halves;
 mod joint;
 mod laws;
 mod lengths;
+mod meanings;
 mod pairs;
 mod places;
 mod properties;
@@ -39,9 +46,10 @@ mod rest;
 mod sequences;
 mod truths;
 
+pub use around::Around;
 pub use booleans::MOST_DEPTH;
 pub use joint::Joint;
-pub use laws::lengths_law;
+pub use laws::{halves_law, lengths_law};
+pub use meanings::{is_meaning, mean_together};
 pub use pairs::Pair;
-pub use properties::is_meaning;
 pub use rest::Rest;

@@ -6,7 +6,6 @@ ghost use Rattle.import_semantics.specs.Properties.{form_of, implied, followed, 
 ghost use Rattle.import_semantics.specs.Properties.{sequence, negated, later, each_later};
 ghost use Rattle.import_semantics.specs.Properties.{some_later};
 ghost use Rattle.import_semantics.specs.Shapes.{shape};
-ghost use Rattle.import_meanings.specs.Meanings.{IsMeaning, is_local, has_locals};
 ghost use Rattle.import_meanings.specs.Properties.{IsProperty, IsRest, IsCase, pair_of, rest_of};
 
 use crate::booleans::{MOST_DEPTH, is_boolean};
@@ -19,7 +18,7 @@ use crate::places::part_at;
 use crate::rest::Rest;
 use crate::sequences::is_sequence;
 use crate::truths::is_truth;
-use import_elaboration::{ChoiceId, Count, Part, PartId, Parts, Value, ValueId, ValueNode};
+use import_elaboration::{ChoiceId, Count, Part, PartId, Parts, ValueId};
 use import_semantics::{Condition, Property, Sequence};
 
 /// From this tick on.
@@ -30,7 +29,7 @@ const ENDLESS: Count = Count {
 
 /// Whether a part is a property.
 #[cycle(properties)]
-fn is_property(
+pub(crate) fn is_property(
     parts: &Parts<'_>,
     bound: Option<u8>,
     id: PartId,
@@ -508,33 +507,11 @@ fn is_delayed(
     let Some((inner, more)) = moved_in(asked) else {
         return false;
     };
-    if !is_from(bound, count, least, more) {
+    if !is_from(bound, count, least, least, more) {
         return false;
     }
     if !takes_ticks(inner) {
         return false;
     }
     is_sequence(parts, bound, true, body, inner, MOST_DEPTH)
-}
-
-/// Whether a value is a local variable, or the end of a sequence.
-fn is_local(node: &ValueNode<'_>) -> bool
-    ensures { result ≡ is_local node.now.value }
-{
-    matches!(node.value, Value::Local(_) | Value::Triggered(_))
-}
-
-/// Whether a value of an opening is a local variable, or the end of a sequence.
-fn has_locals(parts: &Parts<'_>) -> bool
-    ensures { result ≡ has_locals parts.now }
-{
-    parts.values.iter().any(|node| is_local(node))
-}
-
-/// Whether a property is what a part of an opening means, where the bound stands for what is left
-/// open. Of local variables, and of what `.triggered` says, it isn't known, and the answer is yes.
-pub fn is_meaning(parts: &Parts<'_>, bound: Option<u8>, body: PartId, property: &Property) -> bool
-    ensures { IsTrue result → IsMeaning parts.now bound body (form_of property.now) }
-{
-    has_locals(parts) || is_property(parts, bound, body, property, MOST_DEPTH)
 }

@@ -9,7 +9,7 @@ use crate::counts::has_count;
 use crate::firsts::{is_first_form, is_waited, waits};
 use crate::forms::{anywhere_in, boolean_of, first_in, goto_in, moved_in, nonconsecutive_in};
 use crate::found::is_found;
-use crate::lengths::{fits, has_one_length, is_within, takes_ticks};
+use crate::lengths::{fits, has_one_length, is_within, start_after, takes_ticks};
 use crate::places::part_at;
 use crate::truths::is_truth;
 use import_elaboration::{Part, PartId, Parts};
@@ -296,10 +296,10 @@ fn is_first_delay(
                 if *least != *most {
                     return false;
                 }
-                if !is_waited(parts, bound, count, *least, more, second, condition) {
+                let Some(start) = start_after(left, count.least, *least) else {
                     return false;
-                }
-                if !has_one_length(left) {
+                };
+                if !is_waited(parts, bound, count, start, *least, more, second, condition) {
                     return false;
                 }
                 is_sequence(parts, bound, false, first, left, depth - 1)

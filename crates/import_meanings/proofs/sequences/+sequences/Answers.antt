@@ -51,8 +51,8 @@ is_first-returns t c =
     (part.FirstMatch c.in-Some-FirstMatch.body) c.in-Some-FirstMatch.ensures at-is in
     is_first at (c.is_sequence-2.ensures yes) (c.has_one_length.ensures (search rules))
 
-pub is_first_delay-returns-else-not-has_one_length : goal.is_first_delay-returns-else-not-has_one_length
-is_first_delay-returns-else-not-has_one_length t c =
+pub is_first_delay-returns-else-not-is_waited : goal.is_first_delay-returns-else-not-is_waited
+is_first_delay-returns-else-not-is_waited t c =
     λ yes.
     let at-is : c.in-Some-FirstMatch.field-0 ≡ part.FirstMatch c.in-Some-FirstMatch.body = search rules in
     let at = part_as c.args.parts.now c.args.id c.in-Some-FirstMatch.field-0
@@ -66,10 +66,10 @@ is_first_delay-returns-else-not-has_one_length t c =
     let same : k.most ≡ k.least = search rules in
     let last : written_form k.right.value ≡ first_of c.in-Some.condition c.in-Some.more =
     rw c.deref.ensures at c.in-Some.ensures in
-    let one_length = rw c.deref-in-Some.ensures at (c.has_one_length.ensures (search rules)) in
+    let after = rw c.deref-in-Some.ensures at c.in-Some-start_after.ensures in
     let left = rw c.deref-in-Some-2.ensures at (c.is_sequence.ensures yes) in
     rw (k.is, same, last)
-    (is_first_delay at inside (c.is_waited.ensures.count (search rules)) left one_length
+    (is_first_delay at inside (c.is_waited.ensures.count (search rules)) after left
     (c.is_waited.ensures.boolean (search rules)))
 
 pub is_held-returns-then-has_count : goal.is_held-returns-then-has_count
