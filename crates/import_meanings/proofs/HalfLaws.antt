@@ -23,7 +23,7 @@ later-both (suc k) p q leaves n good c = later-both k p q leaves n good (c + 1)
 
 pub each_later-both : (first more : ℕ) (p q : Form Condition)
     → ComesToSame (each_later first more (both p q)) (both (each_later first more p) (each_later first more q))
-each_later-both first zero p q = later-both first p q
+each_later-both first zero p q leaves n o c = later-both first p q leaves n o c
 each_later-both first (suc more) p q leaves n failed c =
     let here = later-both first p q leaves n failed c in
     let rest = each_later-both (first + 1) more p q leaves n failed c in (

@@ -1,11 +1,19 @@
 //! Two parts that say together what one says.
 
-ghost use Rattle.std.specs.Prelude.{IsTrue};
+ghost use Rattle.std.specs.Prelude.{◌≡◌, IsTrue};
 ghost use Rattle.import_meanings.specs.Halves.{AreHalves};
 
-use crate::around::around_at;
+use crate::around::{Around, around_at};
 use crate::places::part_at;
 use import_elaboration::{Part, PartId, Parts};
+
+/// Whether two properties are asked at the ticks of a third one.
+fn are_alike(one: Around, other: Around, around: Around) -> bool
+    ensures first { IsTrue result → one ≡ around }
+    ensures second { IsTrue result → other ≡ around }
+{
+    one == around && other == around
+}
 
 /// Whether two parts say together what one says, so many steps deep.
 pub(crate) fn are_halves(
@@ -32,10 +40,7 @@ pub(crate) fn are_halves(
     let Some((other, right)) = around_at(parts, second) else {
         return false;
     };
-    if one != around {
-        return false;
-    }
-    if other != around {
+    if !are_alike(one, other, around) {
         return false;
     }
     are_halves(parts, body, left, right, depth - 1)
