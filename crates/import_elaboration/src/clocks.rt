@@ -1,6 +1,6 @@
 //! Clocks of assertions (IEEE 1800-2017, 14.12, 16.13 and 16.15).
 
-use crate::environment::{EnvironmentId, declaration_at, declaration_of};
+use crate::environment::{EnvironmentId, declaration_at};
 use crate::meaning::Meaning;
 use crate::opener::{Opener, placed, refused};
 use crate::refused::Refused;
@@ -103,7 +103,7 @@ impl<'f, 't> Opener<'f, 't> {
         };
         match clock {
             DefaultClock::Event(tokens) => self.event_path(tokens, at),
-            DefaultClock::Block(name) => match declaration_of(self.file, owner, name) {
+            DefaultClock::Block(name) => match self.file.declaration_of(owner, name) {
                 Some(id) => self.block_path(id, at),
                 None => Err(refused(Refusal::ClockForm, at)),
             },

@@ -37,24 +37,6 @@ pub(crate) fn environment_in<'t>(scope: ScopeId, locals: &'t [Token<'t>]) -> Env
     }
 }
 
-/// The declaration of a name in a scope, or in one round it.
-pub(crate) fn declaration_of<'f, 't>(
-    file: &'f File<'t>,
-    scope: ScopeId,
-    name: &[u8],
-) -> Option<DeclarationId> {
-    let mut at = scope;
-    for _ in 0..file.scopes.len() {
-        for (place, declaration) in file.declarations.iter().enumerate() {
-            if declaration.scope == at && declaration.name == name {
-                return Some(DeclarationId(place));
-            }
-        }
-        at = file.scopes.get(at.0)?.around?;
-    }
-    None
-}
-
 /// A declaration by its place.
 pub(crate) fn declaration_at<'t>(file: &File<'t>, id: DeclarationId) -> Option<Declaration<'t>> {
     match file.declarations.get(id.0) {

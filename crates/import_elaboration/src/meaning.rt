@@ -1,7 +1,7 @@
 //! What a name means where it stands.
 
 use crate::arguments::{actual_of, formal_at, formal_place, local_place};
-use crate::environment::{EnvironmentId, declaration_of};
+use crate::environment::EnvironmentId;
 use crate::opener::Opener;
 use import_scopes::DeclarationId;
 use import_tokens::Token;
@@ -39,7 +39,7 @@ impl<'f, 't> Opener<'f, 't> {
         if let Some(place) = formal_place(here.formals, name) {
             return self.actual(place, name, environment);
         }
-        match declaration_of(self.file, here.scope, name) {
+        match self.file.declaration_of(here.scope, name) {
             Some(declaration) => Meaning::Declared(declaration),
             None => Meaning::Signal,
         }

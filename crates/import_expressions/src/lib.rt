@@ -43,7 +43,7 @@ mod term;
 mod terms;
 
 pub use known::{Known, known_signal};
-pub use paths::is_free_word;
+pub use paths::{is_free_word, push_path};
 pub use reason::Reason;
 pub use refused::Refused;
 pub use term::{Gate, Term, TermId, TermList, is_associative, looseness};

@@ -74,12 +74,9 @@ pub(crate) fn check_path(path: Path, scope: Option<&[u8]>) -> Result<(), Reason>
     Err(Reason::Known(Refusal::NoWord))
 }
 
-/// Adds a path.
-pub(crate) fn push_path(
-    out: &mut Vec<u8>,
-    path: Path,
-    scope: Option<&[u8]>,
-) -> Result<(), AllocError> {
+/// Adds a path; a scope, where one is given, stands before a path whose first word isn't the
+/// scope's first.
+pub fn push_path(out: &mut Vec<u8>, path: Path, scope: Option<&[u8]>) -> Result<(), AllocError> {
     if let Some(scope) = scope_before(path, scope) {
         out.extend_from_slice(scope)?;
         out.extend_from_slice(b".")?;

@@ -62,7 +62,13 @@ impl Reason {
     /// What users may write in its place.
     pub fn hint(self) -> &'static str {
         match self {
-            Reason::Known(refusal) => hint_of(refusal),
+            Reason::Known(Refusal::BadBound) => {
+                "a count from 1 on has to stand there, 128 at most"
+            }
+            Reason::Known(Refusal::SecondClock) => {
+                "leave the clocking event out: it is that of the assertion"
+            }
+            Reason::Known(refusal) => refusal.hint(),
             Reason::Unknown => "x and z are read as 0 here: leave the test out",
             Reason::Signed => "all values are unsigned here: compare with unsigned numbers",
             Reason::SliceRange => {
@@ -84,25 +90,6 @@ impl Reason {
             Reason::PartDown => "-: needs a constant index: write [start - width + 1 +: width]",
             Reason::LocalVariable => "read where its age is no one number: use $past or a counter",
         }
-    }
-}
-
-/// What users may write in place of what trees refuse, too.
-fn hint_of(refusal: Refusal) -> &'static str {
-    match refusal {
-        Refusal::UnknownDigits => "x and z are read as 0 here: write digits, or use ==?",
-        Refusal::Real => "no reals: write whole numbers",
-        Refusal::Quoted => "no strings: write numbers",
-        Refusal::NoWord => "no rule can spell this name: give it a wire with a plain name",
-        Refusal::WiderThan128 => "over 128 bits: compare it in parts",
-        Refusal::TooHeavy => "too long, or too deep in brackets: split the assertion",
-        Refusal::NotConstant => "a constant has to stand there",
-        Refusal::BadBound => "a count from 1 on has to stand there, 128 at most",
-        Refusal::SecondClock => "leave the clocking event out: it is that of the assertion",
-        Refusal::Arguments => "it has another number of arguments",
-        Refusal::Function => "no functions: write their bodies, or give them a wire",
-        Refusal::Memory => "memory ran out",
-        _ => "no rule can say this: give it a wire of the design or of a checker",
     }
 }
 

@@ -16,7 +16,7 @@ use crate::reading::Reading;
 use crate::stop::{Stop, not_checked, not_rewritten};
 use crate::vacuity::{joins_booleans, keeps_vacuity};
 use import_elaboration::{Opened, Opener, PartId, Parts};
-use import_expressions::Terms;
+use import_expressions::push_path;
 use import_lowering::{Lowered, property_of};
 use import_meanings::{is_meaning, mean_together};
 use import_readback::says_rewriting;
@@ -89,12 +89,10 @@ impl<'f, 't, 'w> Importer<'f, 't, 'w> {
         })
     }
 
-    /// The path of the clock of what was opened.
-    fn clock_path(&self, parts: &Parts<'t>, clock: Path<'t>) -> Result<Vec<u8>, AllocError> {
-        let Reading { scope, widths, .. } = self.reading;
-        let terms = Terms::new(self.alloc, parts, scope, widths);
+    /// The whole path of a clock.
+    fn clock_path(&self, clock: Path<'t>) -> Result<Vec<u8>, AllocError> {
         let mut path = Vec::new(self.alloc);
-        terms.push_path(&mut path, clock)?;
+        push_path(&mut path, clock, self.reading.scope)?;
         Ok(path)
     }
 
@@ -311,7 +309,7 @@ impl<'f, 't, 'w> Importer<'f, 't, 'w> {
     {
         let mut opener = Opener::new(self.alloc, self.file);
         let opened = opener.open(assertion)?;
-        let clock = self.clock_path(opener.parts(), opened.clock)?;
+        let clock = self.clock_path(opened.clock)?;
         if !self.counts(clock.as_slice())? {
             let clock = text_of(self.alloc, clock.as_slice())?;
             return Ok(unwritten(Fate::OtherClock(clock)));

@@ -4,7 +4,7 @@ use crate::outcome::Missing;
 use crate::reading::Reading;
 use diagnostics::nearest;
 use import_elaboration::{Parts, Value};
-use import_expressions::{Terms, known_signal};
+use import_expressions::{known_signal, push_path};
 use std::alloc::{AllocError, Global};
 
 /// How many characters of a name may be wrong.
@@ -43,11 +43,10 @@ pub(crate) fn first_missing<'t>(
     if reading.widths.is_empty() {
         return Ok(None);
     }
-    let terms = Terms::new(alloc, parts, reading.scope, reading.widths);
     for node in parts.values.as_slice() {
         if let Value::Signal(path) = node.value {
             let mut text = Vec::new(alloc);
-            terms.push_path(&mut text, path)?;
+            push_path(&mut text, path, reading.scope)?;
             if known_signal(reading.widths, text.as_slice()).is_none() {
                 return Ok(Some(missing_name(alloc, reading, text.as_slice(), node.at)?));
             }

@@ -6,7 +6,6 @@ ghost use Rattle.import_files.specs.Written.{FateSays};
 
 use crate::fault::ImportFault;
 use crate::heads::{byte_of, called, label_before};
-use crate::hints::hint_of;
 use crate::importer::{Importer, Told, unwritten};
 use crate::labels::Labels;
 use crate::outcome::{Cause, Fate, Imported, Outcome, Remark};
@@ -52,7 +51,7 @@ fn told_of<'t>(
         Status::Covers => Fate::Left,
         Status::Refused(refusal) => Fate::Refused(Cause {
             code: refusal.code(),
-            hint: hint_of(refusal),
+            hint: refusal.hint(),
             at,
         }),
     };

@@ -3,7 +3,7 @@
 ghost use Rattle.std.specs.Prelude.{◌≡◌};
 ghost use Rattle.import_files.specs.declared.stop.Stop.TheVariants.{Memory};
 
-use crate::hints::{hint_of, lowering_hint, rewriting_hint};
+use crate::hints::{lowering_hint, rewriting_hint};
 use crate::outcome::Cause;
 use import_elaboration::Refused;
 use import_lowering::NotLowered;
@@ -49,7 +49,7 @@ impl From<Refused> for Stop {
             import_trees::Refusal::Memory => Stop::Memory,
             refusal => Stop::Refused(Cause {
                 code: refusal.code(),
-                hint: hint_of(refusal),
+                hint: refusal.hint(),
                 at: refused.at,
             }),
         }

@@ -3,8 +3,9 @@
 ghost use Rattle.std.specs.Prelude.{◌≡◌, IfOk, length, vec_len};
 ghost use Rattle.import_scopes.specs.Words.{word_places};
 
-use crate::declaration::Declaration;
-use crate::scope::Scope;
+use crate::declaration::{Declaration, DeclarationId};
+use crate::names::Names;
+use crate::scope::{Scope, ScopeId};
 use crate::status::{Assertion, Mark, Note, Status};
 use crate::walker::{Found, Walker};
 use crate::words::words_of;
@@ -23,6 +24,7 @@ pub struct File<'t> {
     pub declarations: Vec<Declaration<'t>>,
     pub assertions: Vec<Assertion<'t>>,
     pub notes: Vec<Note<'t>>,
+    names: Names,
 }
 
 /// What becomes of the assertion whose word stands at a place: one that no item takes up stands in
@@ -65,6 +67,7 @@ impl<'t> File<'t> {
             marks,
         } = walker.into_found();
         let statuses = statuses_of(alloc, words.as_slice(), marks.as_slice())?;
+        let names = Names::of(alloc, declarations.as_slice())?;
         Ok(File {
             words,
             statuses,
@@ -72,6 +75,22 @@ impl<'t> File<'t> {
             declarations,
             assertions,
             notes,
+            names,
         })
+    }
+
+    /// The declaration of a name that a scope sees: in it, or else in one round it.
+    pub fn declaration_of(&self, scope: ScopeId, name: &[u8]) -> Option<DeclarationId> {
+        let Ok(name) = str::from_utf8(name) else {
+            return None;
+        };
+        let mut at = scope;
+        for _ in 0..self.scopes.len() {
+            if let Some(id) = self.names.place_in(self.declarations.as_slice(), at, name) {
+                return Some(id);
+            }
+            at = self.scopes.get(at.0)?.around?;
+        }
+        None
     }
 }

@@ -24,6 +24,7 @@
 
 mod declaration;
 mod file;
+mod names;
 mod passing;
 mod scope;
 mod status;

@@ -117,11 +117,23 @@ impl<'t> Walker<'t> {
                 self.at = self.at.saturating_add(1);
                 Ok(())
             }
+            _ if self.labels_macro() => {
+                self.at = self.at.saturating_add(2);
+                self.macro_item()
+            }
             _ => {
                 self.at = past_item(self.tokens, self.at);
                 Ok(())
             }
         }
+    }
+
+    /// Whether a label stands there before the use of a macro that stays as it is.
+    fn labels_macro(&self) -> bool {
+        let sign = self.at.saturating_add(1);
+        self.is_name(self.at)
+            && is_symbol(self.tokens, sign, Symbol::Colon)
+            && matches!(kind_at(self.tokens, sign.saturating_add(1)), Kind::Macro(_))
     }
 
     /// An item that a keyword begins.

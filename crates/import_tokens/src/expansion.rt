@@ -17,7 +17,7 @@ use std::alloc::{AllocError, Global};
 pub const MOST_NESTED: usize = 24;
 
 /// How many bytes the macros of one text may make on the way to their last text.
-pub const MOST_MADE: usize = 16_777_216;
+pub const MOST_MADE: usize = 4_194_304;
 
 /// What macros make: the text, how much was made on the way to it, and why the use stays as it is,
 /// if it does.

@@ -32,6 +32,7 @@ mod expressions;
 mod fault;
 mod form;
 mod forms;
+mod hints;
 mod joining;
 mod joints;
 mod names;

@@ -1,5 +1,6 @@
 //! Why an item of a file is refused.
 
+use crate::hints::hint_of;
 use import_tokens::{Keyword, MacroFault, Symbol};
 
 /// What was looked for where a text goes wrong.
@@ -92,5 +93,10 @@ impl Refusal {
             Refusal::Function => "Function",
             Refusal::Memory => "OutOfMemory",
         }
+    }
+
+    /// What users may do about it.
+    pub fn hint(self) -> &'static str {
+        hint_of(self)
     }
 }

@@ -91,6 +91,20 @@ fn one_that_is_light_stays_one(rt: HostRuntime) -> Result<(), Fail> {
 }
 
 #[test]
+fn a_label_before_an_unknown_macro(rt: HostRuntime) -> Result<(), Fail> {
+    let text = "r: `ASSERT(x);\ns: assert property (@(posedge c) a);\n";
+    let found = said(rt.alloc(), text, false)?;
+    assert!(rt;
+        found
+            .told
+            .as_str()
+            .starts_with("f:1:4: note `ASSERT UnknownMacro: ")
+    );
+    assert!(rt; found.text.as_str() == "s: assert property (@(posedge c) a);\n");
+    Ok(())
+}
+
+#[test]
 fn booleans_that_imply_are_noted(rt: HostRuntime) -> Result<(), Fail> {
     let text = "r: assert property (@(posedge c) a implies b);\n";
     let found = said(rt.alloc(), text, false)?;

@@ -1,0 +1,89 @@
+//! What may be done about refusals.
+
+use crate::refusal::{Expected, Refusal};
+use import_tokens::{Keyword, MacroFault, Symbol};
+
+/// What was looked for, of symbols.
+fn symbol_hint(symbol: Symbol) -> &'static str {
+    match symbol {
+        Symbol::OpenRound => "`(` is wanted there",
+        Symbol::CloseRound => "`)` is wanted there",
+        Symbol::CloseSquare => "`]` is wanted there",
+        Symbol::OpenBrace => "`{` is wanted there",
+        Symbol::CloseBrace => "`}` is wanted there",
+        Symbol::Semicolon => "`;` is wanted there",
+        Symbol::Colon => "`:` is wanted there",
+        Symbol::Comma => "`,` is wanted there",
+        _ => "another sign is wanted there",
+    }
+}
+
+/// What was looked for.
+fn expected_hint(expected: Expected) -> &'static str {
+    match expected {
+        Expected::Expression => "an expression is wanted there",
+        Expected::Sequence => "a sequence is wanted there",
+        Expected::Name => "a name is wanted there",
+        Expected::Delay => "a number of clocks is wanted there",
+        Expected::End => "the end is wanted there: a bracket or an operator may be missing",
+        Expected::Symbol(symbol) => symbol_hint(symbol),
+        Expected::Keyword(Keyword::EndCase) => "`endcase` is wanted there",
+        Expected::Keyword(_) => "another keyword is wanted there",
+    }
+}
+
+/// What may be done where a macro's use stays as it is.
+fn macro_hint(fault: MacroFault) -> &'static str {
+    match fault {
+        MacroFault::Unknown => "no file before it defines this macro: give --define, or its file",
+        MacroFault::Arguments => "the macro has another number of arguments",
+        MacroFault::TooDeep => "the macros use one another too deep",
+        MacroFault::TooLong => "the macros make too long a text",
+    }
+}
+
+/// What may be done about what an assertion's clock is.
+fn clock_hint(refusal: Refusal) -> &'static str {
+    match refusal {
+        Refusal::NoClock => "no clock: write @(posedge clk), or default clocking",
+        Refusal::SecondClock => "a second clock in one assertion: make it two, one for each clock",
+        Refusal::ClockEdge => "one rising edge alone: write posedge",
+        Refusal::ClockIff => "no gate on the clock: put it into the antecedent",
+        _ => "the clock has to be a path after posedge",
+    }
+}
+
+/// What may be done about names and what they stand for.
+fn name_hint(refusal: Refusal) -> &'static str {
+    match refusal {
+        Refusal::NoWord => "no rule can spell this name: give it a wire with a plain name",
+        Refusal::NotConstant => "a constant has to stand there",
+        Refusal::BadBound => "bounds go from the lower to the upper, 127 at most",
+        Refusal::Recursive => "it reaches itself: write it out",
+        Refusal::Arguments => "it has another number of arguments",
+        Refusal::UnknownLocal => "no local variable of this name is declared",
+        Refusal::Function => "no functions: write their bodies, or give them a wire",
+        _ => "no rule can say this: give it a wire of the design or of a checker",
+    }
+}
+
+/// What may be done about a refusal.
+pub(crate) fn hint_of(refusal: Refusal) -> &'static str {
+    match refusal {
+        Refusal::Expected(expected) => expected_hint(expected),
+        Refusal::UnknownMacro(fault) => macro_hint(fault),
+        Refusal::NoClock
+        | Refusal::SecondClock
+        | Refusal::ClockEdge
+        | Refusal::ClockIff
+        | Refusal::ClockForm => clock_hint(refusal),
+        Refusal::UnknownDigits => "x and z are read as 0 here: write digits, or use ==?",
+        Refusal::Real => "no reals: write whole numbers",
+        Refusal::Quoted => "no strings: write numbers",
+        Refusal::WiderThan128 => "over 128 bits: compare it in parts",
+        Refusal::TooHeavy => "too long, or too deep in brackets: split the assertion",
+        Refusal::Immediate => "write assert property (@(posedge clk) ..) outside of procedures",
+        Refusal::Generate => "write it out: the bounds of this block aren't constants of the file",
+        _ => name_hint(refusal),
+    }
+}
