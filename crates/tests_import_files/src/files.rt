@@ -9,7 +9,7 @@ use std::test::Fail;
 
 /// What is written of a file, what is told, and the status.
 #[derive(Drop)]
-struct Said {
+struct Answer {
     text: String,
     told: String,
     status: u8,
@@ -43,10 +43,10 @@ fn told_of(alloc: Global, text: &str, all: &Imported) -> Result<String, AllocErr
     messages_of(alloc, parts.as_slice(), Some(100), all)
 }
 
-fn said(alloc: Global, text: &str, split: bool) -> Result<Said, ImportFault> {
+fn said(alloc: Global, text: &str, split: bool) -> Result<Answer, ImportFault> {
     let all = import(alloc, text, split)?;
     let written = text_of(alloc, &all)?;
-    Ok(Said {
+    Ok(Answer {
         text: text_in(alloc, written.as_slice())?,
         told: told_of(alloc, text, &all)?,
         status: status_of(&all),
@@ -78,7 +78,12 @@ fn halves_stand_after_all_antecedents(rt: HostRuntime) -> Result<(), Fail> {
         (f |-> (##[1:50] b) and ##[1:50] d));\n";
     let halves = said(rt.alloc(), text, true)?;
     assert!(rt; halves.status == 0);
-    assert!(rt; halves.told.as_str() == "f:1:1: note r Renamed: r__1 and r__2\n");
+    assert!(rt;
+        halves
+            .told
+            .as_str()
+            .contains("f:1:1: note r Renamed: r__1 and r__2\n")
+    );
     Ok(())
 }
 
