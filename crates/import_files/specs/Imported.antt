@@ -11,12 +11,12 @@ use Rattle.import_files.specs.declared.outcome.Fate.{Fate}
 use Rattle.import_files.specs.declared.outcome.Fate.TheVariants as fates
 use Rattle.import_files.specs.Written.{FateSays}
 
--- what is written of an assertion says a property, under the name that its outcome tells
+-- what is written of an assertion says what was opened, under the name that its outcome tells
 abbrev pub OutcomeSays : Option ℕ → Outcome → Type 0
 OutcomeSays bound outcome = FateSays bound (string_bytes outcome.name) outcome.fate
 
 -- Each token of the text that begins an assertion has one outcome, in their order; and each that is
--- written says a property.
+-- written says what was opened.
 pub record AreOfAll (text : List ℕ) (bound : Option ℕ) (outcomes : List Outcome) : Type 0 where
   pub tokens : List Token
   pub read : Reads text 0 tokens

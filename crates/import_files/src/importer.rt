@@ -1,20 +1,24 @@
 //! One assertion after another.
 
-ghost use Rattle.std.specs.Prelude.{◌≡◌, IfOk, IfSome, is_some};
+ghost use Rattle.std.specs.Prelude.{◌≡◌, IfOk, IfSome, is_some, unwrap_or, string_bytes};
+ghost use Rattle.import_semantics.specs.Properties.{form_of, both};
 ghost use Rattle.import_semantics.specs.Shapes.{written_form};
+ghost use Rattle.import_meanings.specs.Meanings.{IsMeaning};
+ghost use Rattle.import_rewriting.specs.Rewriting.{IsRewriting};
 ghost use Rattle.import_readback.specs.Texts.{SaysRewriting};
-ghost use Rattle.import_files.specs.Written.{IsOfProperty, FateSays, HalfSays, SaysProperty};
+ghost use Rattle.import_files.specs.Written.{FateSays, SaysProperty};
 
 use crate::halves::halves_of;
 use crate::labels::Labels;
 use crate::names::first_missing;
 use crate::outcome::{Cause, Fate, Half, Marks};
 use crate::reading::Reading;
-use crate::stop::{Stop, not_rewritten};
+use crate::stop::{Stop, not_checked, not_rewritten};
 use crate::vacuity::{joins_booleans, keeps_vacuity};
 use import_elaboration::{Opened, Opener, PartId, Parts};
 use import_expressions::push_path;
-use import_lowering::property_of;
+use import_lowering::{Lowered, property_of};
+use import_meanings::{is_meaning, mean_together};
 use import_readback::says_rewriting;
 use import_rewriting::{Rewriting, rewritten};
 use import_scopes::{Assertion, File};
@@ -105,18 +109,52 @@ impl<'f, 't, 'w> Importer<'f, 't, 'w> {
         }
     }
 
-    /// The rewriting of what was opened, and what is told of that.
-    fn rewriting(
-        &self,
-        parts: &mut Parts<'t>,
-        opened: &Opened<'t>,
-    ) -> Result<(Rewriting, Marks), Stop>
-        ensures { IfOk result (λ r. IsOfProperty self.now.reading.bound
-            (written_form r.0.antecedent.value) (written_form r.0.consequent.value)) }
+    /// The property that was opened, where it is shown to be what that means.
+    fn meant(&self, parts: &mut Parts<'t>, opened: &Opened<'t>) -> Result<Lowered, Stop>
+        ensures { IfOk result (λ lowered. IsMeaning parts.new self.now.reading.bound
+            opened.now.body (form_of lowered.property)) }
     {
         let bound = self.reading.bound;
         let lowered = property_of(self.alloc, parts, opened.body, bound)?;
-        let rewriting = match rewritten(self.alloc, bound.unwrap_or(127), &lowered.property) {
+        if !is_meaning(parts, bound, opened.body, &lowered.property) {
+            return Err(not_checked(opened.at));
+        }
+        Ok(lowered)
+    }
+
+    /// The properties of two halves, where both are shown to be together what was opened means.
+    fn both_meant(
+        &self,
+        parts: &mut Parts<'t>,
+        opened: &Opened<'t>,
+        halves: (PartId, PartId),
+    ) -> Result<(Lowered, Lowered), Stop>
+        ensures { IfOk result (λ r. IsMeaning parts.new self.now.reading.bound
+            opened.now.body (both (form_of r.0.property) (form_of r.1.property))) }
+    {
+        let bound = self.reading.bound;
+        let one = property_of(self.alloc, parts, halves.0, bound)?;
+        let other = property_of(self.alloc, parts, halves.1, bound)?;
+        let (first, second) = (&one.property, &other.property);
+        if !mean_together(parts, bound, opened.body, halves, first, second) {
+            return Err(not_checked(opened.at));
+        }
+        Ok((one, other))
+    }
+
+    /// The rewriting of a property that was opened, and what is told of that.
+    fn rewriting(
+        &self,
+        parts: &Parts<'t>,
+        opened: &Opened<'t>,
+        lowered: &Lowered,
+    ) -> Result<(Rewriting, Marks), Stop>
+        ensures { IfOk result (λ r. IsRewriting (unwrap_or self.now.reading.bound 127)
+            lowered.now.property
+            (written_form r.0.antecedent.value) (written_form r.0.consequent.value)) }
+    {
+        let bound = self.reading.bound.unwrap_or(127);
+        let rewriting = match rewritten(self.alloc, bound, &lowered.property) {
             Ok(rewriting) => rewriting,
             Err(refusal) => return Err(not_rewritten(refusal, opened.at)),
         };
@@ -160,37 +198,48 @@ impl<'f, 't, 'w> Importer<'f, 't, 'w> {
         }))
     }
 
-    /// The text of what was opened, and what is told of it.
+    /// The text of a property that was opened, and what is told of it.
     fn spelled(
         &self,
-        opener: &mut Opener<'f, 't>,
+        parts: &Parts<'t>,
         opened: &Opened<'t>,
+        lowered: &Lowered,
         name: &str,
     ) -> Result<(Vec<u8>, Marks), Stop>
-        ensures { IfOk result (λ r.
-            SaysProperty self.now.reading.bound name.now r.0.items) }
+        ensures { IfOk result (λ r. SaysProperty self.now.reading.bound lowered.now.property
+            (is_some opened.now.disable) name.now r.0.items) }
     {
-        let (rewriting, marks) = self.rewriting(&mut opener.made, opened)?;
+        let (rewriting, marks) = self.rewriting(parts, opened, lowered)?;
         let Reading { scope, widths, .. } = self.reading;
-        let mut spelling = Spelling::new(self.alloc, opener.parts(), scope, widths);
+        let mut spelling = Spelling::new(self.alloc, parts, scope, widths);
         let spelled = spelling.assertion(name.as_bytes(), opened, &rewriting)?;
         let text = self.read_back(spelled, name, &rewriting, opened)?;
         Ok((text, marks))
     }
 
-    /// The text of what was opened, where another property stands in its place, under a name that
-    /// ends so.
+    /// What was opened as one assertion.
+    fn whole(&self, parts: &mut Parts<'t>, opened: &Opened<'t>, name: &str) -> Result<Told, Stop>
+        ensures { IfOk result (λ told.
+            FateSays self.now.reading.bound name.now told.fate) }
+    {
+        let lowered = self.meant(parts, opened)?;
+        let (text, marks) = self.spelled(parts, opened, &lowered, name)?;
+        let fate = Fate::Written(text);
+        Ok(Told { fate, marks })
+    }
+
+    /// The assertion of one half, under a name of its own.
     fn half(
         &self,
-        opener: &mut Opener<'f, 't>,
-        mut opened: Opened<'t>,
-        body: PartId,
+        parts: &Parts<'t>,
+        opened: &Opened<'t>,
+        lowered: &Lowered,
         name: String,
     ) -> Result<(Half, Marks), Stop>
-        ensures { IfOk result (λ r. HalfSays self.now.reading.bound r.0) }
+        ensures { IfOk result (λ r. SaysProperty self.now.reading.bound lowered.now.property
+            (is_some opened.now.disable) (string_bytes r.0.name) r.0.text.items) }
     {
-        opened.body = body;
-        let (text, marks) = self.spelled(opener, &opened, name.as_str())?;
+        let (text, marks) = self.spelled(parts, opened, lowered, name.as_str())?;
         Ok((Half { name, text }, marks))
     }
 
@@ -198,7 +247,7 @@ impl<'f, 't, 'w> Importer<'f, 't, 'w> {
     /// has no two halves.
     fn halved(
         &self,
-        opener: &mut Opener<'f, 't>,
+        parts: &mut Parts<'t>,
         opened: &Opened<'t>,
         name: &str,
         labels: &mut Labels,
@@ -207,13 +256,14 @@ impl<'f, 't, 'w> Importer<'f, 't, 'w> {
             FateSays self.now.reading.bound name.now told.fate)) }
     {
         let alloc = self.alloc;
-        let Some((first, second)) = halves_of(alloc, &mut opener.made, opened.body)? else {
+        let Some(halves) = halves_of(alloc, parts, opened.body)? else {
             return Ok(None);
         };
+        let (first, second) = self.both_meant(parts, opened, halves)?;
         let first_name = labels.take(alloc, format!(in alloc; "{name}__1")?.as_str())?;
-        let (one, marks) = self.half(opener, *opened, first, first_name)?;
+        let (one, marks) = self.half(parts, opened, &first, first_name)?;
         let second_name = labels.take(alloc, format!(in alloc; "{name}__2")?.as_str())?;
-        let (other, more) = self.half(opener, *opened, second, second_name)?;
+        let (other, more) = self.half(parts, opened, &second, second_name)?;
         Ok(Some(Told {
             fate: Fate::Halves(one, other),
             marks: Marks {
@@ -226,7 +276,7 @@ impl<'f, 't, 'w> Importer<'f, 't, 'w> {
     /// What was opened as one assertion, or as two where it is too heavy.
     fn spelled_or_halved(
         &self,
-        opener: &mut Opener<'f, 't>,
+        parts: &mut Parts<'t>,
         opened: &Opened<'t>,
         name: &str,
         labels: &mut Labels,
@@ -234,15 +284,12 @@ impl<'f, 't, 'w> Importer<'f, 't, 'w> {
         ensures { IfOk result (λ told.
             FateSays self.now.reading.bound name.now told.fate) }
     {
-        let stop = match self.spelled(opener, opened, name) {
-            Ok((text, marks)) => {
-                let fate = Fate::Written(text);
-                return Ok(Told { fate, marks });
-            }
+        let stop = match self.whole(parts, opened, name) {
+            Ok(told) => return Ok(told),
             Err(stop) => stop,
         };
         if self.reading.split && stop.is_heavy() {
-            if let Some(told) = self.halved(opener, opened, name, labels)? {
+            if let Some(told) = self.halved(parts, opened, name, labels)? {
                 return Ok(told);
             }
         }
@@ -270,7 +317,7 @@ impl<'f, 't, 'w> Importer<'f, 't, 'w> {
         if let Some(missing) = first_missing(self.alloc, opener.parts(), &self.reading)? {
             return Ok(unwritten(Fate::Unknown(missing)));
         }
-        self.spelled_or_halved(&mut opener, &opened, name, labels)
+        self.spelled_or_halved(&mut opener.made, &opened, name, labels)
     }
 
     /// What becomes of an assertion that is written under a name, if it can be.

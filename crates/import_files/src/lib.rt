@@ -19,12 +19,19 @@
 //! Assertions of another clock than the one that counts are refused.
 //!
 //! `imported` promises that each token that begins an assertion has one outcome, in their order;
-//! so none is lost. `text_of`, `status_of` and `placed` say what they are of these outcomes.
+//! so none is lost. Each property is shown to be what was opened means (`import_meanings`), and
+//! each text is read back (`import_readback`): it says, under the label that is told, the exact
+//! rewriting of that property. Where one is written as two halves, these are together what was
+//! opened means. One of which any of that isn't so is refused. `text_of`, `status_of` and `placed`
+//! say what they are of these outcomes.
 //!
-//! The definitions: `specs/Imported.antt` and `specs/Placed.antt`; tokens and the words that begin
-//! assertions in `import_tokens` and `import_scopes`; what a rewriting is in `import_rewriting`.
+//! The definitions: `specs/Imported.antt` and `specs/Placed.antt`, and of what is written
+//! `specs/Written.antt`; tokens and the words that begin assertions in `import_tokens` and
+//! `import_scopes`; what a part means in `import_meanings`, what a rewriting is in
+//! `import_rewriting`, what a text says in `import_readback`.
 //!
-//! Not promised, but tested: what a written text says, and what is told.
+//! Not promised, but tested: that what was opened is what stands there, what a boolean's text says,
+//! and what is told; and of local variables and `.triggered`, which property it is.
 #![tactic(auto)]
 
 mod dump_signals;

@@ -162,8 +162,8 @@ pub fn imported(
     reading: &Reading<'_>,
 ) -> Result<Imported, ImportFault>
     // Each word of the text that begins an assertion has one outcome, in their order; each text
-    // that is written says, under the label that is told, a property that it is the exact rewriting
-    // of.
+    // that is written says, under the label that is told, the exact rewriting of the property that
+    // what was opened means, or two texts do of two properties that are together what it means.
     ensures each { IfOk result (λ all.
         AreOfAll text.now reading.now.bound all.outcomes.items) }
 {

@@ -95,3 +95,12 @@ pub(crate) fn not_rewritten(refusal: import_rewriting::Refusal, at: usize) -> St
         }
     }
 }
+
+/// An assertion whose property isn't shown to be what it means, told at a byte.
+pub(crate) fn not_checked(at: usize) -> Stop {
+    Stop::Refused(Cause {
+        code: "NotChecked",
+        hint: "what it was made into isn't shown to be its meaning: split the assertion",
+        at,
+    })
+}

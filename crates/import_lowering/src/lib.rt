@@ -25,8 +25,10 @@
 //! Work is bounded: parts lie in one another at most `MOST_DEPTH` deep, and at most 100,000 values
 //! are added. Added values may share their parts, so written out they may be larger by far.
 //!
-//! Not promised, but tested: which property it is. Not promised: that the type of a local variable
-//! holds what it is given, whose own width counts.
+//! No clause says here which property it is. `import_files` asks `import_meanings::is_meaning` of
+//! each one, and writes none of which that says no: so what is written is the part's meaning,
+//! keyword by keyword. Tested alone: parts with local variables or `.triggered`. Not promised:
+//! that the type of a local variable holds what it is given, whose own width counts.
 #![tactic(auto)]
 
 mod chains;

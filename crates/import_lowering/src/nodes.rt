@@ -206,6 +206,19 @@ pub(crate) fn boolean_of(sequence: &Sequence) -> Option<Condition> {
     }
 }
 
+/// Whether it is 0 or 1.
+pub(crate) fn is_constant(condition: Condition) -> bool {
+    matches!(condition, Condition::One | Condition::Zero)
+}
+
+/// The boolean that a sequence is, if it is one and no constant.
+pub(crate) fn leaf_of(sequence: &Sequence) -> Option<Condition> {
+    match sequence {
+        Sequence::Boolean(condition) if !is_constant(*condition) => Some(*condition),
+        _ => None,
+    }
+}
+
 /// The boolean that a property is, if it is one.
 pub(crate) fn truth_of(property: &Property) -> Option<Condition> {
     match property {

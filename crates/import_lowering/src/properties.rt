@@ -3,8 +3,8 @@
 use crate::lowering::{Lowering, part_at, small};
 use crate::measure::{HEAVIEST, length_of, weight_of};
 use crate::nodes::{
-    Arrow, Pair, Time, boolean, chosen, implication, lead, negation, paired, plain, timed, truth,
-    truth_of,
+    Arrow, Pair, Time, boolean, chosen, implication, is_constant, lead, negation, paired, plain,
+    timed, truth, truth_of,
 };
 use crate::now::Span;
 use crate::polarity::Polarity;
@@ -184,7 +184,7 @@ impl Lowering {
         }
     }
 
-    /// The boolean that two booleans are joined to; none of `until`.
+    /// The boolean that two booleans are joined to; none of `until`, and of constants.
     fn joined_truths(
         &mut self,
         parts: &mut Parts<'_>,
@@ -193,6 +193,9 @@ impl Lowering {
         second: Condition,
         at: usize,
     ) -> Result<Option<Condition>, NotLowered> {
+        if is_constant(first) || is_constant(second) {
+            return Ok(None);
+        }
         match pair {
             Pair::And => Ok(Some(self.both(parts, first, second, at)?)),
             Pair::Or => Ok(Some(self.either(parts, first, second, at)?)),

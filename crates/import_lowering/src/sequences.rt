@@ -3,7 +3,7 @@
 use crate::lowering::{Lowering, part_at};
 use crate::measure::length_of;
 use crate::nodes::{
-    Joint, boolean, boolean_of, delay, lead, repeat, throughout, together, waiting,
+    Joint, boolean, boolean_of, delay, lead, leaf_of, repeat, throughout, together, waiting,
 };
 use crate::now::Span;
 use crate::reason::{Hint, NotLowered, Reason, hinted, refused};
@@ -65,7 +65,7 @@ impl Lowering {
         self.now = start;
         let second = self.sequence(parts, second, is_last, depth - 1)?;
         self.meet(end, joint == Joint::And);
-        if let (Some(one), Some(other)) = (boolean_of(&first), boolean_of(&second)) {
+        if let (Some(one), Some(other)) = (leaf_of(&first), leaf_of(&second)) {
             let both = self.joined_truth(parts, joint, one, other, at)?;
             return Ok(boolean(self.alloc, both)?);
         }
@@ -321,10 +321,20 @@ fn by_definition(
     together(alloc, Joint::Intersect, around, second)
 }
 
+/// The shortest delay after so many ticks at which a match may go on: after none, `##0` never
+/// matches, and `##1` goes on at the same tick (IEEE 1800-2017, 16.9.2.1).
+fn shortest(least: u8, ticks: u8) -> u8 {
+    if ticks == 0 { least.max(1) } else { least }
+}
+
 /// `first_match(body)`, where its ends can be told: a body of one length; `##[m:n] b` at its end
 /// after a part of one length; `b[*m:n]`.
 fn first_match(alloc: Global, body: Box<Sequence>, at: usize) -> Result<Box<Sequence>, NotLowered> {
-    if length_of(&body).exactly().is_some() {
+    let length = length_of(&body);
+    if length.is_none() {
+        return Err(refused(Reason::Degenerate, at));
+    }
+    if length.exactly().is_some() {
         return Ok(body);
     }
     match Box::into_inner(body) {
@@ -335,13 +345,16 @@ fn first_match(alloc: Global, body: Box<Sequence>, at: usize) -> Result<Box<Sequ
             }
             None => Err(unfit(at)),
         },
-        Sequence::Delay(first, least, most, second) => match boolean_of(&second) {
-            Some(condition) if length_of(&first).exactly().is_some() => {
-                let found = first_of(alloc, condition, most.saturating_sub(least), second)?;
-                Ok(delay(alloc, first, Span { least, most: least }, found)?)
+        Sequence::Delay(first, least, most, second) => {
+            match (boolean_of(&second), length_of(&first).exactly()) {
+                (Some(condition), Some(ticks)) => {
+                    let least = shortest(least, ticks);
+                    let found = first_of(alloc, condition, most.saturating_sub(least), second)?;
+                    Ok(delay(alloc, first, Span { least, most: least }, found)?)
+                }
+                _ => Err(unfit(at)),
             }
-            _ => Err(unfit(at)),
-        },
+        }
         Sequence::Repeat(body, least, _) => match boolean_of(&body) {
             Some(_) if least > 0 => Ok(repeat(alloc, body, Span { least, most: least })?),
             _ => Err(unfit(at)),

@@ -20,6 +20,8 @@ mod items;
 #[cfg(test)]
 mod lowerings;
 #[cfg(test)]
+mod meanings;
+#[cfg(test)]
 mod openings;
 #[cfg(test)]
 mod rewritings;

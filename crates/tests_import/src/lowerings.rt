@@ -398,9 +398,17 @@ fn derived(row: usize) -> (&'static [u8], &'static [u8]) {
             b"bounded ## 00:00 a ## 01:01 * 00:01 ## 01:01 * 00:09 !b b * 00:09 !b ",
         ),
         24 => (b"a && r.triggered", b"& a & $past 0102b "),
-        _ => (
+        25 => (
             b"(a, v = d) ##1 (b or c ##0 d) |-> v",
             b"-> ## 01:01 a or b ## 00:00 c d $past d 01",
+        ),
+        26 => (
+            b"first_match(a[*0] ##[0:3] b) |-> c",
+            b"-> ## 01:01 * 00:00 a ## 01:01 * 00:02 !b b c ",
+        ),
+        _ => (
+            b"first_match(a[*0] ##[2:3] b) |-> c",
+            b"-> ## 02:02 * 00:00 a ## 01:01 * 00:01 !b b c ",
         ),
     }
 }
@@ -423,6 +431,7 @@ fn refusal(row: usize) -> (&'static [u8], &'static [u8]) {
         12 => (b"v == c", b"LocalVar"),
         13 => (b"(a[*0:1], v = d) ##1 c", b"AdmitsEmpty"),
         14 => (b"a ##0 first_match(b[*0:2])", b"AdmitsEmpty"),
+        15 => (b"first_match(a[*0] ##0 b) or c |-> d", b"Degenerate"),
         _ => (b"(a, v = d) |-> (v throughout b ##1 c)", b"LocalVar"),
     }
 }
@@ -439,7 +448,7 @@ fn forms_stand_for_themselves(rt: HostRuntime) -> Result<(), Fail> {
 
 #[test]
 fn others_are_written_out(rt: HostRuntime) -> Result<(), Fail> {
-    for row in 0..26 {
+    for row in 0..28 {
         let (text, wanted) = derived(row);
         let found = read(rt.alloc(), text, Some(9))?;
         assert!(rt; found.as_slice() == wanted, "row {row}");
@@ -449,7 +458,7 @@ fn others_are_written_out(rt: HostRuntime) -> Result<(), Fail> {
 
 #[test]
 fn some_have_no_property(rt: HostRuntime) -> Result<(), Fail> {
-    for row in 0..16 {
+    for row in 0..17 {
         let (text, wanted) = refusal(row);
         let found = read(rt.alloc(), text, Some(3))?;
         assert!(rt; found.as_slice() == wanted, "row {row}");

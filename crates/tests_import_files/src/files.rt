@@ -73,6 +73,21 @@ fn one_that_is_too_heavy_becomes_two(rt: HostRuntime) -> Result<(), Fail> {
 }
 
 #[test]
+fn halves_stand_after_all_antecedents(rt: HostRuntime) -> Result<(), Fail> {
+    let text = "r: assert property (@(posedge c) a |=> if (e) always [0:1] nexttime\n\
+        (f |-> (##[1:50] b) and ##[1:50] d));\n";
+    let halves = said(rt.alloc(), text, true)?;
+    assert!(rt; halves.status == 0);
+    assert!(rt;
+        halves
+            .told
+            .as_str()
+            .contains("f:1:1: note r Renamed: r__1 and r__2\n")
+    );
+    Ok(())
+}
+
+#[test]
 fn one_that_is_light_stays_one(rt: HostRuntime) -> Result<(), Fail> {
     let text = "r: assert property (@(posedge c) a |-> (##1 b) and ##1 d);\n";
     let found = said(rt.alloc(), text, true)?;

@@ -1,0 +1,5 @@
+pub mod TruthLaws
+pub mod LengthLaws
+pub mod PartLaws
+pub mod CaseLaws
+pub mod HalfLaws

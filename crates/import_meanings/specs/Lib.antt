@@ -1,0 +1,9 @@
+pub mod Values
+pub mod Counts
+pub mod Booleans
+pub mod Lengths
+pub mod Sequences
+pub mod Halves
+pub mod Properties
+pub mod Meanings
+pub mod Laws
