@@ -158,7 +158,9 @@ fn what_is_judged_stands_where_the_files_have_it(rt: HostRuntime) -> Result<(), 
     );
     assert!(rt; first == 11 && place_before(added, first) == 11);
     assert!(rt; place_before(added, first + 20) == 11);
-    assert!(rt; place_before(added, second) == 48 && place_before(added, second + 9) == 48);
+    assert!(rt;
+        place_before(added, second) == 48 && place_before(added, second.saturating_add(9)) == 48
+    );
     assert!(rt;
         judged
             .text
