@@ -15,7 +15,7 @@ use crate::outcome::{Cause, Fate, Half, Marks};
 use crate::reading::Reading;
 use crate::stop::{Stop, not_checked, not_rewritten};
 use crate::vacuity::{joins_booleans, keeps_vacuity};
-use import_elaboration::{Opened, Opener, PartId, Parts};
+use import_elaboration::{Opened, Opener, PartId, Parts, Value};
 use import_expressions::push_path;
 use import_lowering::{Lowered, property_of};
 use import_meanings::{is_meaning, mean_together};
@@ -50,8 +50,17 @@ pub(crate) fn unwritten(fate: Fate) -> Told
     let marks = Marks {
         bounded: false,
         vacuity: false,
+        local: false,
     };
     Told { fate, marks }
+}
+
+/// Whether a value of an opening is a local variable.
+fn has_local(parts: &Parts<'_>) -> bool {
+    parts
+        .values
+        .iter()
+        .any(|node| matches!(node.value, Value::Local(_)))
 }
 
 /// Bytes of one's own.
@@ -162,6 +171,7 @@ impl<'f, 't, 'w> Importer<'f, 't, 'w> {
         let marks = Marks {
             bounded: lowered.bounded,
             vacuity: joined || !keeps_vacuity(&lowered.property, &rewriting),
+            local: has_local(parts),
         };
         Ok((rewriting, marks))
     }
@@ -269,6 +279,7 @@ impl<'f, 't, 'w> Importer<'f, 't, 'w> {
             marks: Marks {
                 bounded: marks.bounded || more.bounded,
                 vacuity: marks.vacuity || more.vacuity,
+                local: marks.local,
             },
         }))
     }

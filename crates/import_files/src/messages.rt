@@ -21,6 +21,12 @@ struct Cursor {
     column: u64,
 }
 
+/// Adds what is told at a byte of the text.
+fn push_note(messages: &mut Vec<Message>, at: usize, text: String) -> Result<(), AllocError> {
+    messages.push(Message { at, text })?;
+    Ok(())
+}
+
 /// What is told of an assertion beside what becomes of it.
 fn push_notes(
     alloc: Global,
@@ -28,27 +34,27 @@ fn push_notes(
     bound: Option<u8>,
     outcome: &Outcome,
 ) -> Result<(), AllocError> {
-    let label = outcome.label.as_str();
+    let (label, at) = (outcome.label.as_str(), outcome.at);
     if outcome.label.as_str() != outcome.name.as_str() {
         let name = outcome.name.as_str();
-        messages.push(Message {
-            at: outcome.at,
-            text: format!(in alloc; "note {label} Renamed: {name}")?,
-        })?;
+        let text = format!(in alloc; "note {label} Renamed: {name}")?;
+        push_note(messages, at, text)?;
     }
     if outcome.marks.vacuity {
-        messages.push(Message {
-            at: outcome.at,
-            text: format!(in alloc;
-                "note {label} Vacuity: holds and vacuous are counted otherwise"
-            )?,
-        })?;
+        let text = format!(in alloc;
+            "note {label} Vacuity: holds and vacuous are counted otherwise"
+        )?;
+        push_note(messages, at, text)?;
+    }
+    if outcome.marks.local {
+        let text = format!(in alloc;
+            "note {label} LocalType: the types of its local variables are not looked at"
+        )?;
+        push_note(messages, at, text)?;
     }
     if let (true, Some(bound)) = (outcome.marks.bounded, bound) {
-        messages.push(Message {
-            at: outcome.at,
-            text: format!(in alloc; "note {label} Bounded: open ends stop after {bound} clocks")?,
-        })?;
+        let text = format!(in alloc; "note {label} Bounded: open ends stop after {bound} clocks")?;
+        push_note(messages, at, text)?;
     }
     Ok(())
 }
@@ -118,7 +124,9 @@ fn remark_message(alloc: Global, remark: &Remark) -> Result<Option<Message>, All
     let text = remark.text.as_str();
     let text = match remark.kind {
         NoteKind::Cover => return Ok(None),
-        NoteKind::Bind => format!(in alloc; "note file Bind: it is left out: give --scope")?,
+        NoteKind::Bind => format!(in alloc;
+            "note file Bind: it is left out, with its parameters: give --scope"
+        )?,
         NoteKind::UnknownMacro => {
             format!(in alloc; "note {text} UnknownMacro: it is left out, and may hide assertions")?
         }

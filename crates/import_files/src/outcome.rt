@@ -55,6 +55,8 @@ pub struct Marks {
     pub bounded: bool,
     /// Whether it may hold vacuously where the property doesn't, or the other way round.
     pub vacuity: bool,
+    /// Whether a local variable stands in it, whose type isn't looked at.
+    pub local: bool,
 }
 
 /// An assertion, and what becomes of it.
