@@ -109,6 +109,18 @@ fn a_label_before_an_unknown_macro(rt: HostRuntime) -> Result<(), Fail> {
     Ok(())
 }
 
+/// A property with a local variable (16.10).
+const LOCAL: &str = "property p;\n  logic v;\n  (a, v = b) |=> v;\nendproperty\n\
+    r: assert property (@(posedge c) p);\n";
+
+#[test]
+fn local_variables_are_noted(rt: HostRuntime) -> Result<(), Fail> {
+    let found = said(rt.alloc(), LOCAL, false)?;
+    assert!(rt; found.status == 0);
+    assert!(rt; found.told.as_str().starts_with("f:5:1: note r LocalType: "));
+    Ok(())
+}
+
 #[test]
 fn booleans_that_imply_are_noted(rt: HostRuntime) -> Result<(), Fail> {
     let text = "r: assert property (@(posedge c) a implies b);\n";
