@@ -235,7 +235,11 @@ def tree(depth):
         return (kind, side(), side())
     if kind in ('if', 'if_else'):
         return (kind, boolean(), *(part() for _ in range(1 if kind == 'if' else 2)))
-    return (kind,) + tuple(part() for _ in range(1 if kind == 'not' else 2))
+    sides = tuple(part() for _ in range(1 if kind == 'not' else 2))
+    if kind in ('and', 'or') and all(side[0] == 'sequence' for side in sides):
+        # two sequences that are joined so are one, of which a part may be empty (16.9.5, 16.9.7)
+        return ('sequence', (kind, sides[0][1], sides[1][1]))
+    return (kind,) + sides
 
 
 class Writer:
