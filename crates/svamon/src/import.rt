@@ -8,6 +8,7 @@ use import_files::{
     ImportFault, Imported, Known, Reading, Signals, imported, known_of, messages_of, signals_of,
     status_of, text_of, unclosed_line,
 };
+use source_files::Part;
 use std::fs::Files;
 use std::io::{Eprint, Print};
 
@@ -51,6 +52,19 @@ fn reading_of<'a>(
     }
 }
 
+/// Tells of each file that it has no assertion.
+fn show_none<R: Eprint + AllocGlobal>(rt: &R, parts: &[Part]) -> Result<(), Fault<'static>> {
+    let alloc = rt.alloc();
+    for part in parts {
+        let path = part.path.as_str();
+        let line = format!(in alloc;
+            "{path}:1:1: refused file NoAssertion: no assertion stands in it\n"
+        )?;
+        shown_lines(rt, line.as_str());
+    }
+    Ok(())
+}
+
 /// The assertions of files, of which is told what is refused and noted; none where a comment has
 /// no end, which is told.
 pub(crate) fn told_import<R: Eprint + AllocGlobal>(
@@ -71,6 +85,9 @@ pub(crate) fn told_import<R: Eprint + AllocGlobal>(
         Ok(all) => {
             let told = messages_of(rt.alloc(), parts, reading.bound, &all)?;
             shown_lines(rt, told.as_str());
+            if all.outcomes.is_empty() {
+                show_none(rt, parts)?;
+            }
             Ok(Some(all))
         }
         Err(ImportFault::Memory) => Err(Fault::Memory),
