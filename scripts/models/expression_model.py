@@ -1,11 +1,12 @@
 """What an expression of the standard is worth (IEEE 1800-2017, 11.4 to 11.8), straight from its tree (imported).
 
-A tree is a tuple whose first word is its form. All names are unsigned, and x and z are 0. A width is had from below,
+A tree is a tuple whose first word is its form. All names are unsigned, and x and z are 0. ('cast', w, e) is e as one of
+w bits, and ('held', n, w, e) what a variable of w bits was given n clocks ago. A width is had from below,
 and handed down to the operands that take that of their context (11.6). Before the first clock each value is 0.
 """
 
 UNSIGNED = ('name', 'sized', 'fill', 'concat', 'copies', 'bits', 'part', 'index', 'reduce', 'lacks', 'compare', 'both',
-            'any', 'inside', 'wild', 'onehot', 'rose', 'fell', 'stable')
+            'any', 'inside', 'wild', 'onehot', 'rose', 'fell', 'stable', 'cast', 'held')
 COMPARE = {'==': lambda a, b: a == b, '!=': lambda a, b: a != b, '<': lambda a, b: a < b, '<=': lambda a, b: a <= b,
            '>': lambda a, b: a > b, '>=': lambda a, b: a >= b}
 COMPARE |= {'===': COMPARE['=='], '!==': COMPARE['!=']}
@@ -34,8 +35,10 @@ def width_of(tree, widths):
         return widths[tree[1]]
     if kind in ('number', 'count'):
         return 32
-    if kind == 'sized':
+    if kind in ('sized', 'cast'):
         return tree[1]
+    if kind == 'held':
+        return tree[2]
     if kind in ('flip', 'minus', 'past'):
         return width_of(tree[-1], widths)
     if kind == 'shift':
@@ -126,6 +129,10 @@ class Values:
             return all(bit in ('?', own) for bit, own in zip(tree[2].rjust(width, '0'), bits))
         if kind == 'past':
             return self.alone(tree[2], clock - tree[1]) if clock >= tree[1] else 0
+        if kind == 'cast':
+            return self.alone(tree[2], clock) & (1 << tree[1]) - 1
+        if kind == 'held':
+            return self.assigned(tree[3], clock - tree[1], tree[2])
         if kind in ('rose', 'fell', 'stable'):
             now, before = self.rows[clock][tree[1]], self.rows[clock - 1][tree[1]] if clock else 0
             if kind == 'stable':
@@ -139,6 +146,10 @@ class Values:
             return ones == 1 if tree[1] else ones <= 1
         return {'&': ones == width, '|': ones > 0, '^': ones % 2, '~&': ones < width, '~|': ones == 0,
                 '~^': 1 - ones % 2}[tree[1]]
+
+    def assigned(self, tree, clock, width):
+        """What a variable of that many bits holds after an assignment at a clock (10.7)."""
+        return self.value(tree, clock, max(width_of(tree, self.widths), width)) & (1 << width) - 1
 
     def is_in(self, tree, item, clock):
         """Whether a value is a member of a set, which is a value or a range (11.4.13)."""

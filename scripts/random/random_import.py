@@ -119,9 +119,12 @@ def sorted_numbers():
 def text_of(tree):
     """The text of an expression, each part in brackets."""
     kind = tree[0]
-    boxed = lambda part: text_of(part) if part[0] in ('name', 'sized', 'number') else f'({text_of(part)})'
+    plain = ('name', 'sized', 'number', 'cast', 'held')
+    boxed = lambda part: text_of(part) if part[0] in plain else f'({text_of(part)})'
     if kind == 'name':
         return tree[1]
+    if kind in ('cast', 'held'):
+        return 'x'
     if kind == 'number':
         return str(tree[1])
     if kind == 'sized':
@@ -372,10 +375,49 @@ def booleans_of(one):
     return found
 
 
+def typed_truth(leaf):
+    """An expression of one bit that reads an argument or a local variable."""
+    other, more = operand(1), operand(0)
+    other = other if is_unsigned(other) else ('name', 'w')
+    kind = draw.choice(['plain', 'plain', 'sum', 'lacks', 'reduce', 'concat', 'choice'])
+    compare = lambda one: ('compare', draw.choice(['==', '!=', '<', '<=', '>', '>=']), one, other)
+    if kind == 'lacks':
+        return ('lacks', leaf)
+    if kind == 'reduce':
+        return ('reduce', draw.choice(['|', '^', '~|']), leaf)
+    if kind == 'concat':
+        return compare(('concat', (('name', 'a'), leaf)))
+    if kind == 'choice':
+        return compare(('choice', ('name', 'b'), leaf, more))
+    return compare(('infix', draw.choice(['+', '-', '&', '^']), leaf, more) if kind == 'sum' else leaf)
+
+
+def typed(writer):
+    """A property with an argument or a local variable of a type (16.8.1, 16.10): its use, and its tree."""
+    width, given = draw.choice([1, 2, 4, 7, 8, 9, 13]), operand(2)
+    kind = draw.choice(['logic', 'bit', 'reg'])
+    own = f'{kind} x' if width == 1 and draw.randrange(2) else f'{kind} [{width - 1}:0] x'
+    first = ('boolean', ('signal', draw.choice(SIGNALS)))
+    if draw.randrange(2):
+        test = ('sequence', ('boolean', ('expression', typed_truth(('cast', width, given)))))
+        body = ('implication', first, test)
+        writer.names = {'': 'x'}
+        text, writer.names = writer.property(body), {}
+        name = writer.declare('property', text, [own])
+        return f'{name}({text_of(given)})', body
+    wait = draw.randint(0, 3)
+    test = ('boolean', ('expression', typed_truth(('held', wait, width, given))))
+    body = ('implication', first, ('sequence', ('lead', wait, wait, test)))
+    text = f'{own}; ({first[1][1]}, x = {text_of(given)}) |-> ##{wait} ({text_of(test[1][1])})'
+    return writer.declare('property', text, []), body
+
+
 def assertion(place, writer):
     body = tree(draw.choice([0, 1, 1, 2, 2, 3]))
     disable = boolean(1) if draw.randrange(5) == 0 else None
     text = writer.property(body)
+    if draw.randrange(5) == 0:
+        text, body = typed(writer)
     words = f'disable iff ({writer.boolean(disable)}) ' if disable else ''
     clock = draw.choice(['', '@(posedge clk) '])
     label = f'r{place}' if draw.randrange(4) else None

@@ -8,13 +8,15 @@ use import_tokens::{Keyword, Kind, Symbol, Token};
 #[derive(Clone, Copy)]
 pub(crate) struct Formal<'t> {
     pub name: &'t [u8],
+    /// The tokens of its type, if it has one of its own.
+    pub own: &'t [Token<'t>],
     /// The tokens that stand for it where nothing is given.
     pub default: Option<&'t [Token<'t>]>,
     /// Whether it is a local variable (16.8.2).
     pub is_local: bool,
 }
 
-fn opens(symbol: Symbol) -> bool {
+pub(crate) fn opens(symbol: Symbol) -> bool {
     matches!(
         symbol,
         Symbol::OpenRound
@@ -28,7 +30,7 @@ fn opens(symbol: Symbol) -> bool {
     )
 }
 
-fn closes(symbol: Symbol) -> bool {
+pub(crate) fn closes(symbol: Symbol) -> bool {
     matches!(
         symbol,
         Symbol::CloseRound | Symbol::CloseSquare | Symbol::CloseBrace
@@ -116,11 +118,15 @@ pub(crate) fn actual_of<'t>(
 /// The formal argument that tokens declare.
 fn formal_of<'t>(tokens: &'t [Token<'t>]) -> Formal<'t> {
     let mut name: &'t [u8] = b"";
+    let mut own = &tokens[..0];
     let mut is_local = false;
     let mut default = None;
     for (index, token) in tokens.iter().enumerate() {
         match token.kind {
-            Kind::Word => name = token.text,
+            Kind::Word => {
+                name = token.text;
+                own = tokens.get(..index).unwrap_or(&[]);
+            }
             Kind::Keyword(Keyword::Local) => is_local = true,
             Kind::Symbol(Symbol::Assign) => {
                 default = tokens.get(index.saturating_add(1)..);
@@ -131,6 +137,7 @@ fn formal_of<'t>(tokens: &'t [Token<'t>]) -> Formal<'t> {
     }
     Formal {
         name,
+        own,
         default,
         is_local,
     }
@@ -169,12 +176,15 @@ pub(crate) fn formal_place<'t>(tokens: &'t [Token<'t>], name: &[u8]) -> Option<u
     None
 }
 
-/// The number of a local variable among those that tokens declare (16.10).
-pub(crate) fn local_place(tokens: &[Token], name: &[u8]) -> Option<usize> {
-    for (place, token) in tokens.iter().enumerate() {
-        if token.kind == Kind::Word && token.text == name {
-            return Some(place);
+/// The tokens of a formal argument's type: its own, or that of the last one before it that has one
+/// (16.8.1).
+pub(crate) fn type_at<'t>(tokens: &'t [Token<'t>], place: usize) -> &'t [Token<'t>] {
+    for before in (0..place.saturating_add(1)).rev() {
+        if let Some(formal) = formal_at(tokens, before) {
+            if !formal.own.is_empty() {
+                return formal.own;
+            }
         }
     }
-    None
+    &tokens[..0]
 }

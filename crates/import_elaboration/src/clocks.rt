@@ -65,12 +65,14 @@ impl<'f, 't> Opener<'f, 't> {
     ) -> Result<Path<'t>, Refused> {
         match clock {
             Clock::Rising(path) => match self.meaning(path, environment) {
-                Meaning::Actual(tokens, _) => Ok(Path { tokens }),
-                Meaning::Signal => Ok(path),
+                Meaning::Actual(actual) => Ok(Path {
+                    tokens: actual.tokens,
+                }),
+                Meaning::Signal | Meaning::Variable(_) => Ok(path),
                 _ => Err(refused(Refusal::ClockForm, at)),
             },
             Clock::Named(path) => match self.meaning(path, environment) {
-                Meaning::Actual(tokens, _) => rising_path(tokens, at),
+                Meaning::Actual(actual) => rising_path(actual.tokens, at),
                 Meaning::Declared(id) => self.block_path(id, at),
                 _ => Err(refused(Refusal::ClockForm, at)),
             },

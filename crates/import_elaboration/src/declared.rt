@@ -6,20 +6,11 @@ use crate::folding::{counted, plain, resized};
 use crate::meaning::Meaning;
 use crate::opener::{MOST_OPENED, Opener, placed, refused};
 use crate::refused::Refused;
+use crate::types::bracket_in;
 use crate::value::{Value, ValueId};
 use import_scopes::{Declaration, DeclarationId, DeclarationKind};
-use import_tokens::{Keyword, Kind, Symbol, Token};
+use import_tokens::{Keyword, Kind, Token};
 use import_trees::{Actuals, Expected, ExpressionId, Form, FormId, Number, Path, Refusal};
-
-/// The place of an opening square bracket, if one stands there.
-fn bracket_in(tokens: &[Token]) -> Option<usize> {
-    for (index, token) in tokens.iter().enumerate() {
-        if token.kind == Kind::Symbol(Symbol::OpenSquare) {
-            return Some(index);
-        }
-    }
-    None
-}
 
 /// The tokens from a place on.
 fn rest_of<'t>(tokens: &'t [Token<'t>], first: usize) -> &'t [Token<'t>] {
@@ -56,13 +47,21 @@ impl<'f, 't> Opener<'f, 't> {
         }
         match self.meaning(path, environment) {
             Meaning::Local(local) => self.keep(Value::Local(local), at),
-            Meaning::Actual(tokens, caller) => self.actual_value(tokens, caller, at, depth - 1),
+            Meaning::Actual(actual) => {
+                let value = self.actual_value(actual.tokens, actual.caller, at, depth - 1)?;
+                self.converted(value, actual.own, environment, at, depth - 1)
+            }
             Meaning::NoActual => Err(refused(Refusal::Arguments, at)),
             Meaning::LocalFormal => Err(refused(Refusal::Outside, at)),
             Meaning::Declared(id) => {
                 self.declared_value(id, actuals, environment, at, depth - 1)
             }
-            Meaning::Signal if actuals.is_some() => Err(refused(Refusal::Function, at)),
+            Meaning::Signal | Meaning::Variable(_) if actuals.is_some() => {
+                Err(refused(Refusal::Function, at))
+            }
+            Meaning::Variable(declaration) => {
+                self.variable(path, declaration, environment, at, depth - 1)
+            }
             Meaning::Signal => self.keep(Value::Signal(path), at),
         }
     }
@@ -162,7 +161,7 @@ impl<'f, 't> Opener<'f, 't> {
     }
 
     /// Goes into the scope of a declaration without arguments.
-    fn enter_scope(
+    pub(crate) fn enter_scope(
         &mut self,
         declaration: Declaration<'t>,
         caller: EnvironmentId,
@@ -214,7 +213,10 @@ impl<'f, 't> Opener<'f, 't> {
             DeclarationKind::Property | DeclarationKind::Sequence => {
                 Err(refused(Refusal::Expected(Expected::Expression), at))
             }
-            DeclarationKind::Clocking => Err(refused(Refusal::Outside, at)),
+            DeclarationKind::Clocking
+            | DeclarationKind::Type
+            | DeclarationKind::Port
+            | DeclarationKind::Variable => Err(refused(Refusal::Outside, at)),
         }
     }
 
@@ -292,13 +294,8 @@ impl<'f, 't> Opener<'f, 't> {
             });
         };
         let inside = self.enter_scope(declaration, caller, at)?;
-        let first = bracket.saturating_add(1);
-        let after = rest_of(declaration.formals, first);
-        let (high, taken) = self.expression(after, at)?;
-        let rest = rest_of(after, taken.saturating_add(1));
-        let (low, _taken) = self.expression(rest, at)?;
-        let high = self.constant(high, inside, depth - 1)?;
-        let low = self.constant(low, inside, depth - 1)?;
+        let after = rest_of(declaration.formals, bracket.saturating_add(1));
+        let (high, low, _taken) = self.range(after, inside, at, depth - 1)?;
         let width = high.checked_sub(low).ok_or(refused(Refusal::BadBound, at))?;
         match u8::try_from(width.saturating_add(1)) {
             Ok(width) if width <= 128 => Ok(resized(number, width, false)),

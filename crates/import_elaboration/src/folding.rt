@@ -167,18 +167,21 @@ pub(crate) fn counted(number: Number) -> Option<u32> {
     Some(value)
 }
 
-/// A number cut to a width, or carried on to it.
-pub(crate) fn resized(number: Number, width: u8, signed: bool) -> Number {
-    let negative = match bits_of(number) {
-        Some(value) => is_negative(value),
-        None => false,
-    };
-    let high = if negative { u128::MAX ^ 0xffff_ffff } else { 0 };
-    let mask = if width >= 128 {
+/// So many bits that are 1.
+fn mask_of(width: u8) -> u128 {
+    if width >= 128 {
         u128::MAX
     } else {
         (1u128 << width) - 1
-    };
+    }
+}
+
+/// A number cut to a width, or carried on to it by its sign, if it has one.
+pub(crate) fn resized(number: Number, width: u8, signed: bool) -> Number {
+    let own = mask_of(number.width);
+    let negative = number.signed && number.value > own >> 1;
+    let high = if negative { u128::MAX ^ own } else { 0 };
+    let mask = mask_of(width);
     Number {
         width,
         value: (number.value | high) & mask,

@@ -11,13 +11,16 @@
 //!
 //! Instances of properties and sequences, of `let`, parameters and members of enumerations are
 //! replaced by what they stand for; an actual argument means what it does where it stands, and is
-//! put in as a tree. What no declaration names is a signal. Bounds are numbers. Constants of 32
-//! bits and a sign are folded. Local variables are numbered, anew for each instance. Who makes
-//! something of an opened assertion may add values to `opener.made`.
+//! put in as a tree, in a `Cast` where the argument has a type. What no declaration names is a
+//! signal, and so is a port, a net or a variable; of these `parts().variables` has the types.
+//! Bounds are numbers. Constants of 32 bits and a sign are folded. Local variables are numbered,
+//! anew for each instance, and what they are given is `Assigned`. Who makes
+//! something of an opened assertion may add values to `opener.made`. `opener.number` is the number
+//! that an expression of constants is.
 //!
 //! A refusal has its code and a byte: that of the part at fault, or of the assertion. Work is
 //! bounded: declarations use one another at most `MOST_OPENED` deep, and an assertion comes to at
-//! most `MOST_PARTS` values and parts.
+//! most `MOST_PARTS` values and parts, a constant to at most `MOST_VALUES`.
 //!
 //! Not promised, but tested: what an assertion is opened to.
 #![tactic(auto)]
@@ -27,6 +30,7 @@ mod clocks;
 mod declared;
 mod environment;
 mod folding;
+mod locals;
 mod meaning;
 mod opener;
 mod opening;
@@ -34,11 +38,12 @@ mod part;
 mod parts;
 mod properties;
 mod refused;
+mod types;
 mod value;
 mod values;
 
-pub use opener::{MOST_OPENED, MOST_PARTS, Opener, Parts};
+pub use opener::{MOST_OPENED, MOST_PARTS, MOST_VALUES, Opener, Parts, Variable};
 pub use opening::Opened;
 pub use part::{Assignments, Choice, ChoiceId, Count, LocalAssignment, Part, PartId, PartNode};
 pub use refused::Refused;
-pub use value::{Value, ValueId, ValueList, ValueNode};
+pub use value::{Type, Value, ValueId, ValueList, ValueNode};

@@ -1,24 +1,36 @@
 //! What a name means where it stands.
 
-use crate::arguments::{actual_of, formal_at, formal_place, local_place};
-use crate::environment::EnvironmentId;
+use crate::arguments::{actual_of, formal_at, formal_place, type_at};
+use crate::environment::{EnvironmentId, declaration_at};
+use crate::locals::local_in;
 use crate::opener::Opener;
-use import_scopes::DeclarationId;
+use import_scopes::{Declaration, DeclarationId, DeclarationKind};
 use import_tokens::Token;
 use import_trees::{Path, plain_name};
+
+/// What is given for a formal argument.
+#[derive(Clone, Copy)]
+pub(crate) struct Actual<'t> {
+    pub tokens: &'t [Token<'t>],
+    /// Where these stand.
+    pub caller: EnvironmentId,
+    /// The tokens of the argument's type, if it has one.
+    pub own: &'t [Token<'t>],
+}
 
 /// What a name means.
 #[derive(Clone, Copy)]
 pub(crate) enum Meaning<'t> {
     /// A local variable, by its number.
     Local(usize),
-    /// A formal argument: the tokens that stand for it, and where they stand.
-    Actual(&'t [Token<'t>], EnvironmentId),
+    Actual(Actual<'t>),
     /// A formal argument for which nothing is given.
     NoActual,
     /// A formal argument that is a local variable, which is not taken.
     LocalFormal,
     Declared(DeclarationId),
+    /// A port, a net or a variable of the file.
+    Variable(Declaration<'t>),
     /// Nothing that the file declares.
     Signal,
 }
@@ -33,15 +45,18 @@ impl<'f, 't> Opener<'f, 't> {
         let Some(here) = self.environment(environment) else {
             return Meaning::Signal;
         };
-        if let Some(place) = local_place(here.locals, name) {
-            return Meaning::Local(here.first_local.saturating_add(place));
+        if let Some(local) = local_in(here.locals, name) {
+            return Meaning::Local(here.first_local.saturating_add(local.place));
         }
         if let Some(place) = formal_place(here.formals, name) {
             return self.actual(place, name, environment);
         }
-        match self.file.declaration_of(here.scope, name) {
-            Some(declaration) => Meaning::Declared(declaration),
-            None => Meaning::Signal,
+        let Some(id) = self.file.declaration_of(here.scope, name) else {
+            return Meaning::Signal;
+        };
+        match declaration_at(self.file, id) {
+            Some(declaration) if is_variable(declaration.kind) => Meaning::Variable(declaration),
+            _ => Meaning::Declared(id),
         }
     }
 
@@ -56,12 +71,27 @@ impl<'f, 't> Opener<'f, 't> {
         if formal.is_local {
             return Meaning::LocalFormal;
         }
+        let own = type_at(here.formals, place);
         if let Some(tokens) = actual_of(here.actuals, place, name) {
-            return Meaning::Actual(tokens, here.caller);
+            let caller = here.caller;
+            return Meaning::Actual(Actual {
+                tokens,
+                caller,
+                own,
+            });
         }
         match formal.default {
-            Some(tokens) => Meaning::Actual(tokens, environment),
+            Some(tokens) => Meaning::Actual(Actual {
+                tokens,
+                caller: environment,
+                own,
+            }),
             None => Meaning::NoActual,
         }
     }
+}
+
+/// Whether what is declared is a signal of the design.
+fn is_variable(kind: DeclarationKind) -> bool {
+    matches!(kind, DeclarationKind::Port | DeclarationKind::Variable)
 }

@@ -6,7 +6,7 @@ ghost use Rattle.std.specs.Bool.{OnTrue};
 use crate::environment::{Environment, EnvironmentId, environment_in};
 use crate::part::{Choice, LocalAssignment, Part, PartId, PartNode};
 use crate::refused::Refused;
-use crate::value::{Value, ValueId, ValueList, ValueNode};
+use crate::value::{Type, Value, ValueId, ValueList, ValueNode};
 use import_scopes::{File, ScopeId};
 use import_tokens::Token;
 use import_trees::{ExpressionId, Number, Parser, Path, Refusal, TreeFault};
@@ -18,6 +18,22 @@ pub const MOST_OPENED: usize = 40;
 /// How many values and parts an assertion may come to.
 pub const MOST_PARTS: usize = 100_000;
 
+/// How many values a constant may come to.
+pub const MOST_VALUES: usize = 1_000;
+
+/// A signal that the file declares, where it is read.
+#[derive(Clone, Copy)]
+pub struct Variable<'t> {
+    pub value: ValueId,
+    pub name: &'t [u8],
+    /// The byte of its name where it is declared.
+    pub declared_at: usize,
+    /// Whether it is a port.
+    pub is_port: bool,
+    /// Its type, if that is known.
+    pub own: Option<Type>,
+}
+
 /// All that was opened; a value or a part is a place in one of these lists.
 #[derive(Drop)]
 pub struct Parts<'t> {
@@ -26,6 +42,11 @@ pub struct Parts<'t> {
     pub listed: Vec<ValueId>,
     pub assignments: Vec<LocalAssignment>,
     pub choices: Vec<Choice>,
+    /// The signals that the file declares, in the order of their values.
+    pub variables: Vec<Variable<'t>>,
+    /// Whether an argument or a local variable has a type that isn't known; its value is taken as
+    /// it is given.
+    pub has_unknown_type: bool,
 }
 
 /// Opens the assertions of a file, one after another.
@@ -60,6 +81,8 @@ impl<'f, 't> Opener<'f, 't> {
                 listed: Vec::new(alloc),
                 assignments: Vec::new(alloc),
                 choices: Vec::new(alloc),
+                variables: Vec::new(alloc),
+                has_unknown_type: false,
             },
             environments: Vec::new(alloc),
             clock: None,
@@ -75,15 +98,17 @@ impl<'f, 't> Opener<'f, 't> {
         &self.made
     }
 
-    /// Begins an assertion in a scope, with its local variables.
+    /// Begins an assertion in a scope, with its local variables; it may come to so many values and
+    /// parts.
     pub(crate) fn begin(
         &mut self,
         scope: ScopeId,
         locals: &'t [Token<'t>],
+        most: usize,
     ) -> Result<EnvironmentId, Refused> {
         self.clock = None;
         self.disable = None;
-        self.left = MOST_PARTS;
+        self.left = most;
         self.pending.clear();
         self.environments.clear();
         self.push_environment(environment_in(scope, locals))

@@ -2,13 +2,14 @@
 
 ghost use Rattle.std.specs.Prelude.{◌≡◌, IfOk};
 
-use crate::environment::EnvironmentId;
-use crate::opener::{Opener, placed, refused};
+use crate::environment::{Environment, EnvironmentId};
+use crate::opener::{MOST_PARTS, MOST_VALUES, Opener, placed, refused};
 use crate::part::PartId;
 use crate::refused::Refused;
 use crate::value::ValueId;
 use import_scopes::{Assertion, ScopeId};
-use import_trees::{Path, Refusal};
+use import_tokens::Token;
+use import_trees::{Number, Path, Refusal};
 
 /// How deep the parts of an opening may lie in one another.
 const MOST_DEPTH: usize = 2_000;
@@ -36,7 +37,7 @@ impl<'f, 't> Opener<'f, 't> {
             Ok(said) => said,
             Err(fault) => return Err(placed(fault, assertion.body, at)),
         };
-        let top = self.begin(assertion.scope, said.locals)?;
+        let top = self.begin(assertion.scope, said.locals, MOST_PARTS)?;
         self.begin_body(said, top, true, at)?;
         let body = self.body(said.body, top, true, MOST_DEPTH)?;
         let clock = match self.clock {
@@ -51,6 +52,38 @@ impl<'f, 't> Opener<'f, 't> {
             body,
             at,
         })
+    }
+
+    /// The number that tokens are in a scope, where the name of one token stands for others; none
+    /// stands for any where both are empty. What was opened before stays as it is.
+    pub fn number(
+        &mut self,
+        scope: ScopeId,
+        name: &'t [Token<'t>],
+        meant: &'t [Token<'t>],
+        tokens: &'t [Token<'t>],
+    ) -> Result<Number, Refused> {
+        let at = match tokens.first() {
+            Some(token) => token.at,
+            None => 0,
+        };
+        let around = self.begin(scope, &name[..0], MOST_VALUES)?;
+        let inside = self.push_environment(Environment {
+            scope,
+            formals: name,
+            actuals: meant,
+            caller: around,
+            locals: &name[..0],
+            first_local: 0,
+            depth: 1,
+        })?;
+        let (expression, taken) = self.expression(tokens, at)?;
+        if taken < tokens.len() {
+            return Err(refused(Refusal::NotConstant, at));
+        }
+        let value = self.value(expression, inside, MOST_DEPTH)?;
+        self.number_of(value)
+            .ok_or(refused(Refusal::NotConstant, at))
     }
 
     /// The expression of `disable iff`: its own, or the default one.

@@ -5,6 +5,7 @@ use crate::meaning::Meaning;
 use crate::opener::{Opener, placed, refused};
 use crate::part::{Count, Part, PartId};
 use crate::refused::Refused;
+use crate::types::is_untyped;
 use crate::value::Value;
 use import_scopes::{DeclarationId, DeclarationKind};
 use import_trees::{
@@ -41,9 +42,9 @@ impl<'f, 't> Opener<'f, 't> {
             _ => return self.boolean_value(id, environment, at, depth - 1),
         };
         match self.meaning(path, environment) {
-            Meaning::Actual(tokens, caller) => {
-                let form = self.argument(tokens, at)?;
-                self.part(form, caller, depth - 1)
+            Meaning::Actual(actual) if is_untyped(actual.own) => {
+                let form = self.argument(actual.tokens, at)?;
+                self.part(form, actual.caller, depth - 1)
             }
             Meaning::Declared(declared) if self.is_body(declared) => {
                 self.instance(declared, actuals, environment, top, at, depth - 1)

@@ -1,7 +1,7 @@
 //! Properties that are no sequences, opened.
 
-use crate::arguments::local_place;
 use crate::environment::EnvironmentId;
+use crate::locals::local_in;
 use crate::opener::{Opener, refused};
 use crate::part::{Assignments, Choice, ChoiceId, Count, LocalAssignment, Part, PartId};
 use crate::refused::Refused;
@@ -175,12 +175,13 @@ impl<'f, 't> Opener<'f, 't> {
             let Some((name, value)) = self.assignment_at(list.first.saturating_add(place)) else {
                 return Err(refused(Refusal::UnknownLocal, at));
             };
-            let Some(local) = local_place(here.locals, name) else {
+            let Some(local) = local_in(here.locals, name) else {
                 return Err(refused(Refusal::UnknownLocal, at));
             };
             let value = self.value(value, environment, depth - 1)?;
+            let value = self.held(value, local.own, environment, at, depth - 1)?;
             self.made.assignments.push(LocalAssignment {
-                local: here.first_local.saturating_add(local),
+                local: here.first_local.saturating_add(local.place),
                 value,
             })?;
         }

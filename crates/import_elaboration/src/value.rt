@@ -14,6 +14,13 @@ pub struct ValueList {
     pub count: usize,
 }
 
+/// A vector of so many bits (6.11, 7.4.1).
+#[derive(Clone, Copy, PartialEq, Eq)]
+pub struct Type {
+    pub width: u32,
+    pub signed: bool,
+}
+
 /// An expression whose names are signals and local variables alone.
 #[derive(Clone, Copy)]
 pub enum Value<'t> {
@@ -43,6 +50,11 @@ pub enum Value<'t> {
     /// `base[start -: width]`.
     PartDown(ValueId, ValueId, u32),
     Triggered(PartId),
+    /// What is given for an argument of a type; as by a cast, it is worth what it is alone (16.8.1,
+    /// 6.24.1).
+    Cast(Type, ValueId),
+    /// What an assignment gives a local variable of a type (16.10, 10.7).
+    Assigned(Type, ValueId),
     Unbounded,
     /// An argument that is left out.
     Missing,

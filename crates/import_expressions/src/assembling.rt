@@ -107,12 +107,30 @@ impl<'p, 't> Terms<'p, 't> {
                 let mask = self.keep_number(width, mask)?;
                 self.keep_infix(Infix::And, operand, mask)
             }
+            Plan::Widened(width, inside, outside) => {
+                let operand = self.keep_closed(operand, inside)?;
+                let wide = self.widened(operand, width)?;
+                self.keep_closed(wide, outside)
+            }
+            Plan::Cut(width, inside) => {
+                let operand = self.keep_closed(operand, inside)?;
+                let mask = self.keep_number(width, ones(u32::from(width)))?;
+                self.keep_infix(Infix::And, operand, mask)
+            }
             Plan::Power(width) => {
                 let one = self.keep_number(width, 1)?;
                 self.keep_infix(Infix::ShiftLeft, one, operand)
             }
             _ => Err(Reason::OUTSIDE),
         }
+    }
+
+    /// A term, with braces round it where that is asked for.
+    fn keep_closed(&mut self, term: TermId, braced: bool) -> Result<TermId, Reason> {
+        if braced {
+            return self.keep_braces(term);
+        }
+        Ok(term)
     }
 
     /// `0 + operand`, with a 0 of so many bits: the operand at that width or more.
@@ -300,11 +318,7 @@ impl<'p, 't> Terms<'p, 't> {
         width: u32,
         braced: bool,
     ) -> Result<TermId, Reason> {
-        let value = if braced {
-            self.keep_braces(value)?
-        } else {
-            value
-        };
+        let value = self.keep_closed(value, braced)?;
         if width == 1 {
             return self.keep_infix(Infix::Add, before, value);
         }

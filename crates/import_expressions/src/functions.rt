@@ -127,7 +127,11 @@ impl<'p, 't> Terms<'p, 't> {
     }
 
     /// A value where it stands alone.
-    fn plan_sampled(&mut self, operand: ValueId, alone: bool) -> Result<Plan<'t>, Reason> {
+    pub(crate) fn plan_sampled(
+        &mut self,
+        operand: ValueId,
+        alone: bool,
+    ) -> Result<Plan<'t>, Reason> {
         if self.is_still(operand, MOST_DEPTH) {
             self.ask(operand, alone)?;
             return Ok(Plan::Same);

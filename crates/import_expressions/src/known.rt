@@ -31,6 +31,7 @@ impl<'w> Known<'w> {
     /// The bit, counted from 0 at the right, that a select's number means, if it has it.
     pub(crate) fn place(&self, number: u32) -> Option<u32> {
         match self.range {
+            None if number >= self.width => None,
             None => Some(number),
             Some((left, right)) if left < right => {
                 if number < left {

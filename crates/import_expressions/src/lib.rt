@@ -18,8 +18,10 @@
 //! A value's term has the value's own width, and is worth the same in each wider context
 //! (IEEE 1800-2017, 11.6). Bits of an expression have no such term, and stand only where what they
 //! are worth counts alone: as a boolean, or beside what no context changes. x and z are 0, and all
-//! is unsigned, so what depends on x, z or a sign is refused. Widths of signals are needed by
-//! `$bits`, `$countones` and a `$past` with a gate alone.
+//! is unsigned, so what depends on x, z or a sign is refused, as of signals that the file declares
+//! with a sign. Widths of signals are needed by `$bits`, `$countones` and a `$past` with a gate; a
+//! type of an argument or a local variable is passed over where they aren't known, and
+//! `terms.has_unknown_width()` says so.
 //!
 //! Work is bounded: an assertion comes to so many values and terms, and values lie so deep in one
 //! another; what passes that is `TooHeavy`.
@@ -29,6 +31,7 @@
 
 mod assembling;
 mod comparing;
+mod converting;
 mod functions;
 mod known;
 mod lowering;

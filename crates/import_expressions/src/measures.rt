@@ -76,13 +76,16 @@ impl<'p, 't> Terms<'p, 't> {
         }
     }
 
-    /// Whether a value has a sign, by its form (IEEE 1800-2017, 11.8.1). Signals have none here.
+    /// Whether a value has a sign, by its form (IEEE 1800-2017, 11.8.1). A signal has one where the
+    /// file declares it.
     pub(crate) fn is_signed(&self, id: ValueId, depth: usize) -> bool {
         if depth == 0 {
             return true;
         }
         match self.node(id).value {
             Value::Number(number) => number.signed,
+            Value::Signal(_) => self.is_signed_signal(id),
+            Value::Cast(own, _) | Value::Assigned(own, _) => own.signed,
             Value::Prefix(Prefix::Complement | Prefix::Minus | Prefix::Plus, operand) => {
                 self.is_signed(operand, depth - 1)
             }
@@ -109,9 +112,12 @@ impl<'p, 't> Terms<'p, 't> {
     }
 
     /// Whether a value with a sign is known to be 0 or more.
-    fn is_natural(&self, id: ValueId) -> bool {
+    pub(crate) fn is_natural(&self, id: ValueId) -> bool {
         match self.node(id).value {
             Value::Number(number) => !has_high_bit(number),
+            Value::Cast(own, operand) | Value::Assigned(own, operand) => {
+                self.is_widened(own, operand)
+            }
             Value::System(name, _) => matches!(
                 function_of(name),
                 SystemFunction::CountOnes | SystemFunction::Bits | SystemFunction::Clog2
@@ -178,6 +184,7 @@ impl<'p, 't> Terms<'p, 't> {
                 }
                 _ => Ok(Some(1)),
             },
+            Value::Cast(own, _) | Value::Assigned(own, _) => Ok(Some(own.width)),
             Value::Local(_) => Ok(None),
             _ => Ok(Some(1)),
         }

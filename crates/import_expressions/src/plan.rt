@@ -37,6 +37,10 @@ pub(crate) enum Plan<'t> {
     PartAt(u32),
     /// So many bits of the operand, the second number, from the first number on.
     Part(u32, u32),
+    /// The operand at so many bits or more, with braces round the operand, or round all.
+    Widened(u8, bool, bool),
+    /// So many bits of the operand from the right, which may have braces round it.
+    Cut(u8, bool),
     /// The operand times a number of so many bits.
     Product(u8, u128),
     /// The operand without so many low bits, at so many bits or more.

@@ -73,6 +73,8 @@ impl<'p, 't> Terms<'p, 't> {
             Value::Slice(base, high, low) => self.plan_slice(base, high, low, alone),
             Value::PartUp(base, start, width) => self.plan_part_up(base, start, width, alone),
             Value::PartDown(base, start, width) => self.plan_part_down(base, start, width, alone),
+            Value::Cast(own, operand) => self.plan_cast(own, operand, alone),
+            Value::Assigned(own, operand) => self.plan_assigned(own, operand, alone),
             Value::Local(_) => Err(Reason::LocalVariable),
             Value::Span(_, _)
             | Value::Triggered(_)

@@ -35,6 +35,8 @@ pub struct Terms<'p, 't> {
     pub(crate) pending: Vec<TermId>,
     /// How many values and terms may still be looked at and made.
     pub(crate) left: usize,
+    /// Whether a type was passed over.
+    pub(crate) has_unknown_width: bool,
 }
 
 impl<'p, 't> Terms<'p, 't> {
@@ -58,6 +60,7 @@ impl<'p, 't> Terms<'p, 't> {
             asked: Vec::new(alloc),
             pending: Vec::new(alloc),
             left: 0,
+            has_unknown_width: false,
         }
     }
 
@@ -70,6 +73,7 @@ impl<'p, 't> Terms<'p, 't> {
         self.asked.clear();
         self.pending.clear();
         self.left = MOST_TERMS;
+        self.has_unknown_width = false;
     }
 
     /// Goes on to one more value or term, if one is left.

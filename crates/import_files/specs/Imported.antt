@@ -6,6 +6,7 @@ use Rattle.std.specs.List.{list_any}
 use Rattle.import_tokens.specs.declared.token.Token.{Token}
 use Rattle.import_tokens.specs.Readings.{Reads}
 use Rattle.import_scopes.specs.Words.{word_places}
+use Rattle.import_unrolling.specs.Unrolled.{Unrolls}
 use Rattle.import_files.specs.declared.outcome.Outcome.{Outcome}
 use Rattle.import_files.specs.declared.outcome.Fate.{Fate}
 use Rattle.import_files.specs.declared.outcome.Fate.TheVariants as fates
@@ -15,12 +16,14 @@ use Rattle.import_files.specs.Written.{FateSays}
 abbrev pub OutcomeSays : Option ℕ → Outcome → Type 0
 OutcomeSays bound outcome = FateSays bound (string_bytes outcome.name) outcome.fate
 
--- Each token of the text that begins an assertion has one outcome, in their order; and each that is
--- written says what was opened.
+-- Each token that begins an assertion has one outcome, in their order, once generate loops are
+-- written out; and each that is written says what was opened.
 pub record AreOfAll (text : List ℕ) (bound : Option ℕ) (outcomes : List Outcome) : Type 0 where
   pub tokens : List Token
+  pub unrolled : List Token
   pub read : Reads text 0 tokens
-  pub each : map (λ o. o.word) outcomes ≡ word_places 0 tokens
+  pub unrolls : Unrolls tokens unrolled
+  pub each : map (λ o. o.word) outcomes ≡ word_places 0 unrolled
   pub said : All (OutcomeSays bound) outcomes
 
 -- what is written of an assertion
@@ -28,6 +31,7 @@ abbrev pub text_in : Fate → List ℕ
 text_in (fates.Written text) = text.items
 text_in (fates.Halves first second) = first.text.items ++ second.text.items
 text_in fates.Left = []
+text_in fates.Ungenerated = []
 text_in (fates.Refused cause) = []
 text_in (fates.Unknown missing) = []
 text_in (fates.OtherClock clock) = []
@@ -39,6 +43,7 @@ abbrev pub is_written : Fate → Bool
 is_written (fates.Written text) = true
 is_written (fates.Halves first second) = true
 is_written fates.Left = false
+is_written fates.Ungenerated = false
 is_written (fates.Refused cause) = false
 is_written (fates.Unknown missing) = false
 is_written (fates.OtherClock clock) = false
@@ -47,6 +52,7 @@ abbrev pub is_refused : Fate → Bool
 is_refused (fates.Written text) = false
 is_refused (fates.Halves first second) = false
 is_refused fates.Left = false
+is_refused fates.Ungenerated = false
 is_refused (fates.Refused cause) = true
 is_refused (fates.Unknown missing) = true
 is_refused (fates.OtherClock clock) = true

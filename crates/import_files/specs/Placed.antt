@@ -13,11 +13,13 @@ placed_text blanks at [] = drop at blanks
 placed_text blanks at (o ∷ os) =
     drop at (take o.at blanks) ++ written_text o ++ placed_text blanks (max at o.at) os
 
--- what that adds to the files
+-- what that adds to the files, for which the byte is told at which the assertion begins; in a
+-- generate loop later turns begin before others
 abbrev pub added_by : ℕ → List Outcome → List Added
 added_by at [] = []
 added_by at (o ∷ os) =
-    record { at = max at o.at; count = length (written_text o) } ∷ added_by (max at o.at) os
+    record { at = max at o.at; count = length (written_text o); from = o.at }
+    ∷ added_by (max at o.at) os
 
 -- the files with all blanked, line feeds but, to which what is written of each assertion is added
 -- at its place

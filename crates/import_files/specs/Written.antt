@@ -51,6 +51,7 @@ abbrev pub FateSays : Option ℕ → List ℕ → Fate → Type 0
 FateSays bound label (fates.Written text) = SaysOpened bound label text.items
 FateSays bound label (fates.Halves one other) = HalvesSayOpened bound one other
 FateSays bound label fates.Left = Unit {0}
+FateSays bound label fates.Ungenerated = Unit {0}
 FateSays bound label (fates.Refused cause) = Unit {0}
 FateSays bound label (fates.Unknown missing) = Unit {0}
 FateSays bound label (fates.OtherClock clock) = Unit {0}

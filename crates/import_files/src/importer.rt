@@ -8,14 +8,15 @@ ghost use Rattle.import_rewriting.specs.Rewriting.{IsRewriting};
 ghost use Rattle.import_readback.specs.Texts.{SaysRewriting};
 ghost use Rattle.import_files.specs.Written.{FateSays, SaysProperty};
 
+use crate::declared::{first_of_other_width, note_variables};
 use crate::halves::halves_of;
 use crate::labels::Labels;
 use crate::names::first_missing;
-use crate::outcome::{Cause, Fate, Half, Marks};
+use crate::outcome::{Cause, Fate, Half, Marks, Remark};
 use crate::reading::Reading;
 use crate::stop::{Stop, not_checked, not_rewritten};
 use crate::vacuity::{joins_booleans, keeps_vacuity};
-use import_elaboration::{Opened, Opener, PartId, Parts, Value};
+use import_elaboration::{Opened, Opener, PartId, Parts};
 use import_expressions::push_path;
 use import_lowering::{Lowered, property_of};
 use import_meanings::{is_meaning, mean_together};
@@ -34,6 +35,8 @@ pub(crate) struct Importer<'f, 't, 'w> {
     reading: Reading<'w>,
     /// The clock that counts, once one is known.
     clock: Option<Vec<u8>>,
+    /// The nets and variables of the file that are read as signals.
+    remarks: Vec<Remark>,
 }
 
 /// What becomes of an assertion, and what is told of it beside that.
@@ -50,17 +53,9 @@ pub(crate) fn unwritten(fate: Fate) -> Told
     let marks = Marks {
         bounded: false,
         vacuity: false,
-        local: false,
+        unknown_type: false,
     };
     Told { fate, marks }
-}
-
-/// Whether a value of an opening is a local variable.
-fn has_local(parts: &Parts<'_>) -> bool {
-    parts
-        .values
-        .iter()
-        .any(|node| matches!(node.value, Value::Local(_)))
 }
 
 /// Bytes of one's own.
@@ -95,6 +90,7 @@ impl<'f, 't, 'w> Importer<'f, 't, 'w> {
             file,
             reading,
             clock,
+            remarks: Vec::new(alloc),
         })
     }
 
@@ -171,7 +167,7 @@ impl<'f, 't, 'w> Importer<'f, 't, 'w> {
         let marks = Marks {
             bounded: lowered.bounded,
             vacuity: joined || !keeps_vacuity(&lowered.property, &rewriting),
-            local: has_local(parts),
+            unknown_type: parts.has_unknown_type,
         };
         Ok((rewriting, marks))
     }
@@ -224,7 +220,15 @@ impl<'f, 't, 'w> Importer<'f, 't, 'w> {
         let mut spelling = Spelling::new(self.alloc, parts, scope, widths);
         let spelled = spelling.assertion(name.as_bytes(), opened, &rewriting)?;
         let text = self.read_back(spelled, name, &rewriting, opened)?;
-        Ok((text, marks))
+        let unknown_type = marks.unknown_type || spelling.has_unknown_width();
+        Ok((
+            text,
+            Marks {
+                bounded: marks.bounded,
+                vacuity: marks.vacuity,
+                unknown_type,
+            },
+        ))
     }
 
     /// What was opened as one assertion.
@@ -279,7 +283,7 @@ impl<'f, 't, 'w> Importer<'f, 't, 'w> {
             marks: Marks {
                 bounded: marks.bounded || more.bounded,
                 vacuity: marks.vacuity || more.vacuity,
-                local: marks.local,
+                unknown_type: marks.unknown_type || more.unknown_type,
             },
         }))
     }
@@ -328,7 +332,21 @@ impl<'f, 't, 'w> Importer<'f, 't, 'w> {
         if let Some(missing) = first_missing(self.alloc, opener.parts(), &self.reading)? {
             return Ok(unwritten(Fate::Unknown(missing)));
         }
-        self.spelled_or_halved(&mut opener.made, &opened, name, labels)
+        if let Some(cause) = first_of_other_width(self.alloc, opener.parts(), &self.reading)? {
+            return Ok(unwritten(Fate::Refused(cause)));
+        }
+        let told = self.spelled_or_halved(&mut opener.made, &opened, name, labels)?;
+        note_variables(
+            self.alloc,
+            &mut self.remarks,
+            opener.parts().variables.as_slice(),
+        )?;
+        Ok(told)
+    }
+
+    /// What is told beside the assertions.
+    pub(crate) fn into_remarks(self) -> Vec<Remark> {
+        self.remarks
     }
 
     /// What becomes of an assertion that is written under a name, if it can be.

@@ -34,6 +34,8 @@
 //! and what is told; and of local variables and `.triggered`, which property it is.
 #![tactic(auto)]
 
+mod blocks;
+mod declared;
 mod dump_signals;
 mod fault;
 mod halves;

@@ -46,9 +46,9 @@ fn push_notes(
         )?;
         push_note(messages, at, text)?;
     }
-    if outcome.marks.local {
+    if outcome.marks.unknown_type {
         let text = format!(in alloc;
-            "note {label} LocalType: the types of its local variables are not looked at"
+            "note {label} UnknownType: a type of an argument or a local variable is not looked at"
         )?;
         push_note(messages, at, text)?;
     }
@@ -74,13 +74,19 @@ fn scoped_message(
 /// What is told of a name that the dump lacks.
 fn unknown_message(alloc: Global, label: &str, missing: &Missing) -> Result<Message, AllocError> {
     let name = missing.name.as_str();
-    let text = match (&missing.scope, &missing.nearest) {
-        (Some(scope), _) => scoped_message(alloc, label, name, scope.as_str())?,
-        (None, Some(near)) => {
+    let text = match (&missing.lost, &missing.scope, &missing.nearest) {
+        (Some(scope), _, _) => {
+            let scope = scope.as_str();
+            format!(in alloc; "refused {label} UnknownName: {name}; the dump has no scope {scope}")?
+        }
+        (None, Some(scope), _) => scoped_message(alloc, label, name, scope.as_str())?,
+        (None, None, Some(near)) => {
             let near = near.as_str();
             format!(in alloc; "refused {label} UnknownName: {name}; did you mean {near}?")?
         }
-        (None, None) => format!(in alloc; "refused {label} UnknownName: the dump has no {name}")?,
+        (None, None, None) => {
+            format!(in alloc; "refused {label} UnknownName: the dump has no {name}")?
+        }
     };
     Ok(Message {
         at: missing.at,
@@ -103,6 +109,10 @@ fn fate_message(alloc: Global, outcome: &Outcome) -> Result<Option<Message>, All
         Fate::Left => Ok(Some(Message {
             at: outcome.at,
             text: format!(in alloc; "note {label} Cover: a cover decides nothing")?,
+        })),
+        Fate::Ungenerated => Ok(Some(Message {
+            at: outcome.at,
+            text: format!(in alloc; "note {label} Generate: its block is not generated")?,
         })),
         Fate::Refused(cause) => {
             let (code, hint) = (cause.code, cause.hint);
@@ -133,6 +143,12 @@ fn remark_message(alloc: Global, remark: &Remark) -> Result<Option<Message>, All
         NoteKind::Include => {
             format!(in alloc; "note file Include: it is not read: give the file before this one")?
         }
+        NoteKind::Parameters => format!(in alloc;
+            "note {text} Parameters: this instance's aren't looked at, but what the module says"
+        )?,
+        NoteKind::Variable => format!(in alloc;
+            "note {text} Declared: read as the dump's signal: --scope has to be this module's"
+        )?,
     };
     Ok(Some(Message {
         at: remark.at,

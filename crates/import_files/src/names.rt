@@ -30,6 +30,23 @@ fn scope_with(
     Ok(None)
 }
 
+/// The scope that is given, where a dump has no name in it.
+fn lost_scope(alloc: Global, reading: &Reading<'_>) -> Result<Option<String>, AllocError> {
+    let Some(scope) = reading.scope else {
+        return Ok(None);
+    };
+    let Ok(scope) = str::from_utf8(scope) else {
+        return Ok(None);
+    };
+    let front = format!(in alloc; "{scope}.")?;
+    for path in reading.names {
+        if path.as_str().starts_with(front.as_str()) {
+            return Ok(None);
+        }
+    }
+    Ok(Some(String::from_str(alloc, scope)?))
+}
+
 /// What is told of a name that the dump lacks.
 fn missing_name(
     alloc: Global,
@@ -50,10 +67,12 @@ fn missing_name(
         None => None,
     };
     let scope = scope_with(alloc, reading, name.as_str())?;
+    let lost = lost_scope(alloc, reading)?;
     Ok(Missing {
         name,
         nearest,
         scope,
+        lost,
         at,
     })
 }

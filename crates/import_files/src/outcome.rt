@@ -20,6 +20,8 @@ pub struct Missing {
     pub nearest: Option<String>,
     /// The first scope in which it has this very name, where no scope is given.
     pub scope: Option<String>,
+    /// The scope that is given, where the dump has nothing in it.
+    pub lost: Option<String>,
     /// The byte of the text at which it stands.
     pub at: usize,
 }
@@ -41,6 +43,8 @@ pub enum Fate {
     Halves(Half, Half),
     /// It is a `cover`, which decides nothing.
     Left,
+    /// Its block is not generated.
+    Ungenerated,
     Refused(Cause),
     /// It names a signal that the dump lacks.
     Unknown(Missing),
@@ -55,8 +59,9 @@ pub struct Marks {
     pub bounded: bool,
     /// Whether it may hold vacuously where the property doesn't, or the other way round.
     pub vacuity: bool,
-    /// Whether a local variable stands in it, whose type isn't looked at.
-    pub local: bool,
+    /// Whether an argument or a local variable has a type that isn't known, or whose width can't be
+    /// compared.
+    pub unknown_type: bool,
 }
 
 /// An assertion, and what becomes of it.

@@ -4,6 +4,7 @@ ghost use Rattle.std.specs.Prelude.{◌≡◌, IfOk, All, map, vec_len};
 ghost use Rattle.import_files.specs.Imported.{AreOfAll, OutcomeSays};
 ghost use Rattle.import_files.specs.Written.{FateSays};
 
+use crate::blocks::Blocks;
 use crate::fault::ImportFault;
 use crate::heads::{byte_of, called, label_before};
 use crate::importer::{Importer, Told, unwritten};
@@ -12,6 +13,7 @@ use crate::outcome::{Cause, Fate, Imported, Outcome, Remark};
 use crate::reading::Reading;
 use import_scopes::{File, Status};
 use import_tokens::{Expansions, Macros, Token};
+use import_unrolling::{digits_of, numbers_of, unrolled};
 use std::alloc::{AllocError, Global};
 
 /// Macros as the command line defines them: a name, or a name, `=` and its text.
@@ -49,6 +51,7 @@ fn told_of<'t>(
             None => Fate::Left,
         },
         Status::Covers => Fate::Left,
+        Status::Ungenerated => Fate::Ungenerated,
         Status::Refused(refusal) => Fate::Refused(Cause {
             code: refusal.code(),
             hint: refusal.hint(),
@@ -65,6 +68,7 @@ fn outcome_of<'t>(
     importer: &mut Importer<'_, 't, '_>,
     file: &File<'t>,
     labels: &mut Labels,
+    blocks: &Blocks<'t>,
     word: usize,
     status: Status,
     number: usize,
@@ -74,13 +78,16 @@ fn outcome_of<'t>(
     ensures kept { importer.new.reading ≡ importer.old.reading }
 {
     let token = label_before(tokens, word);
-    let label = called(alloc, token, number)?;
+    let label = match token {
+        Some(_) => blocks.labelled(alloc, called(alloc, token, number)?.as_str())?,
+        None => called(alloc, token, number)?,
+    };
     let at = match token {
         Some(token) => token.at,
         None => byte_of(tokens, word),
     };
     let name = match status {
-        Status::Covers => String::from_str(alloc, label.as_str())?,
+        Status::Covers | Status::Ungenerated => String::from_str(alloc, label.as_str())?,
         _ => labels.take(alloc, label.as_str())?,
     };
     let first = byte_of(tokens, word);
@@ -95,46 +102,54 @@ fn outcome_of<'t>(
     })
 }
 
-/// All assertions, in their order; a `cover` has no number.
+/// All assertions, in their order, and which signals of the file they read; a `cover` has no
+/// number.
 fn outcomes_of<'t>(
     alloc: Global,
     tokens: &'t [Token<'t>],
     file: &File<'t>,
     reading: &Reading<'_>,
-) -> Result<Vec<Outcome>, AllocError>
+) -> Result<(Vec<Outcome>, Vec<Remark>), AllocError>
     requires { vec_len file.now.statuses ≡ vec_len file.now.words }
-    ensures words { IfOk result (λ all. map (λ one. one.word) all.items ≡ file.now.words.items) }
+    ensures words { IfOk result (λ all. map (λ one. one.word) all.0.items ≡ file.now.words.items) }
     ensures said { IfOk result (λ all.
-        All (OutcomeSays reading.now.bound) all.items) }
+        All (OutcomeSays reading.now.bound) all.0.items) }
 {
     let mut importer = Importer::new(alloc, file, *reading)?;
     let mut labels = Labels::new(alloc);
+    let mut blocks = Blocks::new(alloc);
     let mut outcomes = Vec::new(alloc);
     let mut number = 1usize;
     for place in 0..file.words.len() {
         let word = file.words[place];
         let status = file.statuses[place];
+        blocks.pass(tokens, word)?;
         let outcome = outcome_of(
             alloc,
             tokens,
             &mut importer,
             file,
             &mut labels,
+            &blocks,
             word,
             status,
             number,
         )?;
         outcomes.push(outcome)?;
-        if !matches!(status, Status::Covers) {
+        if !matches!(status, Status::Covers | Status::Ungenerated) {
             number = number.saturating_add(1);
         }
     }
-    Ok(outcomes)
+    Ok((outcomes, importer.into_remarks()))
 }
 
-/// What is told beside the assertions.
-fn remarks_of(alloc: Global, file: &File<'_>) -> Result<Vec<Remark>, AllocError> {
-    let mut remarks = Vec::new(alloc);
+/// What is told beside the assertions, after some of that.
+fn remarks_of(
+    alloc: Global,
+    file: &File<'_>,
+    first: Vec<Remark>,
+) -> Result<Vec<Remark>, AllocError> {
+    let mut remarks = first;
     for note in file.notes.as_slice() {
         let text = match str::from_utf8(note.text) {
             Ok(text) => String::from_str(alloc, text)?,
@@ -161,17 +176,21 @@ pub fn imported(
     defines: &[String],
     reading: &Reading<'_>,
 ) -> Result<Imported, ImportFault>
-    // Each word of the text that begins an assertion has one outcome, in their order; each text
-    // that is written says, under the label that is told, the exact rewriting of the property that
-    // what was opened means, or two texts do of two properties that are together what it means.
+    // Each word of the text that begins an assertion has one outcome, in their order, or, in a
+    // generate loop, one for each turn; each text that is written says, under the label that is
+    // told, the exact rewriting of the property that what was opened means, or two texts do of two
+    // properties that are together what it means.
     ensures each { IfOk result (λ all.
         AreOfAll text.now reading.now.bound all.outcomes.items) }
 {
     let mut macros = macros_of(alloc, defines)?;
     let expansions = Expansions::of(alloc, text.as_bytes(), &mut macros)?;
-    let tokens = expansions.tokens(alloc)?;
+    let read = expansions.tokens(alloc)?;
+    let digits = digits_of(alloc)?;
+    let numbers = numbers_of(alloc, digits.as_slice())?;
+    let tokens = unrolled(alloc, read.as_slice(), numbers.as_slice())?;
     let file = File::of(alloc, tokens.as_slice())?;
-    let outcomes = outcomes_of(alloc, tokens.as_slice(), &file, reading)?;
-    let remarks = remarks_of(alloc, &file)?;
+    let (outcomes, declared) = outcomes_of(alloc, tokens.as_slice(), &file, reading)?;
+    let remarks = remarks_of(alloc, &file, declared)?;
     Ok(Imported { outcomes, remarks })
 }

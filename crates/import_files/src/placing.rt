@@ -65,7 +65,11 @@ fn written_len(fate: &Fate) -> usize
     match fate {
         Fate::Written(text) => text.len(),
         Fate::Halves(first, second) => first.text.len() + second.text.len(),
-        Fate::Left | Fate::Refused(_) | Fate::Unknown(_) | Fate::OtherClock(_) => 0,
+        Fate::Left
+        | Fate::Ungenerated
+        | Fate::Refused(_)
+        | Fate::Unknown(_)
+        | Fate::OtherClock(_) => 0,
     }
 }
 
@@ -77,8 +81,11 @@ fn added_to(alloc: Global, outcomes: &[Outcome]) -> Result<Vec<Added>, AllocErro
     let mut at = 0;
     for outcome in outcomes {
         at = at.max(outcome.at);
-        let count = written_len(&outcome.fate);
-        all.push(Added { at, count })?;
+        all.push(Added {
+            at,
+            count: written_len(&outcome.fate),
+            from: outcome.at,
+        })?;
     }
     Ok(all)
 }

@@ -18,7 +18,11 @@ pub(crate) fn push_written(text: &mut Vec<u8>, fate: &Fate) -> Result<(), AllocE
             text.extend_from_slice(first.text.as_slice())?;
             text.extend_from_slice(second.text.as_slice())?;
         }
-        Fate::Left | Fate::Refused(_) | Fate::Unknown(_) | Fate::OtherClock(_) => {}
+        Fate::Left
+        | Fate::Ungenerated
+        | Fate::Refused(_)
+        | Fate::Unknown(_)
+        | Fate::OtherClock(_) => {}
     }
     Ok(())
 }

@@ -98,7 +98,7 @@ impl Lowering {
         }
     }
 
-    /// The same of selects and spans; the other forms have no parts.
+    /// The same of selects, spans and types; the other forms have no parts.
     #[cycle(sequences)]
     fn written_select<'t>(
         &mut self,
@@ -113,7 +113,9 @@ impl Lowering {
         let (base, other) = match value {
             Value::Span(first, second) | Value::Index(first, second) => (first, second),
             Value::PartUp(first, second, _) | Value::PartDown(first, second, _) => (first, second),
-            Value::Slice(first, _, _) => (first, first),
+            Value::Slice(first, _, _) | Value::Cast(_, first) | Value::Assigned(_, first) => {
+                (first, first)
+            }
             _ => return Ok(id),
         };
         let left = self.written(parts, base, depth - 1)?;
@@ -124,6 +126,8 @@ impl Lowering {
             Value::PartUp(_, _, width) => Value::PartUp(left, right, width),
             Value::PartDown(_, _, width) => Value::PartDown(left, right, width),
             Value::Slice(_, high, low) => Value::Slice(left, high, low),
+            Value::Cast(own, _) => Value::Cast(own, left),
+            Value::Assigned(own, _) => Value::Assigned(own, left),
             kept => kept,
         };
         self.anew(parts, id, left != base || right != other, made)

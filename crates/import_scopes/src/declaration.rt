@@ -23,6 +23,14 @@ pub enum DeclarationKind {
     Member(Option<DeclarationId>),
     /// A clocking block, whose body is its event, after the `@` (14.3).
     Clocking,
+    /// A type of a name: its formals are the tokens of the type, its body is the ranges after the
+    /// name (6.18).
+    Type,
+    /// A port, as a variable is declared (23.2.2).
+    Port,
+    /// A net or a variable: its formals are the tokens of its type, its body is the ranges after
+    /// its name (6.7, 6.8, 7.4.2).
+    Variable,
 }
 
 /// A declaration of a scope.

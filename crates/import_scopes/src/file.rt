@@ -3,6 +3,7 @@
 ghost use Rattle.std.specs.Prelude.{◌≡◌, IfOk, length, vec_len};
 ghost use Rattle.import_scopes.specs.Words.{word_places};
 
+use crate::construct::Construct;
 use crate::declaration::{Declaration, DeclarationId};
 use crate::names::Names;
 use crate::scope::{Scope, ScopeId};
@@ -24,6 +25,8 @@ pub struct File<'t> {
     pub declarations: Vec<Declaration<'t>>,
     pub assertions: Vec<Assertion<'t>>,
     pub notes: Vec<Note<'t>>,
+    /// The generate loops and conditions that are not written out, in order, none inside another.
+    pub constructs: Vec<Construct>,
     names: Names,
 }
 
@@ -49,6 +52,30 @@ fn statuses_of(alloc: Global, words: &[usize], marks: &[Mark]) -> Result<Vec<Sta
     Ok(statuses)
 }
 
+/// Whether an assertion stands in a module or the like of that name, and not further inside.
+fn has_assertion(scopes: &[Scope], assertions: &[Assertion], name: &[u8]) -> bool {
+    assertions.iter().any(|assertion| match scopes.get(assertion.scope.0) {
+        Some(scope) => scope.name == name,
+        None => false,
+    })
+}
+
+/// Notes, and after them those on instances of modules that have assertions.
+fn with_instances<'t>(
+    notes: Vec<Note<'t>>,
+    instances: &[Note<'t>],
+    scopes: &[Scope],
+    assertions: &[Assertion],
+) -> Result<Vec<Note<'t>>, AllocError> {
+    let mut all = notes;
+    for instance in instances {
+        if has_assertion(scopes, assertions, instance.text) {
+            all.push(*instance)?;
+        }
+    }
+    Ok(all)
+}
+
 impl<'t> File<'t> {
     /// The items of a file's tokens. Each token that begins an assertion has its status, whatever
     /// stands round it.
@@ -64,8 +91,16 @@ impl<'t> File<'t> {
             declarations,
             assertions,
             notes,
+            constructs,
+            instances,
             marks,
         } = walker.into_found();
+        let notes = with_instances(
+            notes,
+            instances.as_slice(),
+            scopes.as_slice(),
+            assertions.as_slice(),
+        )?;
         let statuses = statuses_of(alloc, words.as_slice(), marks.as_slice())?;
         let names = Names::of(alloc, declarations.as_slice())?;
         Ok(File {
@@ -75,6 +110,7 @@ impl<'t> File<'t> {
             declarations,
             assertions,
             notes,
+            constructs,
             names,
         })
     }

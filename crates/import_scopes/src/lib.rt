@@ -12,9 +12,11 @@
 //!
 //! Each token that begins an assertion has one status, whatever stands round it; so none is lost.
 //! One in a procedure, a function, a class or an action block, and an immediate one, is refused, as
-//! is one in a generate block. A module, an interface, a program, a package or a checker is a
-//! scope. All else is passed over: ports, variables, instances, statements. Where an item can't be
-//! read, the walk goes on after it, at the latest at the next word that begins or ends one.
+//! is one in a generate construct. `file.constructs` has the loops and conditions among these, for
+//! `import_unrolling`, which writes blocks for them; such a block is a scope, or is not generated.
+//! A module, an interface, a program, a package or a checker is a scope. All else is passed over:
+//! ports, variables, instances, statements. Where an item can't be read, the walk goes on after it,
+//! at the latest at the next word that begins or ends one.
 //!
 //! The definition: which tokens begin assertions, in `specs/Words.antt`.
 //!
@@ -22,16 +24,24 @@
 //! The bodies of assertions and declarations are tokens, which `import_trees` reads.
 #![tactic(auto)]
 
+mod construct;
 mod declaration;
 mod file;
 mod names;
 mod passing;
 mod scope;
 mod status;
+mod variables;
 mod walker;
 mod words;
 
+pub use construct::{Block, Construct, block_at};
 pub use declaration::{Declaration, DeclarationId, DeclarationKind};
 pub use file::File;
+pub use passing::{
+    after_name, ends_scope, is_keyword, is_symbol, kind_at, past_brackets, past_statement,
+    value_end,
+};
 pub use scope::{DefaultClock, Scope, ScopeId};
 pub use status::{Assertion, AssertionId, Note, NoteKind, Status};
+pub use words::begins_assertion;

@@ -5,21 +5,24 @@ ghost use Rattle.std.specs.Prelude.{◌≤◌, length};
 use crate::words::begins_assertion;
 use import_tokens::{Keyword, Kind, Symbol, Token};
 
-pub(crate) fn kind_at(tokens: &[Token], index: usize) -> Kind {
+/// What the token at a place is; the end where none is.
+pub fn kind_at(tokens: &[Token], index: usize) -> Kind {
     match tokens.get(index) {
         Some(token) => token.kind,
         None => Kind::End,
     }
 }
 
-pub(crate) fn is_symbol(tokens: &[Token], index: usize, symbol: Symbol) -> bool {
+/// Whether a symbol stands there.
+pub fn is_symbol(tokens: &[Token], index: usize, symbol: Symbol) -> bool {
     match kind_at(tokens, index) {
         Kind::Symbol(own) => own == symbol,
         _ => false,
     }
 }
 
-pub(crate) fn is_keyword(tokens: &[Token], index: usize, keyword: Keyword) -> bool {
+/// Whether a keyword stands there.
+pub fn is_keyword(tokens: &[Token], index: usize, keyword: Keyword) -> bool {
     match kind_at(tokens, index) {
         Kind::Keyword(own) => own == keyword,
         _ => false,
@@ -27,7 +30,7 @@ pub(crate) fn is_keyword(tokens: &[Token], index: usize, keyword: Keyword) -> bo
 }
 
 /// Whether a word ends a scope.
-pub(crate) fn ends_scope(kind: Kind) -> bool {
+pub fn ends_scope(kind: Kind) -> bool {
     matches!(
         kind,
         Kind::Keyword(
@@ -71,7 +74,7 @@ fn deeper(depth: u64, kind: Kind) -> u64 {
 }
 
 /// The place after the bracket that closes the one which stands there; the end where none does.
-pub(crate) fn past_brackets(tokens: &[Token], open: usize) -> usize
+pub fn past_brackets(tokens: &[Token], open: usize) -> usize
     ensures { result ≤ length tokens.now }
 {
     let mut depth = 0u64;
@@ -85,7 +88,7 @@ pub(crate) fn past_brackets(tokens: &[Token], open: usize) -> usize
 }
 
 /// The place of the comma, the semicolon or the closing bracket at which a value ends.
-pub(crate) fn value_end(tokens: &[Token], start: usize) -> usize
+pub fn value_end(tokens: &[Token], start: usize) -> usize
     ensures { result ≤ length tokens.now }
 {
     let mut depth = 0u64;
@@ -103,6 +106,27 @@ pub(crate) fn value_end(tokens: &[Token], start: usize) -> usize
         depth = deeper(depth, kind);
     }
     tokens.len()
+}
+
+/// The place of the first `=` from there on, if it stands before a comma, a semicolon or a closing
+/// bracket; else of these.
+pub(crate) fn value_start(tokens: &[Token], start: usize) -> usize {
+    for index in start..value_end(tokens, start) {
+        if is_symbol(tokens, index, Symbol::Assign) {
+            return index;
+        }
+    }
+    value_end(tokens, start)
+}
+
+/// The first place of a symbol between two places, or the second of them.
+pub(crate) fn first_symbol(tokens: &[Token], start: usize, end: usize, symbol: Symbol) -> usize {
+    for index in start..end {
+        if is_symbol(tokens, index, symbol) {
+            return index;
+        }
+    }
+    end
 }
 
 /// The place after the semicolon of an item, or at what begins or ends another one first.
@@ -153,7 +177,7 @@ fn ends_statement(kind: Kind, blocks: u64, brackets: u64) -> bool {
 }
 
 /// The place after a statement, with its `else` (12.4) and the name of its block.
-pub(crate) fn past_statement(tokens: &[Token], start: usize) -> usize
+pub fn past_statement(tokens: &[Token], start: usize) -> usize
     ensures { result ≤ length tokens.now }
 {
     let mut blocks = 0u64;
@@ -178,7 +202,7 @@ pub(crate) fn past_statement(tokens: &[Token], start: usize) -> usize
 }
 
 /// The place after a colon and a name, if they stand there (9.3.4).
-pub(crate) fn after_name(tokens: &[Token], index: usize) -> usize
+pub fn after_name(tokens: &[Token], index: usize) -> usize
     ensures { result ≤ length tokens.now }
 {
     let named = is_symbol(tokens, index, Symbol::Colon);

@@ -15,13 +15,18 @@ pub enum DefaultClock<'t> {
     Block(&'t [u8]),
 }
 
-/// A module, an interface, a program, a package or a checker, or the file. Its defaults hold in all
-/// of it, wherever they stand (16.15).
+/// A module, an interface, a program, a package or a checker, the file, or a block that was written
+/// for a generate construct. Its defaults hold in all of it, wherever they stand (16.15).
 #[derive(Clone, Copy)]
 pub struct Scope<'t> {
+    /// The name of a module or the like, where nothing stands between that word and it; else
+    /// nothing that counts.
+    pub name: &'t [u8],
     /// The scope around it.
     pub around: Option<ScopeId>,
     pub clock: Option<DefaultClock<'t>>,
     /// The tokens of the expression of `default disable iff`.
     pub disable: Option<&'t [Token<'t>]>,
+    /// Whether it is a block.
+    pub is_block: bool,
 }

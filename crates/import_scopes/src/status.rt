@@ -25,6 +25,9 @@ pub enum Status {
     Read(AssertionId),
     /// A `cover`, which decides nothing.
     Covers,
+    /// It stands in a block that is not generated: its condition is false, or its loop has no turn
+    /// (27.4, 27.5).
+    Ungenerated,
     Refused(Refusal),
 }
 
@@ -47,6 +50,11 @@ pub enum NoteKind {
     UnknownMacro,
     /// An included file is not read.
     Include,
+    /// An instance gives parameters to a module of the file that has assertions; they aren't looked
+    /// at.
+    Parameters,
+    /// A net or a variable that the file declares is read as a signal.
+    Variable,
 }
 
 /// A note, at the byte of its token.

@@ -1,9 +1,10 @@
 //! From the front of a file to its end, item by item.
 
+use crate::construct::{Block, Construct, block_at};
 use crate::declaration::{Declaration, DeclarationId, DeclarationKind};
 use crate::passing::{
-    after_name, is_keyword, is_symbol, kind_at, past_action, past_brackets, past_item,
-    past_statement, past_word, value_end,
+    after_name, first_symbol, is_keyword, is_symbol, kind_at, past_action, past_brackets,
+    past_item, past_statement, past_word, value_end, value_start,
 };
 use crate::scope::{DefaultClock, Scope, ScopeId};
 use crate::status::{Assertion, AssertionId, Mark, Note, NoteKind, Status};
@@ -18,6 +19,9 @@ pub(crate) struct Found<'t> {
     pub declarations: Vec<Declaration<'t>>,
     pub assertions: Vec<Assertion<'t>>,
     pub notes: Vec<Note<'t>>,
+    pub constructs: Vec<Construct>,
+    /// Instances that give parameters, as notes on them.
+    pub instances: Vec<Note<'t>>,
     pub marks: Vec<Mark>,
 }
 
@@ -25,7 +29,7 @@ pub(crate) struct Found<'t> {
 #[derive(Drop)]
 pub(crate) struct Walker<'t> {
     tokens: &'t [Token<'t>],
-    at: usize,
+    pub(crate) at: usize,
     scope: ScopeId,
     found: Found<'t>,
 }
@@ -34,9 +38,11 @@ impl<'t> Walker<'t> {
     pub(crate) fn new(alloc: Global, tokens: &'t [Token<'t>]) -> Result<Walker<'t>, AllocError> {
         let mut scopes = Vec::new(alloc);
         scopes.push(Scope {
+            name: b"",
             around: None,
             clock: None,
             disable: None,
+            is_block: false,
         })?;
         Ok(Walker {
             tokens,
@@ -47,9 +53,16 @@ impl<'t> Walker<'t> {
                 declarations: Vec::new(alloc),
                 assertions: Vec::new(alloc),
                 notes: Vec::new(alloc),
+                constructs: Vec::new(alloc),
+                instances: Vec::new(alloc),
                 marks: Vec::new(alloc),
             },
         })
+    }
+
+    /// All tokens.
+    pub(crate) fn tokens(&self) -> &'t [Token<'t>] {
+        self.tokens
     }
 
     /// All that was found.
@@ -71,12 +84,12 @@ impl<'t> Walker<'t> {
     }
 
     /// The tokens from one place up to another.
-    fn between(&self, from: usize, to: usize) -> &'t [Token<'t>] {
+    pub(crate) fn between(&self, from: usize, to: usize) -> &'t [Token<'t>] {
         self.tokens.get(from..to).unwrap_or(&[])
     }
 
     /// The text of a token.
-    fn text(&self, index: usize) -> &'t [u8] {
+    pub(crate) fn text(&self, index: usize) -> &'t [u8] {
         match self.tokens.get(index) {
             Some(token) => token.text,
             None => b"",
@@ -92,16 +105,16 @@ impl<'t> Walker<'t> {
     }
 
     /// Whether a name stands there.
-    fn is_name(&self, index: usize) -> bool {
+    pub(crate) fn is_name(&self, index: usize) -> bool {
         matches!(kind_at(self.tokens, index), Kind::Word | Kind::Escaped)
     }
 
     /// Goes to a place, and says what becomes of the assertions on the way.
-    fn pass(&mut self, to: usize, refusal: Refusal) -> Result<(), AllocError> {
+    fn pass(&mut self, to: usize, status: Status) -> Result<(), AllocError> {
         self.found.marks.push(Mark {
             from: self.at,
             to,
-            status: Status::Refused(refusal),
+            status,
         })?;
         self.at = to;
         Ok(())
@@ -110,6 +123,7 @@ impl<'t> Walker<'t> {
     /// One item of a scope (annex A.1.4).
     fn item(&mut self, kind: Kind) -> Result<(), AllocError> {
         match kind {
+            _ if self.declares_variables(kind) => self.variables(),
             Kind::Keyword(keyword) => self.keyword_item(keyword),
             Kind::Macro(_) => self.macro_item(),
             Kind::Include => {
@@ -120,6 +134,12 @@ impl<'t> Walker<'t> {
             _ if self.labels_macro() => {
                 self.at = self.at.saturating_add(2);
                 self.macro_item()
+            }
+            _ if is_symbol(self.tokens, self.at.saturating_add(1), Symbol::Hash) => {
+                let note = self.note_of(NoteKind::Parameters);
+                self.found.instances.push(note)?;
+                self.at = past_item(self.tokens, self.at);
+                Ok(())
             }
             _ => {
                 self.at = past_item(self.tokens, self.at);
@@ -180,11 +200,44 @@ impl<'t> Walker<'t> {
                 self.at = past_item(self.tokens, self.at);
                 Ok(())
             }
-            Keyword::Generate | Keyword::EndGenerate | Keyword::End => {
+            Keyword::Generate | Keyword::EndGenerate => {
                 self.at = after_name(self.tokens, self.at.saturating_add(1));
                 Ok(())
             }
+            Keyword::End => {
+                self.close_block();
+                Ok(())
+            }
+            Keyword::For | Keyword::If => self.construct(),
+            Keyword::Begin => self.begun(),
             _ => self.left_out(keyword),
+        }
+    }
+
+    /// A generate loop or a condition, which is left out.
+    fn construct(&mut self) -> Result<(), AllocError> {
+        let end = past_statement(self.tokens, self.at);
+        self.found.constructs.push(Construct {
+            at: self.at,
+            end,
+            scope: self.scope,
+        })?;
+        self.pass(end, Status::Refused(Refusal::Generate))
+    }
+
+    /// A block. What follows is its scope, if it was written for a generate construct.
+    fn begun(&mut self) -> Result<(), AllocError> {
+        match block_at(self.tokens, self.at) {
+            Some(Block::Turn | Block::Chosen) => {
+                self.push_scope(b"", true)?;
+                self.at = after_name(self.tokens, self.at.saturating_add(1));
+                Ok(())
+            }
+            Some(Block::Left) => {
+                let end = past_statement(self.tokens, self.at);
+                self.pass(end, Status::Ungenerated)
+            }
+            None => self.left_out(Keyword::Begin),
         }
     }
 
@@ -203,24 +256,33 @@ impl<'t> Walker<'t> {
             | Keyword::AlwaysLatch
             | Keyword::Initial
             | Keyword::Final => past_statement(self.tokens, start),
-            Keyword::For | Keyword::If | Keyword::Case | Keyword::Begin | Keyword::Else => {
+            Keyword::Case | Keyword::Begin | Keyword::Else => {
                 let end = past_statement(self.tokens, self.at);
-                return self.pass(end, Refusal::Generate);
+                return self.pass(end, Status::Refused(Refusal::Generate));
             }
             _ => past_item(self.tokens, self.at),
         };
-        self.pass(end, Refusal::Immediate)
+        self.pass(end, Status::Refused(Refusal::Immediate))
+    }
+
+    /// Goes into a scope of a name that begins there.
+    fn push_scope(&mut self, name: &'t [u8], is_block: bool) -> Result<(), AllocError> {
+        let place = self.found.scopes.len();
+        self.found.scopes.push(Scope {
+            name,
+            around: Some(self.scope),
+            clock: None,
+            disable: None,
+            is_block,
+        })?;
+        self.scope = ScopeId(place);
+        Ok(())
     }
 
     /// The header of a module or the like, with its parameters; what follows is its scope.
     fn open_scope(&mut self) -> Result<(), AllocError> {
-        let place = self.found.scopes.len();
-        self.found.scopes.push(Scope {
-            around: Some(self.scope),
-            clock: None,
-            disable: None,
-        })?;
-        self.scope = ScopeId(place);
+        let name = self.text(self.at.saturating_add(1));
+        self.push_scope(name, false)?;
         let end = past_item(self.tokens, self.at);
         for index in self.at..end {
             if let Kind::Keyword(Keyword::Parameter | Keyword::LocalParam) = kind_at(
@@ -230,15 +292,38 @@ impl<'t> Walker<'t> {
                 let _end = self.constants(index.saturating_add(1))?;
             }
         }
+        self.ports(self.at, end)?;
         self.at = end;
         Ok(())
     }
 
+    /// The scope round the one that is open, if that is a block or not, as is asked.
+    fn scope_round(&self, is_block: bool) -> Option<ScopeId> {
+        let scope = self.found.scopes.get(self.scope.0)?;
+        if scope.is_block == is_block {
+            return scope.around;
+        }
+        None
+    }
+
+    /// The word that ends a module or the like; a block that is open there ends, too.
     fn close_scope(&mut self) {
-        if let Some(scope) = self.found.scopes.get(self.scope.0) {
-            if let Some(around) = scope.around {
-                self.scope = around;
+        for _ in 0..self.found.scopes.len() {
+            match self.scope_round(true) {
+                Some(around) => self.scope = around,
+                None => break,
             }
+        }
+        if let Some(around) = self.scope_round(false) {
+            self.scope = around;
+        }
+        self.at = after_name(self.tokens, self.at.saturating_add(1));
+    }
+
+    /// The word that ends a block.
+    fn close_block(&mut self) {
+        if let Some(around) = self.scope_round(true) {
+            self.scope = around;
         }
         self.at = after_name(self.tokens, self.at.saturating_add(1));
     }
@@ -271,7 +356,7 @@ impl<'t> Walker<'t> {
     }
 
     /// Keeps a declaration whose name stands at a place.
-    fn declare(
+    pub(crate) fn declare(
         &mut self,
         kind: DeclarationKind,
         name: usize,
@@ -336,12 +421,13 @@ impl<'t> Walker<'t> {
         Ok(())
     }
 
-    /// The members of an enumeration (6.19); other types are left out.
+    /// A type of a name, and the members of an enumeration (6.18, 6.19).
     fn type_declared(&mut self) -> Result<(), AllocError> {
         let end = past_item(self.tokens, self.at);
         let first = self.at.saturating_add(2);
+        self.declarators(DeclarationKind::Type, self.at.saturating_add(1), end)?;
         if is_keyword(self.tokens, self.at.saturating_add(1), Keyword::Enum) {
-            let open = first_brace(self.tokens, first, end);
+            let open = first_symbol(self.tokens, first, end, Symbol::OpenBrace);
             let own = self.between(first, open);
             self.members(own, open.saturating_add(1))?;
         }
@@ -498,13 +584,18 @@ impl<'t> Walker<'t> {
         None
     }
 
-    fn note(&mut self, kind: NoteKind) -> Result<(), AllocError> {
+    /// A note on the next token.
+    fn note_of(&self, kind: NoteKind) -> Note<'t> {
         let here = self.at;
-        let note = Note {
+        Note {
             kind,
             text: self.text(here),
             at: self.place(here),
-        };
+        }
+    }
+
+    fn note(&mut self, kind: NoteKind) -> Result<(), AllocError> {
+        let note = self.note_of(kind);
         self.found.notes.push(note)?;
         Ok(())
     }
@@ -518,25 +609,4 @@ impl<'t> Walker<'t> {
         self.at = if more { end.saturating_add(1) } else { end };
         Ok(())
     }
-}
-
-/// The place of the first `=` from there on, if it stands before a comma, a semicolon or a closing
-/// bracket; else of these.
-fn value_start(tokens: &[Token], start: usize) -> usize {
-    for index in start..value_end(tokens, start) {
-        if is_symbol(tokens, index, Symbol::Assign) {
-            return index;
-        }
-    }
-    value_end(tokens, start)
-}
-
-/// The place of the first brace between two places, or the second of them.
-fn first_brace(tokens: &[Token], start: usize, end: usize) -> usize {
-    for index in start..end {
-        if is_symbol(tokens, index, Symbol::OpenBrace) {
-            return index;
-        }
-    }
-    end
 }

@@ -12,6 +12,11 @@ pub struct Spelling<'p, 't> {
 }
 
 impl<'p, 't> Spelling<'p, 't> {
+    /// Whether a type was passed over in the last text, because a width isn't known.
+    pub fn has_unknown_width(&self) -> bool {
+        self.terms.has_unknown_width()
+    }
+
     /// Spells what was opened. A scope, where one is given, stands before each path whose first
     /// word isn't the scope's first. The widths are those of signals by their whole paths.
     pub fn new(

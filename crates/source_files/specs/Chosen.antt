@@ -1,6 +1,6 @@
 -- A text with some of its assertions alone.
-use Rattle.std.specs.Prelude.{◌≡◌, ℕ, ◌+◌, ◌-◌, List, [], ◌∷◌, ◌++◌, map, take, drop, length, max}
-use Rattle.std.specs.Prelude.{Bool, not, ◌&&◌, if◌then◌else◌, nat_le, Option, None, Ok}
+use Rattle.std.specs.Prelude.{◌≡◌, ℕ, ◌+◌, ◌-◌, List, [], ◌∷◌, ◌++◌, map, take, drop, length}
+use Rattle.std.specs.Prelude.{Bool, not, ◌&&◌, if◌then◌else◌, nat_lt, Option, None, Ok}
 use Rattle.std.specs.Prelude.{String, string_bytes, codes}
 use Rattle.std.specs.List.{list_any, position_from}
 use Rattle.std.specs.declared.alloc.Global.{Global}
@@ -44,7 +44,7 @@ abbrev pub added_to : List (String Global) → List Head → List Added
 added_to patterns [] = []
 added_to patterns (h ∷ hs) =
     if h.is_made && is_meant patterns h.name
-    then record { at = h.first; count = length h.name + 1 } ∷ added_to patterns hs
+    then record { at = h.first; count = length h.name + 1; from = h.first } ∷ added_to patterns hs
     else added_to patterns hs
 
 -- whether a pattern means one of some assertions
@@ -55,11 +55,14 @@ is_named pattern hs = list_any (λ h. means pattern h.name) hs
 abbrev pub first_unmatched : List (String Global) → List Head → Option ℕ
 first_unmatched patterns hs = position_from (λ p. not (is_named (string_bytes p) hs)) 0 patterns
 
--- which byte of a text before a byte was after bytes had been added, in the order of their places
+-- which byte of a text before a byte was after bytes had been added, in the order of their places:
+-- for one of those, the one that is told for them
 abbrev pub place_before : List Added → ℕ → ℕ
 place_before [] at = at
 place_before (a ∷ added) at =
-    place_before added (if nat_le at a.at then at else max a.at (at - a.count))
+    if nat_lt at a.at
+    then at
+    else if nat_lt (at - a.at) a.count then a.from else place_before added (at - a.count)
 
 -- What is left of a text that has tokens, by the names of its assertions.
 pub record IsChosen (text : List ℕ) (patterns : List (String Global)) (choice : Choice) :

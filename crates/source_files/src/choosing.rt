@@ -138,6 +138,7 @@ fn added_to(alloc: Global, patterns: &[String], named: &[Named]) -> Result<Vec<A
             all.push(Added {
                 at: one.first,
                 count: one.name.len() + 1,
+                from: one.first,
             })?;
         }
     }

@@ -17,6 +17,7 @@ fn read(alloc: Global, text: &[u8]) -> Result<Vec<u8>, TokenFault> {
         let code = match status {
             Status::Read(_) => "Read",
             Status::Covers => "Covers",
+            Status::Ungenerated => "Ungenerated",
             Status::Refused(refusal) => refusal.code(),
         };
         out.extend_from_slice(code.as_bytes())?;
@@ -47,7 +48,7 @@ fn case(row: usize) -> (&'static [u8], &'static [u8]) {
         1 => (
             b"module m #(parameter N = 3, logic [1:0] K = 2'd1) (input a); localparam P = N + \
               1, Q = 2; endmodule : m",
-            b"N=3 K=2'd1 P=N+1 Q=2 ",
+            b"N=3 K=2'd1 a= P=N+1 Q=2 ",
         ),
         2 => (
             b"property p(a, b = 1); @(posedge c) a |-> b; endproperty : p sequence s; x ##1 \
@@ -67,7 +68,7 @@ fn case(row: usize) -> (&'static [u8], &'static [u8]) {
         5 => (
             b"typedef enum logic [1:0] {A, B = 2, C} t; let f(x) = x + 1; typedef struct { \
               int y; } u;",
-            b"A= B=2 C= f=x+1 ",
+            b"t= A= B=2 C= f=x+1 u= ",
         ),
         6 => (
             b"for (genvar i = 0; i < 2; i++) begin : g assert property (x[i]); end if (N) \
@@ -77,7 +78,7 @@ fn case(row: usize) -> (&'static [u8], &'static [u8]) {
         7 => (
             b"function f; assert (x); endfunction class k; assert property (z); endclass task \
               t; endtask foo bar; assert property (y);",
-            b"Immediate Immediate Read - ",
+            b"Immediate Immediate Read - bar= ",
         ),
         8 => (
             b"a: assert property (x) b: assert property (y); assert property x;",
@@ -88,6 +89,11 @@ fn case(row: usize) -> (&'static [u8], &'static [u8]) {
               clocking d @(posedge e); input x; endclocking : d",
             b"cb=(posedgeclk) d=(posedgee) ",
         ),
+        10 => (
+            b"wire [3:0] w, v = x + y; int i; logic mem [0:3]; dut #(2) u(.a(b)); state_t s; dut \
+              v2(a), v3(b); enum logic {A} e; input signed [7:0] n;",
+            b"w= v= i= mem=[0:3] s= e= n= ",
+        ),
         _ => (
             b"junk ( stray ; module m; endmodule `N(x) assert property (y);",
             b"Read - ",
@@ -97,7 +103,7 @@ fn case(row: usize) -> (&'static [u8], &'static [u8]) {
 
 #[test]
 fn finds_items(rt: HostRuntime) -> Result<(), Fail> {
-    for row in 0..11 {
+    for row in 0..12 {
         let (text, wanted) = case(row);
         let found = read(rt.alloc(), text)?;
         assert!(rt; found.as_slice() == wanted, "row {row}");

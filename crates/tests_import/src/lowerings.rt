@@ -49,7 +49,7 @@ fn member_at(parts: &Parts<'_>, place: usize) -> usize {
     }
 }
 
-/// A value, operators first; a signal by its first name.
+/// A value, operators first; a signal by its first name. Types are left out.
 fn put_value(out: &mut Vec<u8>, parts: &Parts<'_>, id: usize, depth: u8) -> Result<(), AllocError> {
     if depth == 0 {
         return put(out, b'?');
@@ -82,6 +82,9 @@ fn put_value(out: &mut Vec<u8>, parts: &Parts<'_>, id: usize, depth: u8) -> Resu
         Value::Concatenation(list) => {
             put(out, b'{')?;
             put_value(out, parts, member_at(parts, list.first), depth - 1)
+        }
+        Value::Cast(_, operand) | Value::Assigned(_, operand) => {
+            put_value(out, parts, operand.0, depth - 1)
         }
         _ => put(out, b'?'),
     }

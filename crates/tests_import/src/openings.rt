@@ -45,6 +45,7 @@ fn value_mark(value: Value) -> u8 {
         Value::Slice(_, _, _) => b's',
         Value::Index(_, _) => b'i',
         Value::Triggered(_) => b't',
+        Value::Cast(_, _) | Value::Assigned(_, _) => b'=',
         _ => b'o',
     }
 }
@@ -111,7 +112,7 @@ fn case(row: usize) -> (&'static [u8], &'static [u8]) {
         4 => (
             b"sequence s; int v; (a, v = d) ##1 (b == v); endsequence \
               assert property (@(posedge c) s |-> s);",
-            b"c  b := b ## b := b ## -> vv1vl+vv1vl+",
+            b"c  b := b ## b := b ## -> vv=1vl+vv=1vl+",
         ),
         5 => (
             b"typedef enum logic [1:0] {A, B = 2, C} t; localparam [3:0] K = 5; \
@@ -121,6 +122,11 @@ fn case(row: usize) -> (&'static [u8], &'static [u8]) {
         6 => (
             b"localparam W = 8, N = W > 4 ? $clog2(9) : 1; assert property (@(posedge c) a ##N b);",
             b"c  b b ## v884194144v",
+        ),
+        7 => (
+            b"localparam N = 4; sequence s(logic [N-1:0] x, y, int n); x ##n y; endsequence \
+              assert property (@(posedge c) s(a, b, 2));",
+            b"c  b b ## v44130=22v44130=",
         ),
         _ => (
             b"assert property (@(posedge c) v[3:1] && w[i]);",
@@ -170,7 +176,7 @@ fn refusal(row: usize) -> (&'static [u8], &'static [u8]) {
 
 #[test]
 fn opens_assertions(rt: HostRuntime) -> Result<(), Fail> {
-    for row in 0..8 {
+    for row in 0..9 {
         let (text, wanted) = case(row);
         let found = read(rt.alloc(), text)?;
         assert!(rt; found.as_slice() == wanted, "row {row}");

@@ -117,7 +117,61 @@ const LOCAL: &str = "property p;\n  logic v;\n  (a, v = b) |=> v;\nendproperty\n
 fn local_variables_are_noted(rt: HostRuntime) -> Result<(), Fail> {
     let found = said(rt.alloc(), LOCAL, false)?;
     assert!(rt; found.status == 0);
-    assert!(rt; found.told.as_str().starts_with("f:5:1: note r LocalType: "));
+    assert!(rt;
+        found
+            .told
+            .as_str()
+            .starts_with("f:5:1: note r UnknownType: ")
+    );
+    Ok(())
+}
+
+#[test]
+fn turns_of_generate_loops(rt: HostRuntime) -> Result<(), Fail> {
+    let text = "localparam N = 2; default clocking k @(posedge c); endclocking\n\
+        for (genvar i = 0; i < N; i++) begin : g\n\
+        localparam M = i + 1;\n\
+        a: assert property (v[i] |-> w == M);\n\
+        for (genvar j = 5; j > 4; j--) begin b: assert property (u[j]); end\n\
+        assert property (x[i]);\n\
+        if (i == 1) begin d: assert property (y); end\n\
+        else begin e: assert property (z); end\n\
+        end\n";
+    let found = said(rt.alloc(), text, false)?;
+    assert!(rt;
+        found.text.as_str()
+            == "a_0: assert property (@(posedge c) v[0] |-> w == 1);\n\
+        b_0_5: assert property (@(posedge c) u[5]);\n\
+        assert_3: assert property (@(posedge c) x[0]);\n\
+        e_0: assert property (@(posedge c) z);\n\
+        a_1: assert property (@(posedge c) v[1] |-> w == 2);\n\
+        b_1_5: assert property (@(posedge c) u[5]);\n\
+        assert_7: assert property (@(posedge c) x[1]);\n\
+        d_1: assert property (@(posedge c) y);\n"
+    );
+    assert!(rt; found.status == 0);
+    assert!(rt;
+        found.told.as_str()
+            == "f:7:19: note d_0 Generate: its block is not generated\n\
+        f:8:12: note e_1 Generate: its block is not generated\n"
+    );
+    Ok(())
+}
+
+#[test]
+fn loops_whose_bounds_are_no_constants(rt: HostRuntime) -> Result<(), Fail> {
+    let text = "for (genvar i = 0; i < N; i++) begin\na: assert property (@(posedge c) v[i]);\n\
+        end\nif (0) begin b: assert property (@(posedge c) d); end\n\
+        r: assert property (@(posedge c) a);\n";
+    let found = said(rt.alloc(), text, false)?;
+    assert!(rt;
+        found
+            .told
+            .as_str()
+            .starts_with("f:2:4: refused a Generate: ")
+    );
+    assert!(rt; found.text.as_str() == "r: assert property (@(posedge c) a);\n");
+    assert!(rt; found.status == 1);
     Ok(())
 }
 

@@ -14,3 +14,5 @@
 
 #[cfg(test)]
 mod files;
+#[cfg(test)]
+mod types;

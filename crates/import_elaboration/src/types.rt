@@ -1,0 +1,334 @@
+//! Types of arguments, local variables and signals (IEEE 1800-2017, 6.11, 7.4.1 and 16.8.1).
+
+use crate::environment::{EnvironmentId, declaration_at};
+use crate::folding::resized;
+use crate::opener::{Opener, Variable, refused};
+use crate::refused::Refused;
+use crate::value::{Type, Value, ValueId};
+use import_scopes::{Declaration, DeclarationKind};
+use import_tokens::{Keyword, Kind, Symbol, Token};
+use import_trees::{Number, Path, Refusal};
+
+/// The type of an enumeration that names none, and of numbers without a size.
+const INTEGER: Type = Type {
+    width: 32,
+    signed: true,
+};
+
+/// The place of an opening square bracket, if one stands there.
+pub(crate) fn bracket_in(tokens: &[Token]) -> Option<usize> {
+    for (index, token) in tokens.iter().enumerate() {
+        if token.kind == Kind::Symbol(Symbol::OpenSquare) {
+            return Some(index);
+        }
+    }
+    None
+}
+
+/// Whether an argument of these tokens before its name takes what is given as it is (16.8.1).
+pub(crate) fn is_untyped(tokens: &[Token]) -> bool {
+    match tokens.first() {
+        Some(token) => match token.kind {
+            Kind::Keyword(Keyword::Property | Keyword::Sequence) => true,
+            Kind::Word => token.text == b"untyped".as_slice() || token.text == b"event".as_slice(),
+            _ => false,
+        },
+        None => true,
+    }
+}
+
+/// The type that a keyword is, where no range follows.
+fn plain_type(keyword: Keyword) -> Option<Type> {
+    let (width, signed) = match keyword {
+        Keyword::Logic | Keyword::Bit | Keyword::Reg => (1, false),
+        Keyword::Byte => (8, true),
+        Keyword::ShortInt => (16, true),
+        Keyword::Int | Keyword::Integer => (32, true),
+        Keyword::LongInt => (64, true),
+        Keyword::Time => (64, false),
+        _ => return None,
+    };
+    Some(Type { width, signed })
+}
+
+/// Whether a word stands before a type without being part of one (6.6, 6.8, 23.2.2.1).
+fn is_passed(word: &[u8]) -> bool {
+    word == b"input".as_slice()
+        || word == b"output".as_slice()
+        || word == b"inout".as_slice()
+        || word == b"wire".as_slice()
+        || word == b"tri".as_slice()
+        || word == b"uwire".as_slice()
+        || word == b"var".as_slice()
+        || word == b"const".as_slice()
+}
+
+/// The type of tokens before a range, or without one; none where it isn't known.
+fn base_type(tokens: &[Token]) -> Option<Type> {
+    let mut found = Type {
+        width: 1,
+        signed: false,
+    };
+    for token in tokens {
+        match token.kind {
+            Kind::Keyword(Keyword::Signed) => found.signed = true,
+            Kind::Keyword(Keyword::Unsigned) => found.signed = false,
+            Kind::Keyword(keyword) => found = plain_type(keyword)?,
+            Kind::Word if is_passed(token.text) => {}
+            _ => return None,
+        }
+    }
+    Some(found)
+}
+
+/// The tokens of a type without those that say no more than what is declared.
+fn type_tokens<'t>(tokens: &'t [Token<'t>]) -> &'t [Token<'t>] {
+    for (index, token) in tokens.iter().enumerate() {
+        if token.kind != Kind::Word || !is_passed(token.text) {
+            return tokens.get(index..).unwrap_or(&[]);
+        }
+    }
+    &tokens[..0]
+}
+
+/// The tokens between `enum` and the members, if an enumeration is what tokens say (6.19).
+fn enumerated<'t>(tokens: &'t [Token<'t>]) -> Option<&'t [Token<'t>]> {
+    if tokens.first()?.kind != Kind::Keyword(Keyword::Enum) {
+        return None;
+    }
+    for (index, token) in tokens.iter().enumerate() {
+        if token.kind == Kind::Symbol(Symbol::OpenBrace) {
+            return tokens.get(1..index);
+        }
+    }
+    None
+}
+
+impl<'f, 't> Opener<'f, 't> {
+    /// The two ends of the range whose tokens begin after its bracket, and how many tokens it
+    /// takes up to its own bracket.
+    #[cycle(opened)]
+    pub(crate) fn range(
+        &mut self,
+        tokens: &'t [Token<'t>],
+        environment: EnvironmentId,
+        at: usize,
+        depth: usize,
+    ) -> Result<(u32, u32, usize), Refused> {
+        if !self.may_go_on(depth) {
+            return Err(refused(Refusal::TooHeavy, at));
+        }
+        let (left, taken) = self.expression(tokens, at)?;
+        let second = taken.saturating_add(1);
+        let after = tokens.get(second..).unwrap_or(&[]);
+        let (right, more) = self.expression(after, at)?;
+        let left = self.constant(left, environment, depth - 1)?;
+        let right = self.constant(right, environment, depth - 1)?;
+        Ok((left, right, second.saturating_add(more)))
+    }
+
+    /// The declaration of the type whose name tokens are, if they are one.
+    fn named_type(
+        &self,
+        tokens: &[Token<'t>],
+        environment: EnvironmentId,
+    ) -> Option<Declaration<'t>> {
+        let [name] = tokens else {
+            return None;
+        };
+        let here = self.environment(environment)?;
+        let id = self.file.declaration_of(here.scope, name.text)?;
+        let declaration = declaration_at(self.file, id)?;
+        if declaration.kind == DeclarationKind::Type && declaration.body.is_empty() {
+            return Some(declaration);
+        }
+        None
+    }
+
+    /// The type that tokens say, and the number of its right bit; none where it isn't known, as of
+    /// one that another file declares, or of several ranges.
+    #[cycle(opened)]
+    fn ranged_type(
+        &mut self,
+        given: &'t [Token<'t>],
+        environment: EnvironmentId,
+        at: usize,
+        depth: usize,
+    ) -> Result<Option<(Type, u32)>, Refused> {
+        if !self.may_go_on(depth) {
+            return Err(refused(Refusal::TooHeavy, at));
+        }
+        let tokens = type_tokens(given);
+        if let Some(declaration) = self.named_type(tokens, environment) {
+            let inside = self.enter_scope(declaration, environment, at)?;
+            return self.ranged_type(declaration.formals, inside, at, depth - 1);
+        }
+        let tokens = match enumerated(tokens) {
+            Some([]) => return Ok(Some((INTEGER, 0))),
+            Some(own) => own,
+            None => tokens,
+        };
+        let Some(bracket) = bracket_in(tokens) else {
+            return Ok(match base_type(tokens) {
+                Some(base) => Some((base, 0)),
+                None => None,
+            });
+        };
+        let front = tokens.get(..bracket).unwrap_or(&[]);
+        let inside = tokens.get(bracket.saturating_add(1)..).unwrap_or(&[]);
+        match base_type(front) {
+            Some(base) if base.width == 1 => {
+                self.vector_type(base.signed, inside, environment, at, depth - 1)
+            }
+            _ => Ok(None),
+        }
+    }
+
+    /// The type of a vector whose one range has these tokens after its bracket, and the number of
+    /// its right bit; none where that is no range of constants.
+    #[cycle(opened)]
+    fn vector_type(
+        &mut self,
+        signed: bool,
+        inside: &'t [Token<'t>],
+        environment: EnvironmentId,
+        at: usize,
+        depth: usize,
+    ) -> Result<Option<(Type, u32)>, Refused> {
+        if !self.may_go_on(depth) {
+            return Err(refused(Refusal::TooHeavy, at));
+        }
+        let values = self.made.values.len();
+        let variables = self.made.variables.len();
+        match self.range(inside, environment, at, depth - 1) {
+            Ok((left, right, taken)) if taken.saturating_add(1) == inside.len() => {
+                let width = left.abs_diff(right).saturating_add(1);
+                Ok(Some((Type { width, signed }, right)))
+            }
+            Err(fault) if fault.refusal == Refusal::Memory => Err(fault),
+            _ => {
+                self.made.values.truncate(values);
+                self.made.variables.truncate(variables);
+                Ok(None)
+            }
+        }
+    }
+
+    /// The type of an argument or a local variable; none where it isn't known, or where its bits
+    /// aren't counted from 0 at the right.
+    #[cycle(opened)]
+    fn data_type(
+        &mut self,
+        tokens: &'t [Token<'t>],
+        environment: EnvironmentId,
+        at: usize,
+        depth: usize,
+    ) -> Result<Option<Type>, Refused> {
+        if !self.may_go_on(depth) {
+            return Err(refused(Refusal::TooHeavy, at));
+        }
+        match self.ranged_type(tokens, environment, at, depth - 1)? {
+            Some((found, 0)) => Ok(Some(found)),
+            _ => Ok(None),
+        }
+    }
+
+    /// A value that is given for an argument, as one of its type (16.8.1, 6.24.1).
+    #[cycle(opened)]
+    pub(crate) fn converted(
+        &mut self,
+        value: ValueId,
+        tokens: &'t [Token<'t>],
+        environment: EnvironmentId,
+        at: usize,
+        depth: usize,
+    ) -> Result<ValueId, Refused> {
+        if !self.may_go_on(depth) {
+            return Err(refused(Refusal::TooHeavy, at));
+        }
+        if is_untyped(tokens) || self.is_no_value(value) {
+            return Ok(value);
+        }
+        let Some(own) = self.data_type(tokens, environment, at, depth - 1)? else {
+            self.made.has_unknown_type = true;
+            return Ok(value);
+        };
+        match self.number_as(own, value) {
+            Some(number) => self.keep(Value::Number(number), at),
+            None => self.keep(Value::Cast(own, value), at),
+        }
+    }
+
+    /// What a local variable of a type holds after it was given a value (16.10, 10.7).
+    #[cycle(opened)]
+    pub(crate) fn held(
+        &mut self,
+        value: ValueId,
+        tokens: &'t [Token<'t>],
+        environment: EnvironmentId,
+        at: usize,
+        depth: usize,
+    ) -> Result<ValueId, Refused> {
+        if !self.may_go_on(depth) {
+            return Err(refused(Refusal::TooHeavy, at));
+        }
+        let Some(own) = self.data_type(tokens, environment, at, depth - 1)? else {
+            self.made.has_unknown_type = true;
+            return Ok(value);
+        };
+        match self.number_as(own, value) {
+            Some(number) => self.keep(Value::Number(number), at),
+            None => self.keep(Value::Assigned(own, value), at),
+        }
+    }
+
+    /// A number as one of a type, if a value is one.
+    fn number_as(&self, own: Type, value: ValueId) -> Option<Number> {
+        let number = self.number_of(value)?;
+        match u8::try_from(own.width) {
+            Ok(width) if width <= 128 => Some(resized(number, width, own.signed)),
+            _ => None,
+        }
+    }
+
+    /// Whether what is given for an argument is a bound, an event, or nothing.
+    fn is_no_value(&self, value: ValueId) -> bool {
+        match self.made.values.get(value.0) {
+            Some(node) => matches!(node.value, Value::Unbounded | Value::Event | Value::Missing),
+            None => false,
+        }
+    }
+
+    /// A signal that the file declares.
+    #[cycle(opened)]
+    pub(crate) fn variable(
+        &mut self,
+        path: Path<'t>,
+        declaration: Declaration<'t>,
+        caller: EnvironmentId,
+        at: usize,
+        depth: usize,
+    ) -> Result<ValueId, Refused> {
+        if !self.may_go_on(depth) {
+            return Err(refused(Refusal::TooHeavy, at));
+        }
+        let value = self.keep(Value::Signal(path), at)?;
+        let inside = self.enter_scope(declaration, caller, at)?;
+        let ranged = if declaration.body.is_empty() {
+            self.ranged_type(declaration.formals, inside, at, depth - 1)?
+        } else {
+            None
+        };
+        self.made.variables.push(Variable {
+            value,
+            name: declaration.name,
+            declared_at: declaration.at,
+            is_port: declaration.kind == DeclarationKind::Port,
+            own: match ranged {
+                Some((found, _)) => Some(found),
+                None => None,
+            },
+        })?;
+        Ok(value)
+    }
+}

@@ -1,0 +1,69 @@
+//! The blocks of generate constructs.
+
+use import_scopes::{after_name, ends_scope, is_symbol, kind_at, past_statement};
+use import_tokens::{Keyword, Kind, Symbol, Token};
+
+/// The places of a block's first token, of the one after its last, and of what follows it; `begin`
+/// and `end` with their names are not among its tokens.
+#[derive(Clone, Copy)]
+pub(crate) struct Body {
+    pub from: usize,
+    pub to: usize,
+    pub after: usize,
+}
+
+/// The place of the `end` of the block that begins at a place.
+fn end_of(tokens: &[Token], start: usize) -> Option<usize> {
+    let mut depth = 0u64;
+    for index in start..tokens.len() {
+        match kind_at(tokens, index) {
+            Kind::Keyword(Keyword::Begin) => depth = depth.saturating_add(1),
+            Kind::Keyword(Keyword::End) => {
+                depth = depth.saturating_sub(1);
+                if depth == 0 {
+                    return Some(index);
+                }
+            }
+            kind if ends_scope(kind) => return None,
+            _ => {}
+        }
+    }
+    None
+}
+
+/// A construct or an item without `begin` and `end`.
+fn alone(tokens: &[Token], start: usize) -> Body {
+    let after = past_statement(tokens, start);
+    Body {
+        from: start,
+        to: after,
+        after,
+    }
+}
+
+/// The block at a place, or the construct that stands there in place of one.
+pub(crate) fn body_at(tokens: &[Token], start: usize) -> Option<Body> {
+    match kind_at(tokens, start) {
+        Kind::Keyword(Keyword::Begin) => {
+            let end = end_of(tokens, start)?;
+            Some(Body {
+                from: after_name(tokens, start.saturating_add(1)),
+                to: end,
+                after: after_name(tokens, end.saturating_add(1)),
+            })
+        }
+        Kind::Keyword(Keyword::For | Keyword::If) => Some(alone(tokens, start)),
+        _ => None,
+    }
+}
+
+/// The same for a loop, where one item alone may stand, too.
+pub(crate) fn loop_body_at(tokens: &[Token], start: usize) -> Option<Body> {
+    let item = alone(tokens, start);
+    let ends = is_symbol(tokens, item.after.saturating_sub(1), Symbol::Semicolon);
+    match kind_at(tokens, start) {
+        Kind::Keyword(Keyword::Begin | Keyword::For | Keyword::If) => body_at(tokens, start),
+        _ if ends => Some(item),
+        _ => None,
+    }
+}
