@@ -18,7 +18,9 @@ pub enum ImportFault {
 impl From<TokenFault> for ImportFault {
     fn from(fault: TokenFault) -> ImportFault {
         match fault {
-            TokenFault::UnclosedComment(at) => ImportFault::UnclosedComment(at),
+            TokenFault::UnclosedComment(at)
+            | TokenFault::StrayConditional(at)
+            | TokenFault::UnclosedConditional(at) => ImportFault::UnclosedComment(at),
             TokenFault::Memory => ImportFault::Memory,
         }
     }

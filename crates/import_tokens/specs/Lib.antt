@@ -1,6 +1,10 @@
 pub mod Gaps
 pub mod Cuts
 pub mod Pieces
+pub mod Conditionals
+pub mod Nesting
+pub mod Steps
+pub mod Faults
 pub mod Readings
 pub mod Texts
 pub mod Places

@@ -3,6 +3,7 @@ use Rattle.std.specs.Prelude.{◌≡◌, ℕ, ◌<◌, ◌≤◌, List, [], ◌�
 use Rattle.import_tokens.specs.declared.piece.Piece.{Piece}
 use Rattle.import_tokens.specs.declared.fault.TokenFault.{TokenFault}
 use Rattle.import_tokens.specs.declared.fault.TokenFault.TheVariants.{UnclosedComment, Memory}
+use Rattle.import_tokens.specs.declared.fault.TokenFault.TheVariants as faults
 use Rattle.import_tokens.specs.Gaps.{HasPair}
 use Rattle.import_tokens.specs.Cuts.{IsOf}
 
@@ -20,7 +21,9 @@ pub data AreFrom : List ℕ → ℕ → List Piece → Type 0 where
   more : {text : List ℕ} {from to : ℕ} {piece : Piece} {pieces : List Piece}
       → IsPiece text from to piece → AreFrom text to pieces → AreFrom text from (piece ∷ pieces)
 
--- A fault of the text: a comment begins there.
+-- A fault of the text as pieces: a comment begins there.
 abbrev pub IsOpenIn : List ℕ → TokenFault → Type 0
 IsOpenIn text (UnclosedComment at) = HasPair text at 47 42
+IsOpenIn text (faults.StrayConditional at) = ⊥
+IsOpenIn text (faults.UnclosedConditional at) = ⊥
 IsOpenIn text Memory = Unit {0}

@@ -4,6 +4,7 @@ ghost use Rattle.std.specs.Prelude.{◌+◌, ◌<◌, ◌≤◌, length, IfSome}
 
 use crate::directive::{Directive, directive_at};
 use crate::macros::Macros;
+use crate::nesting::ends_line;
 use crate::piece::{Piece, Shape};
 
 /// The place of the first piece from there on that is no gap.
@@ -18,9 +19,23 @@ pub(crate) fn next_piece(pieces: &[Piece], start: usize) -> Option<usize>
     None
 }
 
+/// The place of the name that stands after a directive, if one does.
+fn name_after(pieces: &[Piece], index: usize) -> Option<usize>
+    ensures { IfSome result (λ name. (index < name) × (name < length pieces.now)) }
+{
+    if index >= pieces.len() {
+        return None;
+    }
+    let name = next_piece(pieces, index + 1)?;
+    match pieces[name].shape {
+        Shape::Lexeme(_) => Some(name),
+        _ => None,
+    }
+}
+
 /// Whether the macro is defined whose name stands after a directive.
 fn is_defined(pieces: &[Piece], index: usize, macros: &Macros) -> bool {
-    match next_piece(pieces, index.saturating_add(1)) {
+    match name_after(pieces, index) {
         Some(name) => macros.has(pieces[name].text),
         None => false,
     }
@@ -31,24 +46,30 @@ fn after_name(pieces: &[Piece], index: usize) -> usize
     requires { index < length pieces.now }
     ensures { (index < result) × (result ≤ length pieces.now) }
 {
-    match next_piece(pieces, index + 1) {
+    match name_after(pieces, index) {
         Some(name) => name + 1,
         None => index + 1,
     }
 }
 
 /// The place after what is left out from there on: at the branch that is taken, if one still may
-/// be, or after the end of the condition.
+/// be, or after the end of the condition. What stands in a macro's definition is no directive.
 fn left_out_end(pieces: &[Piece], start: usize, macros: &Macros, may_take: bool) -> usize
     requires { start ≤ length pieces.now }
     ensures { (start ≤ result) × (result ≤ length pieces.now) }
 {
     let mut depth = 0u64;
+    let mut defining = false;
     for index in start..pieces.len() {
         let Some(directive) = directive_at(pieces, index) else {
+            defining = defining && !ends_line(&pieces[index]);
             continue;
         };
+        if defining {
+            continue;
+        }
         match directive {
+            Directive::Define => defining = true,
             Directive::IfDefined | Directive::IfNotDefined => depth = depth.saturating_add(1),
             Directive::EndIf if depth == 0 => return index + 1,
             Directive::EndIf => depth -= 1,

@@ -6,20 +6,12 @@ use crate::arguments::{arguments_at, symbol_at, text_between};
 use crate::condition::next_piece;
 use crate::definition::{Definition, Formal};
 use crate::macros::Macros;
+use crate::nesting::ends_line;
 use crate::piece::Piece;
 use crate::pieces::closed_pieces;
-use crate::runs::is_white;
 use crate::symbol::Symbol;
+use crate::turn::turn_of;
 use std::alloc::{AllocError, Global};
-
-/// Whether a piece is white space in which a line ends.
-fn ends_line(piece: &Piece) -> bool {
-    let white = match piece.text.first() {
-        Some(byte) => is_white(*byte),
-        None => false,
-    };
-    white && piece.text.contains(&b'\n')
-}
 
 /// The place of the piece with which the line ends, that goes on after a backslash.
 pub(crate) fn line_end_from(pieces: &[Piece], start: usize) -> usize
@@ -28,6 +20,19 @@ pub(crate) fn line_end_from(pieces: &[Piece], start: usize) -> usize
 {
     for index in start..pieces.len() {
         if ends_line(&pieces[index]) {
+            return index;
+        }
+    }
+    pieces.len()
+}
+
+/// The place of the piece with which a directive's line ends, or of a conditional's on that line.
+pub(crate) fn rest_end(pieces: &[Piece], start: usize) -> usize
+    requires { start ≤ length pieces.now }
+    ensures { (start ≤ result) × (result ≤ length pieces.now) }
+{
+    for index in start..pieces.len() {
+        if ends_line(&pieces[index]) || turn_of(pieces[index].text).is_some() {
             return index;
         }
     }

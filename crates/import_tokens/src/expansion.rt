@@ -4,10 +4,11 @@ ghost use Rattle.std.specs.Prelude.{◌+◌, ◌<◌, ◌≤◌, length, IfOk, I
 
 use crate::arguments::arguments_at;
 use crate::condition::{after_condition, next_piece};
-use crate::defining::line_end_from;
+use crate::defining::{line_end_from, rest_end};
 use crate::definition::{Definition, Formal};
 use crate::directive::{Directive, directive_at};
 use crate::macros::Macros;
+use crate::nesting::{Nesting, nesting_of};
 use crate::piece::{Mark, Piece, Shape};
 use crate::pieces::closed_pieces;
 use crate::token::MacroFault;
@@ -167,6 +168,10 @@ fn call_at<'s>(
     let Some(given) = arguments_at(alloc, text, pieces, bracket)? else {
         return Ok(None);
     };
+    if nesting_of(alloc, &pieces[bracket..given.after])? != Nesting::Whole {
+        output.refuse(MacroFault::Conditional);
+        return Ok(None);
+    }
     let formals = formals.as_slice();
     let Some(actuals) = actuals_of(alloc, formals, given.texts.as_slice())? else {
         return Ok(None);
@@ -188,9 +193,8 @@ pub(crate) fn after_directive(
 {
     match directive {
         Directive::Alone => index + 1,
-        Directive::Define | Directive::Undefine | Directive::Include | Directive::Line => {
-            line_end_from(pieces, index + 1)
-        }
+        Directive::Define => line_end_from(pieces, index + 1),
+        Directive::Undefine | Directive::Include | Directive::Line => rest_end(pieces, index + 1),
         _ => after_condition(pieces, index, directive, macros),
     }
 }
@@ -244,6 +248,10 @@ fn expand_text(
         return Ok(());
     };
     let pieces = pieces.as_slice();
+    if nesting_of(alloc, pieces)? != Nesting::Whole {
+        output.refuse(MacroFault::Conditional);
+        return Ok(());
+    }
     let mut index = 0;
     while index < pieces.len() {
         if output.fault.is_some() {

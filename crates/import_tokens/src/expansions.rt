@@ -1,13 +1,14 @@
 //! What the directives of a text stand for.
 
-ghost use Rattle.std.specs.Prelude.{◌+◌, ◌<◌, ◌≤◌, length, IfOk, IfErr};
-ghost use Rattle.import_tokens.specs.Pieces.{IsOpenIn};
+ghost use Rattle.std.specs.Prelude.{◌+◌, ◌<◌, ◌≤◌, length, IfOk, IfErr, OnOk};
+ghost use Rattle.import_tokens.specs.Faults.{IsNested, IsFaultOf};
 
 use crate::defining::{define_at, undefine_at};
 use crate::directive::{Directive, directive_at};
 use crate::expansion::{MOST_NESTED, Output, after_directive, expand_use, name_of};
 use crate::fault::TokenFault;
 use crate::macros::Macros;
+use crate::nesting::check_nesting;
 use crate::piece::Piece;
 use crate::pieces::pieces_of;
 use crate::token::MacroFault;
@@ -125,16 +126,18 @@ impl<'a> Expansions<'a> {
     ghost use Rattle.import_tokens.specs.Texts.{text_of};
 
     /// Goes through the directives of a text: takes up its definitions, and writes out the macros
-    /// that it uses.
+    /// that it uses. Refused where its conditionals don't nest.
     pub fn of(
         alloc: Global,
         text: &'a [u8],
         macros: &mut Macros<'a>,
     ) -> Result<Expansions<'a>, TokenFault>
         ensures text { IfOk result (λ all. text_of all ≡ text.now) }
-        ensures fault { IfErr result (IsOpenIn text.now) }
+        ensures nested { OnOk result (IsNested text.now) }
+        ensures fault { IfErr result (IsFaultOf text.now) }
     {
         let pieces = pieces_of(alloc, text)?;
+        check_nesting(alloc, pieces.as_slice())?;
         let mut output = Output::new(alloc);
         let steps = steps_of(alloc, text, pieces.as_slice(), macros, &mut output)?;
         let made = output.into_made();

@@ -12,6 +12,13 @@ pub enum TokenFault {
     /// The comment that begins with this byte, counted from 0, has no end.
     #[error("UnclosedComment")]
     UnclosedComment(usize),
+    /// The directive that begins with this byte (`elsif`, `else` or `endif`) has no conditional to
+    /// stand in, or stands after its `else`.
+    #[error("StrayConditional")]
+    StrayConditional(usize),
+    /// The conditional that begins with this byte has no `endif`.
+    #[error("UnclosedConditional")]
+    UnclosedConditional(usize),
     /// Memory ran out.
     #[error("OutOfMemory")]
     Memory,

@@ -12,16 +12,23 @@
 //! the text's order. Between them is white space, comments and attributes, and directives, each
 //! with what it takes with it: its line, its arguments, or text that it leaves out. What a macro
 //! makes has the place of its outermost use. The only faults of a text are a comment without an
-//! end, with its place, and want of memory. What is wrong elsewhere is a token of a kind of its
-//! own: `Stray`, and `Macro` for a use that stays as it is. An include directive is a token too;
-//! its file is not read.
+//! end, conditionals that don't nest, each with its place, and want of memory. What is wrong
+//! elsewhere is a token of a kind of its own: `Stray`, and `Macro` for a use that stays as it is.
+//! An include directive is a token too; its file is not read.
+//!
+//! Conditionals nest, or the text is refused: the first directive that can stand in none is told,
+//! or else the first conditional that has no `endif`. What stands in a macro's definition is part
+//! of that macro: there, and in the arguments of a use, conditionals nest by themselves, or the use
+//! stays as it is.
 //!
 //! Work is bounded: macros use one another at most `MOST_NESTED` deep, and make at most `MOST_MADE`
 //! bytes on the way. A use that would pass one of these stays as it is, and says so.
 //!
 //! The definitions: what the tokens of a text are in `specs/Readings.antt`, what stands between
-//! them in `specs/Gaps.antt`, what a kind of token asks for in `specs/Cuts.antt`, lines and columns
-//! in `specs/Places.antt`, pieces on the way in `specs/Pieces.antt`.
+//! them in `specs/Gaps.antt`, what a kind of token asks for in `specs/Cuts.antt`, where
+//! conditionals nest in `specs/Nesting.antt`, and which directives these are in
+//! `specs/Conditionals.antt`, lines and columns in `specs/Places.antt`, pieces on the way in
+//! `specs/Pieces.antt`.
 //!
 //! Not promised, but tested: where numbers, strings and symbols end, which words are keywords,
 //! which text a condition leaves out, and what a macro makes. Keywords that no assertion and no
@@ -30,6 +37,7 @@
 
 mod arguments;
 mod condition;
+mod conditional;
 mod cut;
 mod defining;
 mod definition;
@@ -39,6 +47,7 @@ mod expansions;
 mod fault;
 mod keyword;
 mod macros;
+mod nesting;
 mod number;
 mod piece;
 mod pieces;
@@ -47,6 +56,7 @@ mod reading;
 mod runs;
 mod symbol;
 mod token;
+mod turn;
 
 pub use expansion::{MOST_MADE, MOST_NESTED};
 pub use expansions::Expansions;

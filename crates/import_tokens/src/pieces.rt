@@ -36,7 +36,7 @@ pub(crate) fn closed_pieces<'a>(
 ) -> Result<Option<Vec<Piece<'a>>>, AllocError> {
     match pieces_of(alloc, text) {
         Ok(pieces) => Ok(Some(pieces)),
-        Err(TokenFault::UnclosedComment(_)) => Ok(None),
         Err(TokenFault::Memory) => Err(AllocError),
+        Err(_) => Ok(None),
     }
 }

@@ -1,6 +1,8 @@
 //! Runs of bytes.
 
-ghost use Rattle.std.specs.Prelude.{◌≡◌, ℕ, ◌+◌, ◌-◌, ◌<◌, ◌≤◌, length, slice_index, IfSome, false};
+ghost use Rattle.std.specs.Prelude.{◌≡◌, ℕ, ◌+◌, ◌-◌, ◌<◌, ◌≤◌, ◌==◌, length, slice_index};
+ghost use Rattle.std.specs.Prelude.{IfSome, false};
+ghost use Rattle.std.specs.List.{list_any};
 ghost use Rattle.std.specs.Bool.{OnTrue};
 ghost use Rattle.import_tokens.specs.Gaps.{is_white, is_name_part, IsRun, StaysOnLine, HasPair};
 
@@ -119,6 +121,12 @@ pub(crate) fn byte_at(text: &[u8], at: usize) -> u8 {
         Some(byte) => *byte,
         None => 0,
     }
+}
+
+pub(crate) fn has_line_feed(text: &[u8]) -> bool
+    ensures { result ≡ list_any (λ byte. byte == 10) text.now }
+{
+    text.iter().any(|byte| *byte == b'\n')
 }
 
 /// The end of the line, or where it goes on by a backslash.

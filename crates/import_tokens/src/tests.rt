@@ -54,16 +54,92 @@ fn case(row: usize) -> (&'static [u8], &'static [u8]) {
             b"[*1:2] [->2] [=3] #-# |=> <-> <<< ==? +: '{ '(",
             b"[* 1 : 2 ] [-> 2 ] [= 3 ] #-# |=> <-> <<< ==? +: '{ '(  ",
         ),
-        _ => (b"`include \"f.svh\"\nx \xff `S", b"`include x \xff `S  "),
+        9 => (b"`include \"f.svh\"\nx \xff `S", b"`include x \xff `S  "),
+        10 => (
+            b"`define M(x) `ifdef SIZE x `else y `endif\n`M(z) `M(\n`ifdef NO v `else u `endif)",
+            b"z u  ",
+        ),
+        11 => (
+            b"`ifdef NO `ifdef SIZE a `else b `endif `elsif SIZE c `else d `endif e",
+            b"c e  ",
+        ),
+        12 => (
+            b"`define C `ifdef NO\n`C f `default_nettype none `ifdef NO g `endif",
+            b"`C f  ",
+        ),
+        13 => (
+            b"// `else\n/* `endif */ \"`ifdef\" `ifdef NO\n`define D `endif\ng `endif h",
+            b"\"`ifdef\" h  ",
+        ),
+        _ => (
+            b"`define E(x) x\n`E(a `ifdef SIZE , b) `endif",
+            b"`E ( a , b )  ",
+        ),
     }
 }
 
 #[test]
 fn cuts_texts(rt: HostRuntime) -> Result<(), Fail> {
-    for row in 0..10 {
+    for row in 0..15 {
         let (text, wanted) = case(row);
         let found = read(rt.alloc(), text)?;
         assert!(rt; found.as_slice() == wanted, "row {row}");
+    }
+    Ok(())
+}
+
+/// A text whose conditionals don't nest, and its fault by syntax 22-5.
+fn unnested(row: usize) -> (&'static [u8], TokenFault) {
+    match row {
+        0 => (b"`ifdef NO\nx", TokenFault::UnclosedConditional(0)),
+        1 => (b"a\n`endif", TokenFault::StrayConditional(2)),
+        2 => (b" `else a", TokenFault::StrayConditional(1)),
+        3 => (b"`elsif SIZE", TokenFault::StrayConditional(0)),
+        4 => (
+            b"`ifdef NO `else `else `endif",
+            TokenFault::StrayConditional(16),
+        ),
+        5 => (
+            b"`ifdef NO `else `elsif B `endif",
+            TokenFault::StrayConditional(16),
+        ),
+        6 => (
+            b"`ifdef SIZE `ifndef B `endif",
+            TokenFault::UnclosedConditional(0),
+        ),
+        7 => (
+            b"`ifdef A `endif `ifndef B `elsif C",
+            TokenFault::UnclosedConditional(16),
+        ),
+        8 => (
+            b"`ifdef A `ifdef B `else `else `endif `endif",
+            TokenFault::StrayConditional(24),
+        ),
+        9 => (
+            b"`define M `ifdef B\n`M `endif",
+            TokenFault::StrayConditional(22),
+        ),
+        10 => (
+            b"`ifdef A `endif `endif `ifdef B",
+            TokenFault::StrayConditional(16),
+        ),
+        _ => (
+            b"`ifndef A `else b `ifdef C",
+            TokenFault::UnclosedConditional(0),
+        ),
+    }
+}
+
+#[test]
+fn refuses_texts_that_do_not_nest(rt: HostRuntime) -> Result<(), Fail> {
+    for row in 0..12 {
+        let (text, wanted) = unnested(row);
+        let mut macros = Macros::new(rt.alloc());
+        let refused = match Expansions::of(rt.alloc(), text, &mut macros) {
+            Ok(_expansions) => false,
+            Err(fault) => fault == wanted,
+        };
+        assert!(rt; refused, "row {row}");
     }
     Ok(())
 }

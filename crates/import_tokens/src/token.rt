@@ -10,6 +10,8 @@ pub enum MacroFault {
     Unknown,
     /// It has more or fewer arguments than its definition, or no closing bracket.
     Arguments,
+    /// The conditionals in what it makes, or in its arguments, don't nest.
+    Conditional,
     /// Macros use one another more than `MOST_NESTED` deep, or without end.
     TooDeep,
     /// Macros have made more than `MOST_MADE` bytes.
