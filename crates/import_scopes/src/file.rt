@@ -9,9 +9,9 @@ use crate::names::Names;
 use crate::scope::{Scope, ScopeId};
 use crate::status::{Assertion, Mark, Note, Status};
 use crate::walker::{Found, Walker};
-use crate::words::words_of;
-use import_tokens::Token;
-use import_trees::Refusal;
+use crate::words::{is_misspelt, words_of};
+use import_tokens::{Keyword, Token};
+use import_trees::{Expected, Refusal};
 use std::alloc::{AllocError, Global};
 
 /// The items of a file: what becomes of each of its assertions, and what they may name.
@@ -30,9 +30,17 @@ pub struct File<'t> {
     names: Names,
 }
 
+/// Whether the word at a place is misspelt.
+fn is_misspelt_at(tokens: &[Token], word: usize) -> bool {
+    word < tokens.len() && is_misspelt(&tokens[word..])
+}
+
 /// What becomes of the assertion whose word stands at a place: one that no item takes up stands in
 /// a procedure or an action block.
-fn status_of(word: usize, marks: &[Mark]) -> Status {
+fn status_of(tokens: &[Token], word: usize, marks: &[Mark]) -> Status {
+    if is_misspelt_at(tokens, word) {
+        return Status::Refused(Refusal::Expected(Expected::Keyword(Keyword::Assert)));
+    }
     for mark in marks {
         if mark.from <= word && word < mark.to {
             return mark.status;
@@ -42,12 +50,17 @@ fn status_of(word: usize, marks: &[Mark]) -> Status {
 }
 
 /// What becomes of each assertion.
-fn statuses_of(alloc: Global, words: &[usize], marks: &[Mark]) -> Result<Vec<Status>, AllocError>
+fn statuses_of(
+    alloc: Global,
+    tokens: &[Token],
+    words: &[usize],
+    marks: &[Mark],
+) -> Result<Vec<Status>, AllocError>
     ensures { IfOk result (λ statuses. vec_len statuses ≡ length words.now) }
 {
     let mut statuses = Vec::new(alloc);
     for word in words {
-        statuses.push(status_of(*word, marks))?;
+        statuses.push(status_of(tokens, *word, marks))?;
     }
     Ok(statuses)
 }
@@ -101,7 +114,7 @@ impl<'t> File<'t> {
             scopes.as_slice(),
             assertions.as_slice(),
         )?;
-        let statuses = statuses_of(alloc, words.as_slice(), marks.as_slice())?;
+        let statuses = statuses_of(alloc, tokens, words.as_slice(), marks.as_slice())?;
         let names = Names::of(alloc, declarations.as_slice())?;
         Ok(File {
             words,

@@ -24,6 +24,7 @@
 //! The bodies of assertions and declarations are tokens, which `import_trees` reads.
 #![tactic(auto)]
 
+mod brackets;
 mod construct;
 mod declaration;
 mod file;

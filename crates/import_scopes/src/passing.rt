@@ -2,7 +2,8 @@
 
 ghost use Rattle.std.specs.Prelude.{◌≤◌, length};
 
-use crate::words::begins_assertion;
+use crate::brackets::Brackets;
+use crate::words::{begins_assertion, is_begun};
 use import_tokens::{Keyword, Kind, Symbol, Token};
 
 /// What the token at a place is; the end where none is.
@@ -231,13 +232,112 @@ pub(crate) fn past_word(tokens: &[Token], start: usize, word: Keyword) -> usize
     tokens.len()
 }
 
-/// Whether an item of its own begins there, so that no action block does.
+/// Whether a keyword begins an item that can stand neither in an assertion nor as its action block.
+fn declares(keyword: Keyword) -> bool {
+    matches!(
+        keyword,
+        Keyword::Module
+            | Keyword::MacroModule
+            | Keyword::Interface
+            | Keyword::Program
+            | Keyword::Package
+            | Keyword::Checker
+            | Keyword::Property
+            | Keyword::Sequence
+            | Keyword::Clocking
+            | Keyword::Let
+            | Keyword::Parameter
+            | Keyword::LocalParam
+            | Keyword::TypeDef
+            | Keyword::Bind
+            | Keyword::Generate
+            | Keyword::Function
+            | Keyword::Task
+            | Keyword::Class
+            | Keyword::Initial
+            | Keyword::Final
+            | Keyword::AlwaysCombinational
+            | Keyword::AlwaysFlipFlop
+            | Keyword::AlwaysLatch
+    )
+}
+
+/// Whether an assertion begins there, or a word that is misspelt for one.
+fn is_begun_at(tokens: &[Token], index: usize) -> bool {
+    index < tokens.len() && is_begun(tokens, index)
+}
+
+/// Whether a default of the scope is given there (14.12, 16.15).
+fn gives_default(tokens: &[Token], index: usize) -> bool {
+    let next = index.saturating_add(1);
+    is_keyword(tokens, index, Keyword::Default)
+        && (is_keyword(tokens, next, Keyword::Clocking)
+            || is_keyword(tokens, next, Keyword::Disable))
+}
+
+/// Whether an item of its own begins there, so that no assertion goes on, and no action block
+/// begins.
 fn begins_item(tokens: &[Token], index: usize) -> bool {
     let kind = kind_at(tokens, index);
-    let declares = matches!(kind, Kind::Keyword(Keyword::Property | Keyword::Sequence));
+    let declared = match kind {
+        Kind::Keyword(keyword) => declares(keyword),
+        _ => ends_scope(kind),
+    };
     let labels = is_symbol(tokens, index.saturating_add(1), Symbol::Colon)
-        && begins_assertion(kind_at(tokens, index.saturating_add(2)));
-    ends_scope(kind) || begins_assertion(kind) || declares || labels
+        && is_begun_at(tokens, index.saturating_add(2));
+    declared
+        || labels
+        || ends_scope(kind)
+        || is_begun_at(tokens, index)
+        || gives_default(tokens, index)
+}
+
+/// Where the brackets of an assertion end that begin at a place.
+pub(crate) fn assertion_brackets(tokens: &[Token], open: usize) -> Brackets {
+    let mut depth = 0u64;
+    for index in open..tokens.len() {
+        if begins_item(tokens, index) {
+            return Brackets::Open(index);
+        }
+        depth = deeper(depth, tokens[index].kind);
+        if depth == 0 {
+            return Brackets::Closed(index + 1);
+        }
+    }
+    Brackets::Open(tokens.len())
+}
+
+/// The place after an assertion that is not read, or at the item that begins before its brackets
+/// close.
+pub(crate) fn past_left_out(tokens: &[Token], word: usize) -> usize {
+    for open in word..word.saturating_add(4) {
+        if is_symbol(tokens, open, Symbol::OpenRound) {
+            return match assertion_brackets(tokens, open) {
+                Brackets::Closed(_) => past_statement(tokens, word),
+                Brackets::Open(next) => next,
+            };
+        }
+    }
+    past_statement(tokens, word)
+}
+
+/// Whether a sign that can begin no statement stands there (annex A.6.4).
+fn begins_no_statement(kind: Kind) -> bool {
+    match kind {
+        Kind::Symbol(symbol) => !matches!(
+            symbol,
+            Symbol::Semicolon
+                | Symbol::OpenBrace
+                | Symbol::OpenPattern
+                | Symbol::Increment
+                | Symbol::Decrement
+                | Symbol::Arrow
+                | Symbol::AtSign
+                | Symbol::Hash
+                | Symbol::Delay
+        ),
+        _ => false,
+    }
 }
 
 /// The place after the action block of an assertion (16.14.1); none where its semicolon is missing.
@@ -245,7 +345,7 @@ pub(crate) fn past_action(tokens: &[Token], start: usize) -> Option<usize> {
     if is_symbol(tokens, start, Symbol::Semicolon) {
         return Some(start.saturating_add(1));
     }
-    if begins_item(tokens, start) {
+    if begins_item(tokens, start) || begins_no_statement(kind_at(tokens, start)) {
         return None;
     }
     if is_keyword(tokens, start, Keyword::Else) {

@@ -1,10 +1,11 @@
 //! From the front of a file to its end, item by item.
 
+use crate::brackets::Brackets;
 use crate::construct::{Block, Construct, block_at};
 use crate::declaration::{Declaration, DeclarationId, DeclarationKind};
 use crate::passing::{
-    after_name, first_symbol, is_keyword, is_symbol, kind_at, past_action, past_brackets,
-    past_item, past_statement, past_word, value_end, value_start,
+    after_name, assertion_brackets, first_symbol, is_keyword, is_symbol, kind_at, past_action,
+    past_brackets, past_item, past_left_out, past_statement, past_word, value_end, value_start,
 };
 use crate::scope::{DefaultClock, Scope, ScopeId};
 use crate::status::{Assertion, AssertionId, Mark, Note, NoteKind, Status};
@@ -532,12 +533,12 @@ impl<'t> Walker<'t> {
         if keyword == Keyword::Cover {
             self.note(NoteKind::Cover)?;
             self.decide(word, Status::Covers)?;
-            self.at = past_statement(self.tokens, word);
+            self.at = past_left_out(self.tokens, word);
             return Ok(());
         }
         if !names_property {
             self.decide(word, Status::Refused(Refusal::Immediate))?;
-            self.at = past_statement(self.tokens, word);
+            self.at = past_left_out(self.tokens, word);
             return Ok(());
         }
         if !is_symbol(self.tokens, open, Symbol::OpenRound) {
@@ -551,7 +552,15 @@ impl<'t> Walker<'t> {
 
     /// An assertion whose brackets stand at a place.
     fn read_assertion(&mut self, word: usize, open: usize) -> Result<(), AllocError> {
-        let end = past_brackets(self.tokens, open);
+        let end = match assertion_brackets(self.tokens, open) {
+            Brackets::Closed(end) => end,
+            Brackets::Open(next) => {
+                let refusal = Refusal::Expected(Expected::Symbol(Symbol::CloseRound));
+                self.decide(word, Status::Refused(refusal))?;
+                self.at = next;
+                return Ok(());
+            }
+        };
         let Some(after) = past_action(self.tokens, end) else {
             let refusal = Refusal::Expected(Expected::Symbol(Symbol::Semicolon));
             self.decide(word, Status::Refused(refusal))?;

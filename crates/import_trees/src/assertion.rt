@@ -39,8 +39,8 @@ fn within(fault: TreeFault, tokens: &[Token]) -> TreeFault
     }
 }
 
-/// Whether a word begins the declaration of a variable (6.8).
-fn is_type(kind: Kind) -> bool {
+/// Whether a word is that of a type, as begins the declaration of a variable (6.8).
+pub(crate) fn is_type(kind: Kind) -> bool {
     matches!(
         kind,
         Kind::Keyword(
@@ -157,7 +157,8 @@ impl<'t> Parser<'t> {
         let start = self.at;
         for _ in 0..self.tokens.len() {
             let two_names = self.kind() == Kind::Word && self.ahead(1) == Kind::Word;
-            if !is_type(self.kind()) && !two_names {
+            let cast = self.ahead(1) == Kind::Symbol(Symbol::OpenCast);
+            if (!is_type(self.kind()) || cast) && !two_names {
                 break;
             }
             self.skip_past_semicolon();

@@ -1,5 +1,6 @@
 //! Expressions (IEEE 1800-2017, 11.3 and annex A.8).
 
+use crate::assertion::is_type;
 use crate::expression::{Expression, ExpressionId, ExpressionList};
 use crate::fault::TreeFault;
 use crate::number::number_of;
@@ -107,6 +108,9 @@ impl<'t> Parser<'t> {
         }
         let at = self.place();
         let mut base = self.primary(depth - 1)?;
+        if self.is(Symbol::OpenCast) {
+            return Err(self.fault(Refusal::Cast));
+        }
         for _ in 0..self.tokens.len() {
             if !self.take(Symbol::OpenSquare) {
                 return Ok(base);
@@ -306,6 +310,8 @@ fn no_expression(kind: Kind) -> Refusal {
         Kind::Macro(fault) => Refusal::UnknownMacro(fault),
         Kind::Symbol(Symbol::OpenCast | Symbol::OpenPattern) => Refusal::Outside,
         Kind::Keyword(Keyword::Dist) => Refusal::Outside,
+        Kind::Keyword(Keyword::Signed | Keyword::Unsigned) => Refusal::Cast,
+        kind if is_type(kind) => Refusal::Cast,
         _ => Refusal::Expected(Expected::Expression),
     }
 }

@@ -28,6 +28,7 @@ fn expected_hint(expected: Expected) -> &'static str {
         Expected::End => "the end is wanted there: a bracket or an operator may be missing",
         Expected::Symbol(symbol) => symbol_hint(symbol),
         Expected::Keyword(Keyword::EndCase) => "`endcase` is wanted there",
+        Expected::Keyword(Keyword::Assert) => "a misspelt word: assert is meant, or its kin",
         Expected::Keyword(_) => "another keyword is wanted there",
     }
 }
@@ -37,6 +38,7 @@ fn macro_hint(fault: MacroFault) -> &'static str {
     match fault {
         MacroFault::Unknown => "no file before it defines this macro: give --define, or its file",
         MacroFault::Arguments => "the macro has another number of arguments",
+        MacroFault::Conditional => "an `ifdef in it has no `endif, or an `endif no `ifdef",
         MacroFault::TooDeep => "the macros use one another too deep",
         MacroFault::TooLong => "the macros make too long a text",
     }
@@ -46,7 +48,9 @@ fn macro_hint(fault: MacroFault) -> &'static str {
 fn clock_hint(refusal: Refusal) -> &'static str {
     match refusal {
         Refusal::NoClock => "no clock: write @(posedge clk), or default clocking",
-        Refusal::SecondClock => "a second clock in one assertion: make it two, one for each clock",
+        Refusal::SecondClock => {
+            "a second clock: make it two assertions; one clock goes first, before disable iff"
+        }
         Refusal::ClockEdge => "one rising edge alone: write posedge",
         Refusal::ClockIff => "no gate on the clock: put it into the antecedent",
         _ => "the clock has to be a path after posedge",
@@ -62,6 +66,8 @@ fn name_hint(refusal: Refusal) -> &'static str {
         Refusal::Recursive => "it reaches itself: write it out",
         Refusal::Arguments => "it has another number of arguments",
         Refusal::UnknownLocal => "no local variable of this name is declared",
+        Refusal::Cast => "no casts: drop it, or give its value a wire of the design",
+        Refusal::PackageName => "no package names: write the number, or a localparam of the file",
         Refusal::Function => "no functions: write their bodies, or give them a wire",
         _ => "no rule can say this: give it a wire of the design or of a checker",
     }

@@ -45,9 +45,8 @@ impl<'t> Parser<'t> {
         let path = self.path()?;
         let expression = match self.kind() {
             Kind::Symbol(Symbol::OpenRound) => Expression::Call(path, self.actuals()?),
-            Kind::Symbol(Symbol::Scope | Symbol::OpenCast) => {
-                return Err(self.fault(Refusal::Outside));
-            }
+            Kind::Symbol(Symbol::Scope) => return Err(self.fault(Refusal::PackageName)),
+            Kind::Symbol(Symbol::OpenCast) => return Err(self.fault(Refusal::Cast)),
             _ => Expression::Name(path),
         };
         let name = self.keep(expression, at)?;

@@ -23,6 +23,10 @@ pub enum Refusal {
     Expected(Expected),
     /// A form of the language that is not taken.
     Outside,
+    /// A cast (6.24.1).
+    Cast,
+    /// The name of a package before one of its items (26.3).
+    PackageName,
     /// The use of a macro that stays as it is.
     UnknownMacro(MacroFault),
     /// No clocking event, and no default clocking.
@@ -70,7 +74,7 @@ impl Refusal {
     pub fn code(self) -> &'static str {
         match self {
             Refusal::Expected(_) => "Expected",
-            Refusal::Outside => "Outside",
+            Refusal::Outside | Refusal::Cast | Refusal::PackageName => "Outside",
             Refusal::UnknownMacro(_) => "UnknownMacro",
             Refusal::NoClock => "NoClock",
             Refusal::SecondClock => "SecondClock",

@@ -90,20 +90,45 @@ fn case(row: usize) -> (&'static [u8], &'static [u8]) {
             b"cb=(posedgeclk) d=(posedgee) ",
         ),
         10 => (
-            b"wire [3:0] w, v = x + y; int i; logic mem [0:3]; dut #(2) u(.a(b)); state_t s; dut \
-              v2(a), v3(b); enum logic {A} e; input signed [7:0] n;",
-            b"w= v= i= mem=[0:3] s= e= n= ",
-        ),
-        _ => (
             b"junk ( stray ; module m; endmodule `N(x) assert property (y);",
             b"Read - ",
+        ),
+        11 => (
+            b"a: assert property (x |-> (y; b: assert property (z);",
+            b"Expected Read b ",
+        ),
+        12 => (
+            b"module m; a: assert property (x |-> (y; endmodule c: assume property (z);",
+            b"Expected Read c ",
+        ),
+        13 => (
+            b"a: assert property (x |-> y; property p; z; endproperty default disable iff (r); \
+              b: cover property (q);",
+            b"Expected Covers p=z; ",
+        ),
+        14 => (
+            b"r: asert property (x); assret property (y) else $error; b: assert property (z);",
+            b"Expected Expected Read b ",
+        ),
+        15 => (
+            b"a: assert property (x) |-> y); b: assert property (y)); c: assert property (z);",
+            b"Expected Expected Read c ",
+        ),
+        16 => (
+            b"a: cover property (x ##1 (y; b: assert (x; c: assert property (z) {t, u} = 2;",
+            b"Covers Immediate Read c ",
+        ),
+        _ => (
+            b"a: assert property (x) asert property (y); s: asert property ((z; b: assert \
+              property (case (x) 1: y; default: z; endcase);",
+            b"Expected Expected Expected Read b ",
         ),
     }
 }
 
 #[test]
 fn finds_items(rt: HostRuntime) -> Result<(), Fail> {
-    for row in 0..12 {
+    for row in 0..19 {
         let (text, wanted) = case(row);
         let found = read(rt.alloc(), text)?;
         assert!(rt; found.as_slice() == wanted, "row {row}");

@@ -165,7 +165,13 @@ fn fault(row: usize) -> (&'static [u8], &'static [u8]) {
         11 => (b"a ##1 b throughout c", b"Expected 4"),
         12 => (b"\"s\" == a", b"String 0"),
         13 => (b"@(posedge c[0]) a", b"ClockForm 4"),
-        _ => (b"a ] b", b"Expected 1"),
+        14 => (b"a ] b", b"Expected 1"),
+        15 => (b"a == 8'(b)", b"Outside 3"),
+        16 => (b"int'(a) == 1", b"Outside 0"),
+        17 => (b"a |-> (signed'(b) < 0)", b"Outside 3"),
+        18 => (b"(a + b)'(c)", b"Outside 5"),
+        19 => (b"t'(c)", b"Outside 1"),
+        _ => (b"disable iff (r) @(posedge c) a", b"SecondClock 5"),
     }
 }
 
@@ -186,7 +192,7 @@ fn groups_operators(rt: HostRuntime) -> Result<(), Fail> {
 
 #[test]
 fn tells_faults(rt: HostRuntime) -> Result<(), Fail> {
-    for row in 0..15 {
+    for row in 0..21 {
         let (text, wanted) = fault(row);
         let found = read(rt.alloc(), text, true)?;
         assert!(rt; found.as_slice() == wanted, "fault {row}");
