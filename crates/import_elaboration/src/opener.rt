@@ -32,6 +32,9 @@ pub struct Variable<'t> {
     pub is_port: bool,
     /// Its type, if that is known.
     pub own: Option<Type>,
+    /// Whether a name stands in its type, as that of a parameter, of which an instance may have
+    /// another.
+    pub depends: bool,
 }
 
 /// All that was opened; a value or a part is a place in one of these lists.

@@ -91,6 +91,11 @@ fn type_tokens<'t>(tokens: &'t [Token<'t>]) -> &'t [Token<'t>] {
     &tokens[..0]
 }
 
+/// Whether a name stands among tokens.
+fn has_name(tokens: &[Token]) -> bool {
+    tokens.iter().any(|token| token.kind == Kind::Word)
+}
+
 /// The tokens between `enum` and the members, if an enumeration is what tokens say (6.19).
 fn enumerated<'t>(tokens: &'t [Token<'t>]) -> Option<&'t [Token<'t>]> {
     if tokens.first()?.kind != Kind::Keyword(Keyword::Enum) {
@@ -328,6 +333,7 @@ impl<'f, 't> Opener<'f, 't> {
                 Some((found, _)) => Some(found),
                 None => None,
             },
+            depends: has_name(type_tokens(declaration.formals)),
         })?;
         Ok(value)
     }

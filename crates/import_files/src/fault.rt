@@ -11,6 +11,11 @@ use std::alloc::{AllocError, AllocFailed};
 pub enum ImportFault {
     /// The comment that begins with this byte of the text, counted from 0, has no end.
     UnclosedComment(usize),
+    /// The directive that begins with this byte, `` `elsif ``, `` `else `` or `` `endif ``, stands in
+    /// no conditional, or after its `` `else ``.
+    StrayConditional(usize),
+    /// The conditional that begins with this byte has no `` `endif ``.
+    UnclosedConditional(usize),
     /// Memory ran out.
     Memory,
 }
@@ -18,9 +23,9 @@ pub enum ImportFault {
 impl From<TokenFault> for ImportFault {
     fn from(fault: TokenFault) -> ImportFault {
         match fault {
-            TokenFault::UnclosedComment(at)
-            | TokenFault::StrayConditional(at)
-            | TokenFault::UnclosedConditional(at) => ImportFault::UnclosedComment(at),
+            TokenFault::UnclosedComment(at) => ImportFault::UnclosedComment(at),
+            TokenFault::StrayConditional(at) => ImportFault::StrayConditional(at),
+            TokenFault::UnclosedConditional(at) => ImportFault::UnclosedConditional(at),
             TokenFault::Memory => ImportFault::Memory,
         }
     }

@@ -336,11 +336,7 @@ impl<'f, 't, 'w> Importer<'f, 't, 'w> {
             return Ok(unwritten(Fate::Refused(cause)));
         }
         let told = self.spelled_or_halved(&mut opener.made, &opened, name, labels)?;
-        note_variables(
-            self.alloc,
-            &mut self.remarks,
-            opener.parts().variables.as_slice(),
-        )?;
+        note_variables(self.alloc, &mut self.remarks, opener.parts(), &self.reading)?;
         Ok(told)
     }
 

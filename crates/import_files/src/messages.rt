@@ -1,5 +1,6 @@
 //! What is told of the assertions of files.
 
+use crate::fault::ImportFault;
 use crate::outcome::{Fate, Imported, Missing, Outcome, Remark};
 use import_scopes::NoteKind;
 use source_files::{Part, spot_of};
@@ -48,7 +49,7 @@ fn push_notes(
     }
     if outcome.marks.unknown_type {
         let text = format!(in alloc;
-            "note {label} UnknownType: a type of an argument or a local variable is not looked at"
+            "note {label} UnknownType: a type of an argument or a local variable isn't looked at"
         )?;
         push_note(messages, at, text)?;
     }
@@ -144,7 +145,7 @@ fn remark_message(alloc: Global, remark: &Remark) -> Result<Option<Message>, All
             format!(in alloc; "note file Include: it is not read: give the file before this one")?
         }
         NoteKind::Parameters => format!(in alloc;
-            "note {text} Parameters: this instance's aren't looked at, but what the module says"
+            "note {text} Parameters: what an instance gives isn't looked at, but what the module says"
         )?,
         NoteKind::Variable => format!(in alloc;
             "note {text} Declared: read as the dump's signal: --scope has to be this module's"
@@ -251,10 +252,24 @@ pub fn messages_of(
     Ok(text)
 }
 
-/// The line that tells of a comment without an end, which begins with a byte of the text.
-pub fn unclosed_line(alloc: Global, parts: &[Part], at: usize) -> Result<String, AllocError> {
+/// The line that tells why files have no assertions at all, by the place at which that shows.
+pub fn unread_line(
+    alloc: Global,
+    parts: &[Part],
+    fault: ImportFault,
+) -> Result<String, AllocError> {
+    let (at, message) = match fault {
+        ImportFault::UnclosedComment(at) => (at, "refused file UnclosedComment: /* has no */"),
+        ImportFault::StrayConditional(at) => (
+            at,
+            "refused file StrayConditional: no `ifdef is open there, or its `else was before",
+        ),
+        ImportFault::UnclosedConditional(at) => {
+            (at, "refused file UnclosedConditional: it has no `endif")
+        }
+        ImportFault::Memory => return Err(AllocError),
+    };
     let mut text = String::new(alloc);
-    let message = "refused file UnclosedComment: /* has no */";
     push_line(&mut text, parts, cursor_at(parts, front_of(0), at), message)?;
     Ok(text)
 }

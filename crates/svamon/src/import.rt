@@ -6,7 +6,7 @@ use cli_shell::{Sources, open, print_bytes, read_sources, shown_lines, shown_sta
 use cli_words::TeamFiles;
 use import_files::{
     ImportFault, Imported, Known, Reading, Signals, imported, known_of, messages_of, signals_of,
-    status_of, text_of, unclosed_line,
+    status_of, text_of, unread_line,
 };
 use source_files::Part;
 use std::fs::Files;
@@ -91,8 +91,8 @@ pub(crate) fn told_import<R: Eprint + AllocGlobal>(
             Ok(Some(all))
         }
         Err(ImportFault::Memory) => Err(Fault::Memory),
-        Err(ImportFault::UnclosedComment(at)) => {
-            let line = unclosed_line(rt.alloc(), parts, at)?;
+        Err(fault) => {
+            let line = unread_line(rt.alloc(), parts, fault)?;
             shown_lines(rt, line.as_str());
             Ok(None)
         }
