@@ -11,10 +11,10 @@ use std::alloc::{AllocError, AllocFailed};
 pub enum ImportFault {
     /// The comment that begins with this byte of the text, counted from 0, has no end.
     UnclosedComment(usize),
-    /// The directive that begins with this byte, `` `elsif ``, `` `else `` or `` `endif ``, stands in
-    /// no conditional, or after its `` `else ``.
+    /// The directive that begins with this byte (`elsif`, `else` or `endif`) stands in no
+    /// conditional, or after its `else`.
     StrayConditional(usize),
-    /// The conditional that begins with this byte has no `` `endif ``.
+    /// The conditional that begins with this byte has no `endif`.
     UnclosedConditional(usize),
     /// Memory ran out.
     Memory,

@@ -145,7 +145,7 @@ fn remark_message(alloc: Global, remark: &Remark) -> Result<Option<Message>, All
             format!(in alloc; "note file Include: it is not read: give the file before this one")?
         }
         NoteKind::Parameters => format!(in alloc;
-            "note {text} Parameters: what an instance gives isn't looked at, but what the module says"
+            "note {text} Parameters: an instance's aren't looked at, but those of the module"
         )?,
         NoteKind::Variable => format!(in alloc;
             "note {text} Declared: read as the dump's signal: --scope has to be this module's"

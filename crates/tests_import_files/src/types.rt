@@ -120,7 +120,8 @@ fn types_of_arguments_and_local_variables(rt: HostRuntime) -> Result<(), Fail> {
         let (given, wanted) = row(number);
         let (head, use_of) = given.split_once("endproperty").unwrap_or((given, ""));
         let text = format!(in alloc;
-            "typedef logic [3:0] nibble;\nproperty p{head}endproperty\nr: assert property (@(posedge c) {use_of});\n"
+            "typedef logic [3:0] nibble;\nproperty p{head}endproperty\n\
+             r: assert property (@(posedge c) {use_of});\n"
         )?;
         let (written, told) = answer(alloc, text.as_str())?;
         let (written, told) = (written.as_str(), told.as_str());
