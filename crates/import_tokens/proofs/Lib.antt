@@ -1,3 +1,4 @@
 pub mod PieceLaws
 pub mod ReadingLaws
 pub mod NestingLaws
+pub mod ConditionalLaws

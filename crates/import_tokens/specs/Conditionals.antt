@@ -1,5 +1,5 @@
 -- The directives of conditionals among the pieces of a text (IEEE 1800-2017, 22.6).
-use Rattle.std.specs.Prelude.{ℕ, List, [], ◌∷◌, Bool, false, true, Option, Some, None}
+use Rattle.std.specs.Prelude.{ℕ, List, [], ◌∷◌, Bool, false, true, Option, Some, None, not}
 use Rattle.std.specs.Prelude.{if◌then◌else◌, ◌||◌, ◌&&◌, ◌==◌, slice_index, codes}
 use Rattle.std.specs.List.{list_any}
 use Rattle.std.specs.Str.{bytes_eq}
@@ -33,18 +33,25 @@ ends_line (first ∷ rest) = is_white first && list_any (λ b. b == 10) (first �
 abbrev pub is_definition : Piece → Bool
 is_definition piece = is_directive piece.shape && bytes_eq piece.text.now (codes "`define")
 
--- a directive where it does something in a conditional, before others
+-- whether a piece stands in a macro's definition, which goes to the end of its line (22.5.1), where
+-- the piece before it does or doesn't
+abbrev pub is_defining : Bool → Piece → Bool
+is_defining before piece = not (ends_line piece.text.now) && (before || is_definition piece)
+
+-- what a piece does in a conditional; none in a definition, where it is part of the macro's text
+abbrev pub turn_in : Bool → Piece → Option Turn
+turn_in defining piece =
+    if defining then None else (if is_directive piece.shape then turn_of piece.text.now else None)
+
+-- what does something in a conditional, before others
 abbrev pub with_turn : Option Turn → ℕ → List Conditional → List Conditional
 with_turn None at rest = rest
 with_turn (Some turn) at rest = record { turn = turn; at = at } ∷ rest
 
--- The directives of conditionals among pieces, in order. Those in a macro's definition, which goes
--- to the end of its line, are part of the macro's text (22.5.1).
+-- the directives of conditionals among pieces, in order, where what stands before them is in a
+-- definition or isn't
 unfoldable pub conditionals : Bool → List Piece → List Conditional
-conditionals defining [] = []
-conditionals defining (piece ∷ pieces) =
-    if ends_line piece.text.now then conditionals false pieces
-    else (if defining || is_definition piece then conditionals true pieces
-    else (if is_directive piece.shape
-    then with_turn (turn_of piece.text.now) piece.at (conditionals false pieces)
-    else conditionals false pieces))
+conditionals before [] = []
+conditionals before (piece ∷ pieces) =
+    let defining = is_defining before piece in
+    with_turn (turn_in defining piece) piece.at (conditionals defining pieces)

@@ -1,7 +1,8 @@
 //! Whether conditionals nest (22.6).
 
-ghost use Rattle.std.specs.Prelude.{◌≡◌, false, IfOk, OnOk, IfErr};
-ghost use Rattle.import_tokens.specs.Conditionals.{ends_line, is_definition, conditionals};
+ghost use Rattle.std.specs.Prelude.{◌≡◌, ◌++◌, [], false, IfOk, OnOk, IfErr};
+ghost use Rattle.import_tokens.specs.Conditionals.{ends_line, is_directive, is_defining, turn_in};
+ghost use Rattle.import_tokens.specs.Conditionals.{with_turn, conditionals};
 ghost use Rattle.import_tokens.specs.Nesting.{Nest, IsNesting, IsNestingFault};
 ghost use Rattle.import_tokens.specs.Steps.{Takes, outermost_of};
 
@@ -32,11 +33,42 @@ pub(crate) fn ends_line(piece: &Piece) -> bool
     }
 }
 
-/// Whether a piece begins the definition of a macro.
-pub(crate) fn is_definition(piece: &Piece) -> bool
-    ensures { result ≡ is_definition piece.now }
+/// Whether a piece is a directive.
+fn is_directive(piece: &Piece) -> bool
+    ensures { result ≡ is_directive piece.now.shape }
 {
-    piece.shape == Shape::Directive && piece.text == b"`define".as_slice()
+    piece.shape == Shape::Directive
+}
+
+/// Whether a piece stands in a macro's definition, which goes to the end of its line, where the
+/// piece before it does or doesn't.
+fn is_defining(before: bool, piece: &Piece) -> bool
+    ensures { result ≡ is_defining before piece.now }
+{
+    if ends_line(piece) {
+        return false;
+    }
+    before || is_directive(piece) && piece.text == b"`define".as_slice()
+}
+
+/// What a piece does in a conditional; none in a macro's definition.
+fn turn_in(defining: bool, piece: &Piece) -> Option<Turn>
+    ensures { result ≡ turn_in defining piece.now }
+{
+    if defining || !is_directive(piece) {
+        return None;
+    }
+    turn_of(piece.text)
+}
+
+/// Adds what does something in a conditional.
+fn add_turn(found: &mut Vec<Conditional>, turn: Option<Turn>, at: usize) -> Result<(), AllocError>
+    ensures { OnOk result (found.new.items ≡ found.old.items ++ with_turn turn at []) }
+{
+    if let Some(turn) = turn {
+        found.push(Conditional { turn, at })?;
+    }
+    Ok(())
 }
 
 /// The directives of conditionals among pieces, but for those in a macro's definition.
@@ -46,20 +78,8 @@ fn conditionals_of(alloc: Global, pieces: &[Piece]) -> Result<Vec<Conditional>, 
     let mut found = Vec::new(alloc);
     let mut defining = false;
     for piece in pieces {
-        if ends_line(piece) {
-            defining = false;
-            continue;
-        }
-        if defining || is_definition(piece) {
-            defining = true;
-            continue;
-        }
-        if piece.shape != Shape::Directive {
-            continue;
-        }
-        if let Some(turn) = turn_of(piece.text) {
-            found.push(Conditional { turn, at: piece.at })?;
-        }
+        defining = is_defining(defining, piece);
+        add_turn(&mut found, turn_in(defining, piece), piece.at)?;
     }
     Ok(found)
 }
