@@ -44,9 +44,10 @@ pub(crate) fn words_of(alloc: Global, tokens: &[Token]) -> Result<Vec<usize>, Al
 {
     let mut words = Vec::new(alloc);
     for place in 0..tokens.len() {
-        if is_begun(tokens, place) {
-            words.push(place)?;
+        if !is_begun(tokens, place) {
+            continue;
         }
+        words.push(place)?;
     }
     Ok(words)
 }
