@@ -85,12 +85,13 @@ impl<'t> Walker<'t> {
 
     /// An item that declares nets, variables, or ports in a body.
     pub(crate) fn variables(&mut self) -> Result<(), AllocError> {
-        let kind = if declares(self.text(self.at), 3) {
+        let start = self.at;
+        let word = self.text(start);
+        let kind = if declares(word, 3) {
             DeclarationKind::Port
         } else {
             DeclarationKind::Variable
         };
-        let start = self.at;
         let end = past_item(self.tokens(), start);
         self.declarators(kind, start, end)?;
         self.at = end;

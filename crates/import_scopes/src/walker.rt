@@ -293,7 +293,8 @@ impl<'t> Walker<'t> {
                 let _end = self.constants(index.saturating_add(1))?;
             }
         }
-        self.ports(self.at, end)?;
+        let start = self.at;
+        self.ports(start, end)?;
         self.at = end;
         Ok(())
     }
