@@ -335,9 +335,9 @@ impl<'f, 't, 'w> Importer<'f, 't, 'w> {
         if let Some(cause) = first_of_other_width(self.alloc, opener.parts(), &self.reading)? {
             return Ok(unwritten(Fate::Refused(cause)));
         }
-        let told = self.spelled_or_halved(&mut opener.made, &opened, name, labels)?;
-        note_variables(self.alloc, &mut self.remarks, opener.parts(), &self.reading)?;
-        Ok(told)
+        let (alloc, reading) = (self.alloc, self.reading);
+        note_variables(alloc, &mut self.remarks, opener.parts(), &reading)?;
+        self.spelled_or_halved(&mut opener.made, &opened, name, labels)
     }
 
     /// What is told beside the assertions.
