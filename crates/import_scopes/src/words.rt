@@ -7,7 +7,7 @@ use import_tokens::{Keyword, Kind, Symbol, Token};
 use std::alloc::{AllocError, Global};
 
 /// Whether a token begins an assertion (IEEE 1800-2017, 16.3 and 16.14).
-pub(crate) fn begins_assertion(kind: Kind) -> bool
+pub fn begins_assertion(kind: Kind) -> bool
     ensures { result ≡ begins_assertion kind }
 {
     match kind {
