@@ -282,7 +282,8 @@ impl<'t> Walker<'t> {
 
     /// The header of a module or the like, with its parameters; what follows is its scope.
     fn open_scope(&mut self) -> Result<(), AllocError> {
-        let name = self.text(self.at.saturating_add(1));
+        let place = self.at.saturating_add(1);
+        let name = self.text(place);
         self.push_scope(name, false)?;
         let end = past_item(self.tokens, self.at);
         for index in self.at..end {
