@@ -6,16 +6,11 @@ use crate::folding::{counted, plain, resized};
 use crate::meaning::Meaning;
 use crate::opener::{MOST_OPENED, Opener, placed, refused};
 use crate::refused::Refused;
-use crate::types::bracket_in;
+use crate::types::{bracket_in, rest_of};
 use crate::value::{Value, ValueId};
 use import_scopes::{Declaration, DeclarationId, DeclarationKind};
 use import_tokens::{Keyword, Kind, Token};
 use import_trees::{Actuals, Expected, ExpressionId, Form, FormId, Number, Path, Refusal};
-
-/// The tokens from a place on.
-fn rest_of<'t>(tokens: &'t [Token<'t>], first: usize) -> &'t [Token<'t>] {
-    &tokens[first.min(tokens.len())..]
-}
 
 /// The width of a type without brackets, and whether it has a sign (IEEE 1800-2017, 6.11).
 fn plain_width(tokens: &[Token]) -> Option<(u8, bool)> {

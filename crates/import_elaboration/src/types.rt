@@ -9,6 +9,11 @@ use import_scopes::{Declaration, DeclarationKind};
 use import_tokens::{Keyword, Kind, Symbol, Token};
 use import_trees::{Number, Path, Refusal};
 
+/// The tokens from a place on.
+pub(crate) fn rest_of<'t>(tokens: &'t [Token<'t>], first: usize) -> &'t [Token<'t>] {
+    &tokens[first.min(tokens.len())..]
+}
+
 /// The type of an enumeration that names none, and of numbers without a size.
 const INTEGER: Type = Type {
     width: 32,
@@ -85,7 +90,7 @@ fn base_type(tokens: &[Token]) -> Option<Type> {
 fn type_tokens<'t>(tokens: &'t [Token<'t>]) -> &'t [Token<'t>] {
     for (index, token) in tokens.iter().enumerate() {
         if token.kind != Kind::Word || !is_passed(token.text) {
-            return tokens.get(index..).unwrap_or(&[]);
+            return rest_of(tokens, index);
         }
     }
     &tokens[..0]
@@ -125,7 +130,7 @@ impl<'f, 't> Opener<'f, 't> {
         }
         let (left, taken) = self.expression(tokens, at)?;
         let second = taken.saturating_add(1);
-        let after = tokens.get(second..).unwrap_or(&[]);
+        let after = rest_of(tokens, second);
         let (right, more) = self.expression(after, at)?;
         let left = self.constant(left, environment, depth - 1)?;
         let right = self.constant(right, environment, depth - 1)?;
@@ -179,8 +184,8 @@ impl<'f, 't> Opener<'f, 't> {
                 None => None,
             });
         };
-        let front = tokens.get(..bracket).unwrap_or(&[]);
-        let inside = tokens.get(bracket.saturating_add(1)..).unwrap_or(&[]);
+        let front = &tokens[..bracket.min(tokens.len())];
+        let inside = rest_of(tokens, bracket.saturating_add(1));
         match base_type(front) {
             Some(base) if base.width == 1 => {
                 self.vector_type(base.signed, inside, environment, at, depth - 1)

@@ -23,14 +23,16 @@ module _ (tokens : List Token) (place : ℕ) (d : Token) (lt : place < length to
       ≡ place ∷ word_places (place + 1) (drop (place + 1) tokens)
   word_here h =
       ap (word_places place) cell
-      ∙ first_word place (get_or tokens place d) (drop (suc place) tokens) (sym (ap (λ (ts : List Token). is_begun ts) cell) ∙ h)
+      ∙ first_word place (get_or tokens place d) (drop (suc place) tokens)
+      (sym (ap (λ (ts : List Token). is_begun ts) cell) ∙ h)
       ∙ ap (λ (n : ℕ). place ∷ word_places n (drop n tokens)) (sym (add-one place))
 
   pub no_word_here : is_begun (drop place tokens) ≡ false → word_places place (drop place tokens)
       ≡ word_places (place + 1) (drop (place + 1) tokens)
   no_word_here h =
       ap (word_places place) cell
-      ∙ first_other place (get_or tokens place d) (drop (suc place) tokens) (sym (ap (λ (ts : List Token). is_begun ts) cell) ∙ h)
+      ∙ first_other place (get_or tokens place d) (drop (suc place) tokens)
+      (sym (ap (λ (ts : List Token). is_begun ts) cell) ∙ h)
       ∙ ap (λ (n : ℕ). word_places n (drop n tokens)) (sym (add-one place))
 
 pub word_more : (tokens : List Token) (words after : List ℕ) (place : ℕ) (rest all : List ℕ)
