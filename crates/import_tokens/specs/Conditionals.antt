@@ -1,6 +1,6 @@
 -- The directives of conditionals among the pieces of a text (IEEE 1800-2017, 22.6).
 use Rattle.std.specs.Prelude.{ℕ, List, [], ◌∷◌, Bool, false, true, Option, Some, None, not}
-use Rattle.std.specs.Prelude.{if◌then◌else◌, ◌||◌, ◌&&◌, ◌==◌, slice_index, codes}
+use Rattle.std.specs.Prelude.{if◌then◌else◌, ◌||◌, ◌&&◌, ◌==◌, codes}
 use Rattle.std.specs.List.{list_any}
 use Rattle.std.specs.Str.{bytes_eq}
 use Rattle.import_tokens.specs.declared.conditional.Conditional.{Conditional}

@@ -1,8 +1,9 @@
-use Rattle.std.proofs.Common.{rules, ◌≡◌, ◌∙◌, ◌+◌, sym, ap, subst, [], List, Bool, ℕ, take, arith, get_or}
+use Rattle.std.proofs.Common.{rules, ◌∙◌, ◌+◌, sym, ap, subst, [], List, Bool, ℕ, take, get_or}
 use Rattle.import_tokens.specs.declared.conditional.Conditional.{Conditional}
 use Rattle.import_tokens.specs.declared.turn.Turn.TheVariants.{If}
 use Rattle.import_tokens.specs.Steps.{Takes, outermost_of}
-use Rattle.import_tokens.proofs.NestingLaws.{Walks, walks_none, walks_further, strays, all_taken, are_whole, is_unclosed, none_of}
+use Rattle.import_tokens.proofs.NestingLaws.{Walks, walks_none, walks_further, strays, all_taken}
+use Rattle.import_tokens.proofs.NestingLaws.{are_whole, is_unclosed, none_of}
 use Rattle.import_tokens.proofs.nesting.nesting_among.Goals as goal
 
 nothing : Conditional
