@@ -7,7 +7,8 @@ use Rattle.import_tokens.specs.declared.piece.Piece.{Piece}
 use Rattle.import_tokens.specs.declared.turn.Turn.{Turn}
 use Rattle.import_tokens.specs.Conditionals.{is_defining, turn_in, with_turn, conditionals}
 
-before_rest : (turn : Option Turn) (at : ℕ) (rest : List Conditional) → with_turn turn at rest ≡ with_turn turn at [] ++ rest
+before_rest : (turn : Option Turn) (at : ℕ) (rest : List Conditional)
+    → with_turn turn at rest ≡ with_turn turn at [] ++ rest
 before_rest None at rest = refl
 before_rest (Some turn) at rest = refl
 
