@@ -114,6 +114,23 @@ fn enumerated<'t>(tokens: &'t [Token<'t>]) -> Option<&'t [Token<'t>]> {
     None
 }
 
+/// The tokens of a vector's type: what an enumeration is of, or what is said.
+fn vector_tokens<'t>(said: &'t [Token<'t>]) -> &'t [Token<'t>] {
+    if let Some(own) = enumerated(said) {
+        return own;
+    }
+    said
+}
+
+/// The type that tokens say without a range, if it is known; its right bit is 0.
+fn plain_of<'t>(said: &'t [Token<'t>]) -> Option<(Type, u32)> {
+    match enumerated(said) {
+        Some(own) if own.is_empty() => Some((INTEGER, 0)),
+        Some(own) => Some((base_type(own)?, 0)),
+        None => Some((base_type(said)?, 0)),
+    }
+}
+
 impl<'f, 't> Opener<'f, 't> {
     /// The two ends of the range whose tokens begin after its bracket, and how many tokens it
     /// takes up to its own bracket.
@@ -168,21 +185,14 @@ impl<'f, 't> Opener<'f, 't> {
         if !self.may_go_on(depth) {
             return Err(refused(Refusal::TooHeavy, at));
         }
-        let tokens = type_tokens(given);
-        if let Some(declaration) = self.named_type(tokens, environment) {
+        let said = type_tokens(given);
+        if let Some(declaration) = self.named_type(said, environment) {
             let inside = self.enter_scope(declaration, environment, at)?;
             return self.ranged_type(declaration.formals, inside, at, depth - 1);
         }
-        let tokens = match enumerated(tokens) {
-            Some([]) => return Ok(Some((INTEGER, 0))),
-            Some(own) => own,
-            None => tokens,
-        };
+        let tokens = vector_tokens(said);
         let Some(bracket) = bracket_in(tokens) else {
-            return Ok(match base_type(tokens) {
-                Some(base) => Some((base, 0)),
-                None => None,
-            });
+            return Ok(plain_of(said));
         };
         let front = &tokens[..bracket.min(tokens.len())];
         let inside = rest_of(tokens, bracket.saturating_add(1));
