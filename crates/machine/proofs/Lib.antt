@@ -12,5 +12,8 @@ pub mod SampleLaws
 pub mod MemoryLaws
 pub mod OwnLaws
 pub mod AgainLaws
+pub mod FewLaws
+pub mod LaterLaws
+pub mod ToldAtLaws
 pub mod ToldLaws
 pub mod SteadyLaws

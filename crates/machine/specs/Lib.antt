@@ -5,4 +5,6 @@ pub mod SampleCode
 pub mod Running
 pub mod Told
 pub mod Memory
+pub mod Later
+pub mod Few
 pub mod Again

@@ -9,10 +9,13 @@
 //! as at most clocks of most rules, no pool is walked: the clock's own attempt and obligation are
 //! visited and settled alone, and a pool is touched only by what stays live. Where nothing is live
 //! after it either, what it came to is noted by its atoms, up to a number of 63, and a later clock
-//! over the same atoms visits nothing. Where all rows that the program keeps are equal, too, and
-//! the next clock has the same row and the same counters, that clock comes to the same verdict at
-//! the same cost: it runs no code, and only the clock's number moves. Many such clocks, one after
-//! another, are passed over at once by `repeat`.
+//! over the same atoms visits nothing.
+//!
+//! A clock may leave all that is live as it was, one clock later: nothing, or one attempt at most
+//! and one obligation at most. Where all rows that the program keeps are equal, too, and the next
+//! clock has the same row and the same counters, that clock comes to the same, one clock later, at
+//! the same cost: it runs no code. Many such clocks, one after another, are passed over at once by
+//! `repeat`.
 //!
 //! ```text
 //! let mut machine = Machine::new(alloc, verify(alloc, program)?)?;
@@ -25,8 +28,9 @@
 //!
 //! A contract sees the program, the state of the checked machine, and the cost of the last clock:
 //! `specs/Running.antt`. What is noted of the last clocks: `specs/Again.antt`, and by atoms:
-//! `specs/Told.antt`. The definitions of a clock stand in `machine_definition`: `clock` there says
-//! what a clock comes to, with every test that it could fail.
+//! `specs/Told.antt`. What is so many clocks later: `specs/Later.antt`. The definitions of a clock
+//! stand in `machine_definition`: `clock` there says what a clock comes to, with every test that it
+//! could fail.
 //!
 //! Not promised: that memory suffices for a machine, that a foreign program means anything, or
 //! which clocks `repeat` passes over: it may run none.
@@ -34,6 +38,7 @@
 
 mod attempts;
 mod bases;
+mod few;
 mod live;
 mod machine;
 mod memory;

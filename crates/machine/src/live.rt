@@ -12,9 +12,17 @@ ghost use Rattle.machine.specs.Live.{attempts_in, obligations_in, standing_of, n
 ghost use Rattle.machine.specs.Live.{with_new};
 ghost use Rattle.machine.specs.Live.{live_budget, ArePoolsOf, HasAdvanced};
 ghost use Rattle.machine.specs.Told.{AreOutcomesOf, IsTold};
+ghost use Rattle.machine.specs.Few.{AreFew, IsThis};
+ghost use Rattle.machine_definition.specs.Clocks.{Standing};
+ghost use Rattle.machine.specs.Later.{standing_later};
+ghost use Rattle.machine.specs.Again.{IsLittle};
 
 use crate::attempts::{disable_attempts, settle_attempts, visit_attempts};
 use crate::bases::Bases;
+use crate::few::{
+    Few, Little, is_attempt_later, is_obligation_later, move_attempt, move_obligation,
+    only_attempt, only_obligation,
+};
 use crate::obligations::{drop_obligations, visit_obligations};
 use crate::outcomes::{Outcomes, Told, number_of};
 use crate::own::{
@@ -85,6 +93,87 @@ impl Live {
             × (self.entry.now.obligations.live ≡ []) }
     {
         self.attempts.len() == 0 && self.obligations.len() == 0
+    }
+
+    /// What is live, where something is.
+    fn few(&self) -> Little
+        ensures { IsThis (standing_of self.entry.now.now
+            self.entry.now.attempts self.entry.now.obligations) result }
+    {
+        if self.attempts.len() > 1 || self.obligations.len() > 1 {
+            return Little::Much;
+        }
+        Little::Few(Few {
+            attempt: only_attempt(&self.attempts),
+            obligation: only_obligation(&self.obligations),
+        })
+    }
+
+    /// What is live.
+    pub(crate) fn little(&self) -> Little
+        ensures { IsThis (standing_of self.entry.now.now
+            self.entry.now.attempts self.entry.now.obligations) result }
+    {
+        if self.is_idle() {
+            return Little::Nothing;
+        }
+        self.few()
+    }
+
+    /// Whether few are live now that are these ones, one clock later.
+    fn are_later(&self, before: Few) -> bool
+        ensures little { IsTrue result → IsLittle (standing_of self.entry.now.now
+            self.entry.now.attempts self.entry.now.obligations) }
+        ensures later { IsTrue result → (old : Standing) → AreFew old before
+            → self.entry.now.now ≡ old.now + 1
+            → standing_of self.entry.now.now self.entry.now.attempts self.entry.now.obligations
+            ≡ standing_later 1 old }
+    {
+        match self.few() {
+            Little::Few(after) => {
+                is_attempt_later(before.attempt, after.attempt)
+                    && is_obligation_later(before.obligation, after.obligation)
+            }
+            _ => false,
+        }
+    }
+
+    /// Whether what is live now is what was live before, one clock later, and is little.
+    pub(crate) fn is_later(&self, before: Little) -> bool
+        ensures little { IsTrue result → IsLittle (standing_of self.entry.now.now
+            self.entry.now.attempts self.entry.now.obligations) }
+        ensures later { IsTrue result → (old : Standing) → IsThis old before
+            → self.entry.now.now ≡ old.now + 1
+            → standing_of self.entry.now.now self.entry.now.attempts self.entry.now.obligations
+            ≡ standing_later 1 old }
+    {
+        match before {
+            Little::Nothing => self.is_idle(),
+            Little::Few(few) => self.are_later(few),
+            Little::Much => false,
+        }
+    }
+
+    /// Moves what is live, one attempt at most and one obligation at most, to so many clocks later.
+    pub(crate) fn move_on(&mut self, program: &Program, clocks: u64)
+        requires little { IsLittle (standing_of self.old.now
+            self.old.attempts self.old.obligations) }
+        requires reached { IsReached (data_of program.now)
+            (standing_of self.old.now self.old.attempts self.old.obligations) }
+        requires more { self.old.now + clocks < 2 ^ 64 }
+        ensures pools { (self.new.attempts.cap ≡ self.old.attempts.cap)
+            × (self.new.obligations.cap ≡ self.old.obligations.cap) }
+        ensures now { self.new.now ≡ self.old.now + clocks }
+        ensures later { standing_of self.new.now self.new.attempts self.new.obligations
+            ≡ standing_later clocks
+            (standing_of self.old.now self.old.attempts self.old.obligations) }
+        ensures same { self.new.outcomes ≡ self.old.outcomes }
+    {
+        let _ = program;
+        let now = self.now;
+        move_attempt(&mut self.attempts, now, clocks);
+        move_obligation(&mut self.obligations, now, clocks);
+        self.now = now + clocks;
     }
 
     /// A clock, by the pools.

@@ -58,8 +58,8 @@ impl Machine {
     }
 
     /// So many clocks over a row, where the machine knows that each comes to what the last one came
-    /// to: what the first of them decides. Else it answers nothing, and runs none. It takes no
-    /// memory, and no longer for many clocks than for one.
+    /// to, one clock later: what the first of them decides. Else it answers nothing, and runs none.
+    /// It takes no memory, and no longer for many clocks than for one.
     pub fn repeat(&mut self, row: &[u128], clocks: u64) -> Option<Decided>
         requires row { IsRowOf self.old.program row.now }
         requires more { self.old.state.standing.now + clocks < 2 ^ 64 }

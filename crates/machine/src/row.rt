@@ -17,6 +17,22 @@ pub(crate) fn keep_row(program: &Program, history: &mut Ring, row: &[u128])
     }
 }
 
+/// Whether two lists of values are the same. Most that are asked of differ at one of the first
+/// places, and there a loop is shorter than `==`.
+fn are_same(left: &[u128], right: &[u128]) -> bool
+    ensures { IsTrue result → left.now ≡ right.now }
+{
+    if left.len() != right.len() {
+        return false;
+    }
+    for place in 0..left.len() {
+        if left[place] != right[place] {
+            return false;
+        }
+    }
+    true
+}
+
 /// Whether a row is that of these values of the signals, and these counters.
 pub(crate) fn is_row(row: &[u128], signals: &[u128], counters: &[u128]) -> bool
     ensures { IsTrue result → row.now ≡ 1 ∷ (signals.now ++ counters.now) }
@@ -28,5 +44,5 @@ pub(crate) fn is_row(row: &[u128], signals: &[u128], counters: &[u128]) -> bool
         return false;
     }
     let (before, after) = rest.split_at(signals.len());
-    *first == 1 && before == signals && after == counters
+    *first == 1 && are_same(before, signals) && are_same(after, counters)
 }

@@ -30,7 +30,8 @@ use Rattle.std.specs.List.{range_with_len}
 use Rattle.std.proofs.lemmas.List.{append-nil, replicate_more, replicate-append-replicate}
 use Rattle.vcd_reader.specs.Variables.{size_of}
 use Rattle.machine.specs.Running.{Running, IsOneClock}
-use Rattle.machine.specs.Told.{verdict_at, told_at}
+use Rattle.machine.specs.Told.{verdict_at}
+use Rattle.machine.specs.Later.{attempt_later, verdict_later, decided_later}
 use Rattle.machine.specs.Again.{AreAgain, told_from}
 use Rattle.machine_decisions.proofs.CountLaws.{CountsAll, clock-counts}
 use Rattle.signals.specs.declared.verdict.Verdict.{Verdict}
@@ -66,6 +67,8 @@ use Rattle.machine_definition.specs.Outcomes.{Meets}
 use Rattle.machine_definition.proofs.Machine.{never-count}
 use Rattle.std.proofs.Math.Logic.{∥∥₁_elim, ∥∥₁_map}
 use Rattle.std.proofs.Math.Bridge.{le_prop}
+use Rattle.std.proofs.Math.Path.{fun_ext}
+use Rattle.std.proofs.Math.ListN.{length-map}
 use Rattle.machine_decisions.proofs.JoinLaws.{between-joins, come-on, ends-in}
 use Rattle.workers_core.specs.declared.monitor.Monitor.{Monitor}
 use Rattle.workers_core.specs.States.{MonitorState, monitor_moved}
@@ -274,13 +277,19 @@ more-none old new row same is told = record {
   );
 }
 
--- the verdict of one clock, so many clocks later
-moved-to : (now n : ℕ) (v : Verdict) → verdict_moved n (verdict_at now v) ≡ verdict_at (now + n) v
-moved-to now n (Holds t) = refl
-moved-to now n (Vacuous t) = refl
-moved-to now n (Fails t) = refl
-moved-to now n (Disabled t) = refl
-moved-to now n Open = refl
+-- what came to the same so many clocks later, as a streak has it
+moved-as : (n : ℕ) (v : Verdict) → verdict_moved n v ≡ verdict_later n v
+moved-as n (Holds t) = refl
+moved-as n (Vacuous t) = refl
+moved-as n (Fails t) = refl
+moved-as n (Disabled t) = refl
+moved-as n Open = refl
+
+nth-as : (first : Decided) (n : ℕ) → nth first n ≡ decided_later n first
+nth-as first n = λ j. record { start = first.start + n; verdict = moved-as n first.verdict j }
+
+streak-told : (first : Decided) (n : ℕ) → map (nth first) (range_with_len 0 n) ≡ told_from first n
+streak-told first n = ap (λ (f : ℕ → Decided). map f (range_with_len 0 n)) (fun_ext (nth-as first))
 
 clock-at : (now : ℕ) (v : Verdict) → deciding_clock (verdict_at now v) ≤ now
 clock-at now (Holds t) = omega arith
@@ -289,24 +298,12 @@ clock-at now (Fails t) = omega arith
 clock-at now (Disabled t) = omega arith
 clock-at now Open = omega arith
 
--- the attempts of clocks that decide their own, as a streak has them
-streak-told : (now : ℕ) (v : Verdict) (first : Decided) → first ≡ told_at now v → (i n : ℕ) →
-    map (nth first) (range_with_len i n) ≡ told_from (now + i) n v
-streak-told now v first is i zero = refl
-streak-told now v first is i (suc n) =
-    let next : now + (i + 1) ≡ (now + i) + 1 = omega arith in
-    let rest = streak-told now v first is (i + 1) n ∙ ap (λ (k : ℕ). told_from k n v) next in
-    ap (λ (d : Decided). nth d i ∷ map (nth first) (range_with_len (i + 1) n)) is
-    ∙ ap (λ (w : Verdict).
-    record { start = now + i; verdict = w } ∷ map (nth first) (range_with_len (i + 1) n))
-    (moved-to now i v)
-    ∙ ap (λ (ds : List Decided). told_at (now + i) v ∷ ds) rest
+-- what is decided at a clock is decided by then
+pub known-by : (now : ℕ) (v : Verdict) → v ≡ verdict_at now v → deciding_clock v ≤ now
+known-by now v is = subst (λ (w : Verdict). deciding_clock w ≤ now) (sym is) (clock-at now v)
 
--- what is decided at its own clock is decided by then
-pub own-clock : (now : ℕ) (first : Decided) → first ≡ told_at now first.verdict
-    → deciding_clock first.verdict ≤ now
-own-clock now first is =
-    subst (λ (d : Decided). deciding_clock d.verdict ≤ now) (sym is) (clock-at now first.verdict)
+as-many : {A B : Type 0} (f : A → B) (xs : List A) → length (map f xs) ≡ length xs
+as-many f xs = rw length-map refl
 
 -- clocks that a machine passed over
 pub passed-over : (old new : Monitor) (row : List ℕ) (clocks : ℕ) (first : Decided) →
@@ -314,17 +311,18 @@ pub passed-over : (old new : Monitor) (row : List ℕ) (clocks : ℕ) (first : D
     new.decided.items ≡ old.decided.items ++ map (nth first) (range_with_len 0 clocks) →
     old.decided.room ≤ new.decided.room + 1 → AreMore old row clocks new
 passed-over old new row clocks first h same some told room =
-    let now = old.machine.state.standing.now in
-    let none : now + 0 ≡ now = omega arith in
     record {
       same = same;
-      decided = told_from now clocks first.verdict;
+      decided = told_from first clocks;
       ran = h.ran;
-      told = told ∙ ap (λ (ds : List Decided). old.decided.items ++ ds)
-          (streak-told now first.verdict first h.own 0 clocks
-          ∙ ap (λ (k : ℕ). told_from k clocks first.verdict) none);
+      told = told ∙ ap (λ (ds : List Decided). old.decided.items ++ ds) (streak-told first clocks);
       now = ap (λ (s : State). s.standing.now) h.state;
-      room = omega (arith, ap (λ (s : State). length s.standing.attempts) h.state, room);
+      room = omega (
+        arith,
+        ap (λ (s : State). length s.standing.attempts) h.state,
+        as-many (attempt_later clocks) old.machine.state.standing.attempts,
+        room,
+      );
     }
 
 abbrev some : ProgramData → State → ℕ → List Decided → MonitorState

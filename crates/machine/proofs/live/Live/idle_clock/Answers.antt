@@ -1,4 +1,4 @@
-use Rattle.std.proofs.Common.{◌≡◌, ◌∙◌, ap, List, length}
+use Rattle.std.proofs.Common.{◌∙◌, ap}
 use Rattle.bytecode.specs.Programs.{data_of}
 use Rattle.machine.specs.Live.{attempts_in, obligations_in, standing_of}
 use Rattle.machine.proofs.OwnLaws.{none-stands}

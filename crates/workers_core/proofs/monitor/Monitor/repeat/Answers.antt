@@ -47,14 +47,14 @@ returns-in-None-clause-clocks c =
 pub from_first-requires-clause-starts : goal.from_first-requires-clause-starts
 from_first-requires-clause-starts c =
     let again = c.in-Some.ensures.again in
-    omega (arith, ap (λ (d : Decided). d.start) again.own, c.requires.more)
+    omega (arith, again.began, c.requires.more)
 
 pub from_first-requires-clause-clocks : goal.from_first-requires-clause-clocks
 from_first-requires-clause-clocks c =
     let again = c.in-Some.ensures.again in
     omega (
       arith,
-      laws.own-clock c.args.self.now.machine.state.standing.now c.in-Some.first again.own,
+      laws.known-by c.args.self.now.machine.state.standing.now c.in-Some.first.verdict again.verdict,
       c.requires.more,
     )
 
