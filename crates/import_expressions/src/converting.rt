@@ -79,7 +79,7 @@ impl<'p, 't> Terms<'p, 't> {
             let path = self.spelled(path)?;
             return Ok(Plan::Term(match width {
                 0 | 1 => Term::Bit(path, 0),
-                _ => Term::Bits(path, u32::from(width - 1), 0),
+                _ => Term::Bits(path, u32::from(width).saturating_sub(1), 0),
             }));
         }
         if !alone {

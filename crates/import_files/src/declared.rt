@@ -53,7 +53,10 @@ pub(crate) fn first_of_other_width(
     reading: &Reading<'_>,
 ) -> Result<Option<Cause>, AllocError> {
     for variable in parts.variables.as_slice() {
-        if !variable.depends && is_of_other_width(alloc, parts, reading, variable)? {
+        if variable.depends {
+            continue;
+        }
+        if is_of_other_width(alloc, parts, reading, variable)? {
             return Ok(Some(Cause {
                 code: "Width",
                 hint: "the file declares it with another width than the dump's signal has: \
