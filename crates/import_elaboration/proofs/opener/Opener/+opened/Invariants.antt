@@ -77,3 +77,24 @@ decreases-choices l = l.depth
 
 abbrev pub decreases-assignments : goal.decreases-assignments
 decreases-assignments l = l.depth
+
+abbrev pub decreases-range : goal.decreases-range
+decreases-range l = l.depth
+
+abbrev pub decreases-ranged_type : goal.decreases-ranged_type
+decreases-ranged_type l = l.depth
+
+abbrev pub decreases-vector_type : goal.decreases-vector_type
+decreases-vector_type l = l.depth
+
+abbrev pub decreases-data_type : goal.decreases-data_type
+decreases-data_type l = l.depth
+
+abbrev pub decreases-converted : goal.decreases-converted
+decreases-converted l = l.depth
+
+abbrev pub decreases-held : goal.decreases-held
+decreases-held l = l.depth
+
+abbrev pub decreases-variable : goal.decreases-variable
+decreases-variable l = l.depth
