@@ -8,3 +8,4 @@ pub mod CheckedLaws
 pub mod WrittenLaws
 pub mod TraceLaws
 pub mod ExplainedLaws
+pub mod WaveLaws

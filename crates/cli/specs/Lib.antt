@@ -6,3 +6,4 @@ pub mod Timed
 pub mod Outcomes
 pub mod Builds
 pub mod Explained
+pub mod Waves

@@ -8,6 +8,7 @@
 //! let totals = judge_one(alloc, &mut dump, text, &mut out)?;        // the same, by the slow judge
 //! let bytes = build_one(alloc, &mut dump, text, "grant")?;          // an assertion's program
 //! let count = explain_one(&rt, alloc, &mut dump, text, &origin, &wanted, team, &gate, &mut out)?;
+//! let shown = failures_over(&rt, alloc, dump, text, &origin, &wanted, team, &gate, &waveform)?;
 //! let paged = page_over(&rt, alloc, dump, text, team, size, &gate, &paths, &origin, 3)?;
 //! ```
 //!
@@ -17,9 +18,10 @@
 //!
 //! The definitions: what a report on bytes and a text is in `specs/Reported.antt`, what a run comes
 //! to in `specs/Outcomes.antt`, the times of clocks in `specs/Timed.antt`, what a build comes to
-//! in `specs/Builds.antt`, what explanations and a page come to in `specs/Explained.antt`; the
-//! report on a suite in `judged_reports`, an explanation in `explained_reports`, a page in
-//! `report_page`; faults, their lines and statuses in `cli_faults`.
+//! in `specs/Builds.antt`, what explanations and a page come to in `specs/Explained.antt`, with a
+//! save file of GTKWave in `specs/Waves.antt`; the report on a suite in `judged_reports`, an
+//! explanation in `explained_reports`, a page in `report_page`, a save file in `report_waves`;
+//! faults, their lines and statuses in `cli_faults`.
 //!
 //! Not promised: that memory suffices; of calls that take a team, that they return, and that two
 //! workers were at work at once; at which place of its file an assertion is told to stand.
@@ -39,6 +41,7 @@ mod text;
 mod timed;
 mod times;
 mod trace;
+mod waves;
 
 pub use build::build_one;
 pub use check::{check_all, check_one, judge_one};
@@ -48,4 +51,6 @@ pub use compiled_reports::{Gate, NoGate};
 pub use explain::explain_one;
 pub use explained_reports::Wanted;
 pub use page::{PagedReport, Paths, page_over};
+pub use report_waves::Waves;
 pub use timed::{TimedReport, report_all, report_over};
+pub use waves::{ShownFailures, Waveform, failures_over};

@@ -141,7 +141,8 @@ judge_app = text_app (codes "judge")
 
 abbrev pub explain_app : App
 explain_app =
-    with_rule (with_rule (with_rule (team_app (codes "explain")) only_rule) start_rule) most_rule
+    let wanted = with_rule (with_rule (team_app (codes "explain")) only_rule) start_rule in
+    with_rule (with_rule wanted most_rule) (option_rule (codes "gtkw"))
 
 abbrev pub lint_app : App
 lint_app = team_app (codes "lint")
@@ -294,7 +295,7 @@ command_of (Build vcd sva axi name out) = codes "build"
 command_of (Verify code) = codes "verify"
 command_of (Run vcd code workers window) = codes "run"
 command_of (Judge vcd sva axi) = codes "judge"
-command_of (Explain vcd sva axi team only start most) = codes "explain"
+command_of (Explain vcd sva axi team only start most gtkw) = codes "explain"
 command_of (Lint vcd sva axi team) = codes "lint"
 command_of (Names vcd matching scope) = codes "names"
 command_of (Import team vcd) = codes "import"
@@ -313,9 +314,9 @@ IsGiven rows (Verify code) = Gives (codes "code") rows (Some code)
 IsGiven rows (Run vcd code workers window) =
     HasProgram rows vcd code × HasTeam rows workers window
 IsGiven rows (Judge vcd sva axi) = HasText rows vcd sva.items axi
-IsGiven rows (Explain vcd sva axi team only start most) =
+IsGiven rows (Explain vcd sva axi team only start most gtkw) =
     HasText rows vcd sva.items axi × HasTeamFiles (codes "sv") rows team
-    × HasWanted rows only start most
+    × HasWanted rows only start most × Gives (codes "gtkw") rows gtkw
 IsGiven rows (Lint vcd sva axi team) =
     HasText rows vcd sva.items axi × HasTeamFiles (codes "sv") rows team
 IsGiven rows (Names vcd matching scope) = HasNames rows vcd matching scope

@@ -37,6 +37,9 @@ const JSON: &str = "Writes the report into a file, as JSON";
 /// What `--html` is.
 const HTML: &str = "Writes the report into a file, as a page of HTML";
 
+/// What `--gtkw` is.
+const GTKW: &str = "Writes the signals and markers of the failures into a file, for GTKWave";
+
 /// An option with one value that has to be there.
 fn named_option<'a>(alloc: Global, name: &'a str, value: &'a str, help: &'a str) -> Arg<'a>
     ensures rule { rule_of result ≡ file_rule name.entry.now }
@@ -264,7 +267,7 @@ fn bound_option<'a>(alloc: Global) -> Arg<'a>
     within_bounds(option)
 }
 
-/// The option for a file into which another form of the report is written, which may be left out.
+/// The option for a file into which another form of what is told is written, which may be left out.
 fn form_option<'a>(alloc: Global, name: &'a str, help: &'a str) -> Arg<'a>
     ensures rule { rule_of result ≡ option_rule name.entry.now }
     ensures local { result.global ≡ false }
@@ -406,7 +409,8 @@ fn explain_command<'a>(alloc: Global) -> Result<Command<'a>, AllocError>
     team_command(alloc, "explain", about)?
         .arg(only_option(alloc))?
         .arg(start_option(alloc))?
-        .arg(most_option(alloc))
+        .arg(most_option(alloc))?
+        .arg(form_option(alloc, "gtkw", GTKW))
 }
 
 fn lint_command<'a>(alloc: Global) -> Result<Command<'a>, AllocError>

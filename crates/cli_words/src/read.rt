@@ -198,6 +198,7 @@ fn explain_request(alloc: Global, options: &ArgMatches) -> Result<Request, Words
         only: option_of(alloc, options, "only")?,
         start,
         most,
+        gtkw: option_of(alloc, options, "gtkw")?,
     })
 }
 

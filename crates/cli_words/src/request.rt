@@ -78,6 +78,8 @@ pub enum Request {
         start: Option<u64>,
         /// How many attempts of each assertion are explained at most, from 1 to 65,536.
         most: u64,
+        /// The file into which signals and markers are written for GTKWave.
+        gtkw: Option<String>,
     },
     /// Tells each refusal of the assertions of a text over a dump.
     Lint {

@@ -9,7 +9,7 @@ use crate::doubles::told_double;
 use crate::meant::Meant;
 use crate::paths::{is_listed, path_at, push_others, told_path};
 use crate::selects::told_select;
-use crate::token_hints::{not_hint, token_hint};
+use crate::token_hints::{bound_code, mark_hint, not_hint, token_hint};
 use crate::weights::side_weight;
 use compiler::CompileFault;
 use diagnostics::{CODES, MARKS, Refusal, SIGNS, WORDS, hint_at, hint_beside};
@@ -49,7 +49,7 @@ pub fn lex_refusal(alloc: Global, text: &str, fault: LexFault) -> Result<Refusal
 {
     match fault {
         LexFault::BadCharacter(at) => {
-            refusal_at(alloc, at, "L1 BadCharacter", hint_at(text, at, &MARKS))
+            refusal_at(alloc, at, "L1 BadCharacter", hint_beside_token(text, at))
         }
         LexFault::BadNumber(at) => coded(alloc, at, "L2", "L2 BadNumber"),
         LexFault::UnclosedComment(at) => coded(alloc, at, "L3", "L3 UnclosedComment"),
@@ -59,10 +59,20 @@ pub fn lex_refusal(alloc: Global, text: &str, fault: LexFault) -> Result<Refusal
 
 /// What to write where a token can't go on.
 fn hint_beside_token(text: &str, at: usize) -> Option<&'static str> {
+    if let Some(hint) = mark_hint(text, at) {
+        return Some(hint);
+    }
     match hint_at(text, at, &MARKS) {
         Some(hint) => Some(hint),
         None => token_hint(text, at),
     }
+}
+
+/// What is told of a number that is no bound where it stands.
+fn bad_bound(alloc: Global, text: &str, at: usize) -> Result<Refusal, AllocError>
+    ensures { IfOk result (λ r. r.at ≡ at) }
+{
+    coded(alloc, at, bound_code(text, at), "P4 BadBound")
 }
 
 /// What is told of a token that can't go on.
@@ -103,7 +113,7 @@ pub fn parse_refusal(alloc: Global, text: &str, fault: ParseFault) -> Result<Ref
         ParseFault::Expected(what, at) => expected(alloc, text, at, what),
         ParseFault::OutsideProfile(word, at) => outside(alloc, text, at, word),
         ParseFault::TooDeep(at) => coded(alloc, at, "P3", "P3 TooDeep"),
-        ParseFault::BadBound(at) => coded(alloc, at, "P4", "P4 BadBound"),
+        ParseFault::BadBound(at) => bad_bound(alloc, text, at),
         ParseFault::Memory => Err(AllocError),
     }
 }

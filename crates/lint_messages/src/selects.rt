@@ -25,6 +25,19 @@ fn select_from(text: &str, at: usize) -> Option<&str> {
     rest.get(start..end.saturating_add(1))
 }
 
+/// The bounds of a select whose lower one stands first.
+fn turned_bounds(select: &str) -> Option<(u64, u64)> {
+    let inside = select.strip_prefix('[')?.strip_suffix(']')?;
+    let (first, last) = inside.split_once(':')?;
+    let first = first.trim().parse::<u64>().ok()?;
+    let last = last.trim().parse::<u64>().ok()?;
+    if first < last {
+        Some((first, last))
+    } else {
+        None
+    }
+}
+
 /// What is told of a select of a path that stands at a byte: the bits that there are, and those
 /// that are asked for.
 pub(crate) fn told_select(
@@ -40,6 +53,13 @@ pub(crate) fn told_select(
     };
     let select = select_from(text, at.saturating_add(path.len())).unwrap_or("this");
     let most = width.saturating_sub(1);
+    if let Some((low, high)) = turned_bounds(select) {
+        if high < u64::from(width) {
+            return format!(in alloc;
+                "Y4 SliceRange; the higher bit stands first: write {path}[{high}:{low}]"
+            );
+        }
+    }
     format!(in alloc;
         "Y4 SliceRange; {path} has {width} bits, [{most}:0], and {select} asks for others"
     )

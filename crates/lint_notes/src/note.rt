@@ -4,7 +4,7 @@
 /// it stands, and what is told.
 #[derive(Drop)]
 pub struct Note {
-    /// 1 to 7.
+    /// 1 to 8.
     pub number: u8,
     pub at: usize,
     pub message: String,

@@ -17,11 +17,12 @@ body { margin: 0 auto; max-width: 76rem; padding: 1rem; color: var(--ink);\n\
   background: var(--paper);\n\
   font: 16px/1.45 system-ui, sans-serif; }\n\
 h1 { font-size: 1.4rem; margin: 0 0 .3rem; } h2 { font-size: 1.1rem; margin: 2rem 0 .2rem; }\n\
-p { margin: .2rem 0; overflow-wrap: anywhere; }\n\
+h1, h2, p { overflow-wrap: anywhere; } p { margin: .2rem 0; }\n\
 .scroll { overflow-x: auto; }\n\
 table { border-collapse: collapse; margin-top: 1rem; min-width: 100%; }\n\
 th, td { padding: .25rem .7rem; text-align: right; border-bottom: 1px solid var(--line); }\n\
-th:first-child, td:first-child { text-align: left; overflow-wrap: anywhere; }\n\
+th:first-child, td:first-child { text-align: left; overflow-wrap: anywhere; min-width: 9rem; }\n\
+td:last-child { white-space: nowrap; }\n\
 th { padding: 0; } th button { all: unset; cursor: pointer; padding: .25rem .7rem; }\n\
 th button:focus-visible { outline: 2px solid var(--wave); }\n\
 th[aria-sort=ascending] button::after { content: ' \\2191'; }\n\

@@ -11,6 +11,7 @@
 //! svamon verify r.svm
 //! svamon upgrade r.svm --out r2.svm
 //! svamon explain --vcd top.vcd --sva rules.sva [--axi ports.txt] [--only r] [--start 9] [--most 1]
+//!     [--gtkw failures.gtkw]
 //! svamon lint --vcd top.vcd --sva rules.sva [--axi ports.txt]
 //! svamon import checks.sv [--scope tb.dut] [--bound 30] [--vcd top.vcd] [--clock tb.clk] [--split]
 //! svamon names --vcd top.vcd [--match addr] [--scope tb.dut]
@@ -23,12 +24,13 @@
 //! memory, and 4 for a file that can't be opened, read or written.
 //!
 //! It opens files (`cli_shell`) and hands over what is in them; what a command answers is said by
-//! the contracts of `cli` (`check_all`, `report_all`, `report_over`, `judge_one`, `build_one`),
-//! of `report_page` (`page`), of `report_forms` (`junit_report`, `json_report`), of `cli_bytecode`
-//! (`verify_code`, `run_code`, `upgrade_code`), of `cli_lint` (`lint_one`, `rest_over`), of
-//! `cli_names_command` (`names_one`), of `import_files` (`imported`, `text_of`, `placed`,
-//! `status_of`), of `source_files` (`joined`, `chosen`) and of `axi4_rules` (`port_rules`,
-//! `read_ports`), whose definitions stand in their `specs/`.
+//! the contracts of `cli` (`check_all`, `report_all`, `report_over`, `judge_one`, `build_one`,
+//! `explain_one`, `failures_over`), of `report_page` (`page`), of `report_waves` (`save_file`), of
+//! `report_forms` (`junit_report`, `json_report`), of `cli_bytecode` (`verify_code`, `run_code`,
+//! `upgrade_code`), of `cli_lint` (`lint_one`, `rest_over`), of `cli_names_command` (`names_one`),
+//! of `import_files` (`imported`, `text_of`, `placed`, `status_of`), of `source_files` (`joined`,
+//! `chosen`) and of `axi4_rules` (`port_rules`, `read_ports`), whose definitions stand in their
+//! `specs/`.
 //!
 //! Not promised: what a file holds, that the line of a fault reaches anyone, and that the process
 //! ends with the status: these are tested (`docs/TESTED.md`). `docs/USING.md` goes through the
@@ -38,6 +40,7 @@
 mod check;
 mod dump_front;
 mod dump_header;
+mod explain;
 mod import;
 mod serve;
 mod team;

@@ -1,10 +1,11 @@
 //! The commands, from the words of the command line to the answer.
 
 use crate::check::{Asked, Team, serve_check};
+use crate::explain::{ExplainAsked, serve_explain};
 use crate::import::serve_import;
 use crate::team_commands::{serve_team_explain, serve_team_lint};
 use axi4_rules::{Case, Port, PortFault, read_ports};
-use cli::{Fault, NoGate, Request, Wanted, build_one, explain_one, judge_one};
+use cli::{Fault, NoGate, Request, Wanted, build_one, judge_one};
 use cli_bytecode::{run_code, upgrade_code, verify_code};
 use cli_lint::{LintFault, PortSaid, lint_one};
 use cli_names_command::{Filter, NamesFault, names_one};
@@ -12,6 +13,7 @@ use cli_shell::{
     FormFiles, Sources, open, print_rules, read_bytes, read_sources, refuse_words, request_of,
     shown_status, shown_version, words_of, write_bytes,
 };
+use cli_words::overwritten;
 use signals::Counted;
 use source_files::Origin;
 use std::alloc::{AllocError, Global};
@@ -21,7 +23,6 @@ use std::io;
 use std::io::{Eprint, Print, Read};
 use std::sync::Wait;
 use std::thread::Threads;
-use workers_core::TeamSize;
 
 /// Judges a text over a dump by the slow judge; the report goes to standard output.
 fn judge_text<'a, R: Files + Print + AllocGlobal>(
@@ -50,60 +51,6 @@ fn serve_judge<R: Files + Print + Eprint + AllocGlobal>(
         Err(fault) => return shown_status(rt, Err(fault)),
     };
     shown_status(rt, judge_text(rt, dump, sources.text.as_str()))
-}
-
-/// By how many workers a text is judged whose failures are explained.
-const WORKERS: u64 = 4;
-
-/// Explains failed attempts of a text's assertions over a dump; the text goes to standard output.
-/// The answer is as that of a report, of which the third number counts what was explained.
-pub(crate) fn explain_text<
-    'a,
-    R: Files + Print + AllocGlobal + Threads + Wait + Sync,
-    D: Read + Drop,
->(rt: &R, dump: D, sources: &'a Sources, wanted: &Wanted<'_>) -> Result<[u64; 5], Fault<'a>> {
-    let mut dump = Counted::new(dump);
-    let mut out = Counted::new(io::writer(rt));
-    let text = sources.text.as_str();
-    let origin = Origin {
-        parts: sources.parts.as_slice(),
-        added: sources.added.as_slice(),
-    };
-    let Ok(team) = TeamSize::new(WORKERS) else {
-        return Err(Fault::BadWorkers);
-    };
-    let explained = explain_one(
-        rt,
-        rt.alloc(),
-        &mut dump,
-        text,
-        &origin,
-        wanted,
-        team,
-        &NoGate,
-        &mut out,
-    )?;
-    Ok([0, 0, explained, 0, 0])
-}
-
-/// Opens the dump, then reads the text, and explains its failures: status 1 where one was
-/// explained, 0 where none was.
-fn serve_explain<R: Files + Print + Eprint + AllocGlobal + Threads + Wait + Sync>(
-    rt: &R,
-    vcd: &str,
-    sva: &[String],
-    axi: Option<&str>,
-    wanted: &Wanted<'_>,
-) -> u8 {
-    let dump = match open(rt, vcd) {
-        Ok(dump) => dump,
-        Err(fault) => return shown_status(rt, Err(fault)),
-    };
-    let sources = match read_sources(rt, sva, axi) {
-        Ok(sources) => sources,
-        Err(fault) => return shown_status(rt, Err(fault)),
-    };
-    shown_status(rt, explain_text(rt, dump, &sources, wanted))
 }
 
 /// Why nothing is told of a text, as a fault of a command.
@@ -440,16 +387,22 @@ fn serve<R: Files + Print + Eprint + AllocGlobal + Threads + Wait + Sync>(
             only,
             start,
             most,
+            gtkw,
         } => {
             let wanted = Wanted {
                 only: path_of(only),
                 start: *start,
                 most: *most,
             };
+            let asked = ExplainAsked {
+                vcd: vcd.as_str(),
+                wanted,
+                gtkw: path_of(gtkw),
+            };
             if !team.files.is_empty() {
-                return serve_team_explain(rt, vcd.as_str(), team, &wanted);
+                return serve_team_explain(rt, team, &asked);
             }
-            serve_explain(rt, vcd.as_str(), sva.as_slice(), path_of(axi), &wanted)
+            serve_explain(rt, sva.as_slice(), path_of(axi), &asked)
         }
         Request::Lint {
             vcd,
@@ -479,6 +432,23 @@ fn serve<R: Files + Print + Eprint + AllocGlobal + Threads + Wait + Sync>(
     }
 }
 
+/// Does what the words ask for, unless a file would be written over one that is read.
+fn serve_apart<R: Files + Print + Eprint + AllocGlobal + Threads + Wait + Sync>(
+    rt: &R,
+    request: &Request,
+) -> u8 {
+    match overwritten(request) {
+        None => serve(rt, request),
+        Some(path) => {
+            let _ = eprintln!(rt;
+                "error: the file '{path}' is read, and would be written over\n\nFor more \
+                 information, try '--help'."
+            );
+            2
+        }
+    }
+}
+
 /// Does what the words of the command line ask for, and answers the status that a shell sees.
 pub fn answer<R: Files + Env + Print + Eprint + AllocGlobal + Threads + Wait + Sync>(rt: &R) -> u8 {
     let words = match words_of(rt) {
@@ -489,7 +459,7 @@ pub fn answer<R: Files + Env + Print + Eprint + AllocGlobal + Threads + Wait + S
         return status;
     }
     match request_of(rt, words.as_slice()) {
-        Ok(request) => serve(rt, &request),
+        Ok(request) => serve_apart(rt, &request),
         Err(fault) => shown_status(rt, Err(fault)),
     }
 }

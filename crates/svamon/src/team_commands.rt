@@ -1,8 +1,8 @@
 //! Commands that read a team's own files in place of a text.
 
-use crate::serve::{explain_text, lint_status};
+use crate::explain::{ExplainAsked, explain_text};
+use crate::serve::lint_status;
 use crate::team::{TeamFront, read_team, status_with};
-use cli::Wanted;
 use cli_shell::{moved_fault, open, shown_status};
 use cli_words::TeamFiles;
 use std::fs::Files;
@@ -13,11 +13,10 @@ use std::thread::Threads;
 /// Explains failures of what is written of a team's files: status 2 where an assertion is refused.
 pub(crate) fn serve_team_explain<R: Files + Print + Eprint + AllocGlobal + Threads + Wait + Sync>(
     rt: &R,
-    vcd: &str,
     team: &TeamFiles,
-    wanted: &Wanted<'_>,
+    asked: &ExplainAsked<'_>,
 ) -> u8 {
-    let mut dump = match open(rt, vcd) {
+    let mut dump = match open(rt, asked.vcd) {
         Ok(dump) => dump,
         Err(fault) => return shown_status(rt, Err(fault)),
     };
@@ -34,7 +33,7 @@ pub(crate) fn serve_team_explain<R: Files + Print + Eprint + AllocGlobal + Threa
         return 2;
     };
     let dump = Cursor::new(head).chain(dump);
-    let status = match explain_text(rt, dump, &sources, wanted) {
+    let status = match explain_text(rt, dump, &sources, asked) {
         Ok(totals) => shown_status(rt, Ok(totals)),
         Err(fault) => shown_status(rt, Err(moved_fault(sources.added.as_slice(), fault))),
     };

@@ -27,4 +27,6 @@ mod compiled;
 #[cfg(test)]
 mod reports;
 #[cfg(test)]
+mod waves;
+#[cfg(test)]
 mod words;

@@ -1,7 +1,7 @@
 //! The words of commands, read and refused.
 
 use cli::{Fault, Request, WordsFault, read_words, status};
-use cli_words::TeamFiles;
+use cli_words::{TeamFiles, overwritten};
 use std::alloc::{AllocError, Global};
 use std::test::Fail;
 
@@ -131,14 +131,16 @@ fn line_of(alloc: Global, request: &Request) -> Result<String, AllocError> {
             only,
             start,
             most,
+            gtkw,
         } => {
             let texts = texts_of(alloc, vcd.as_str(), sva.as_slice(), axi)?;
             let team = team_of(alloc, team)?;
             format!(in alloc;
-                "explain {texts}{team} {} {} {} {most}",
+                "explain {texts}{team} {} {} {} {most} {}",
                 file_or_none(only),
                 start.is_some(),
-                start.unwrap_or(0)
+                start.unwrap_or(0),
+                file_or_none(gtkw)
             )
         }
     }
@@ -231,15 +233,19 @@ fn words_are_read(rt: HostRuntime) -> Result<(), Fail> {
         ("svamon upgrade a.svm --out b.svm", "upgrade a.svm b.svm"),
         (
             "svamon explain --vcd a --sva b",
-            "explain a b none none false 0 1",
+            "explain a b none none false 0 1 none",
         ),
         (
             "svamon explain --vcd a --sva b --axi p --only r --start 0 --most 7",
-            "explain a b p r true 0 7",
+            "explain a b p r true 0 7 none",
         ),
         ("svamon lint --vcd a --sva b --axi p", "lint a b p"),
         ("svamon lint --vcd a", "refused 2 true"),
         ("svamon explain --vcd a --sva b --start x", "refused 2 true"),
+        (
+            "svamon explain --vcd a --sva b --gtkw g",
+            "explain a b none none false 0 1 g",
+        ),
         ("svamon explain --vcd a --sva b --most 0", "refused 2 true"),
         ("svamon check --vcd a --sva b --window 0", "refused 2 true"),
         ("svamon check --vcd a --sva b --workers 0", "refused 2 true"),
@@ -272,7 +278,7 @@ fn words_of_a_team_are_read(rt: HostRuntime) -> Result<(), Fail> {
         ),
         (
             "svamon explain --vcd v --sv a --start 3 --bound 127",
-            "explain v  none a none 127 none  false none true 3 1",
+            "explain v  none a none 127 none  false none true 3 1 none",
         ),
         (
             "svamon lint --scope t --vcd v --sv a",
@@ -289,6 +295,35 @@ fn words_of_a_team_are_read(rt: HostRuntime) -> Result<(), Fail> {
         ("svamon judge --vcd v --sv a", "refused 2 true"),
     ] {
         assert!(rt; told(rt.alloc(), words)?.as_str() == wanted, "{words}");
+    }
+    Ok(())
+}
+
+/// The path that would be written over, by words with one space between.
+fn clash(alloc: Global, line: &str) -> Result<String, AllocError> {
+    let mut words = Vec::new(alloc);
+    for word in line.split(' ') {
+        words.push(word)?;
+    }
+    match read_words(alloc, words.as_slice()) {
+        Ok(request) => String::from_str(alloc, overwritten(&request).unwrap_or("none")),
+        Err(_) => String::from_str(alloc, "refused"),
+    }
+}
+
+#[test]
+fn inputs_are_kept(rt: HostRuntime) -> Result<(), Fail> {
+    for (words, wanted) in [
+        ("svamon check --vcd a --sva b --json c", "none"),
+        ("svamon check --vcd a --sva b --json a", "a"),
+        ("svamon check --vcd a --sva c --sva b --html b", "b"),
+        ("svamon check --vcd a --axi p --junit p", "p"),
+        ("svamon check --vcd a --sv b --junit b", "b"),
+        ("svamon explain --vcd a --sva b --gtkw c", "none"),
+        ("svamon explain --vcd a --sva b --gtkw a", "a"),
+        ("svamon lint --vcd a --sva a", "none"),
+    ] {
+        assert!(rt; clash(rt.alloc(), words)?.as_str() == wanted, "{words}");
     }
     Ok(())
 }

@@ -9,5 +9,7 @@ returns c =
     c.only_option.ensures.local in
     let start =
     one_option _ _ _ _ _ c.in_ok-arg-2.ensures only c.start_option.ensures.rule c.start_option.ensures.local in
-    IfOk-weaker c.arg-3.result _ _
-    (λ r h. one_option _ r _ _ _ h start c.most_option.ensures.rule c.most_option.ensures.local) c.arg-3.ensures
+    let most =
+    one_option _ _ _ _ _ c.in_ok-arg-3.ensures start c.most_option.ensures.rule c.most_option.ensures.local in
+    IfOk-weaker c.arg-4.result _ _
+    (λ r h. one_option _ r _ _ _ h most c.form_option.ensures.rule c.form_option.ensures.local) c.arg-4.ensures

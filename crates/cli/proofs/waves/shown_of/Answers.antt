@@ -1,0 +1,24 @@
+use Rattle.std.proofs.Common.{◌∙◌, refl, List, length, sym, ap, subst}
+use Rattle.std.specs.List.{AllZip}
+use Rattle.std.proofs.lemmas.Slice.Zip.{AllZip-long}
+use Rattle.verdicts.specs.declared.line.Line.{Line}
+use Rattle.explained_reports.specs.declared.explanation.Explanation.{Explanation}
+use Rattle.explained_reports.specs.Told.{IsToldOf}
+use Rattle.cli.specs.Explained.{IsToldIn}
+use Rattle.cli.proofs.WaveLaws.{shown_told}
+use Rattle.cli.proofs.waves.shown_of.Goals as goal
+
+pub returns : goal.returns
+returns c =
+    let e = c.args.explained.now in
+    let told = c.in_ok-told.told.items in
+    let told_in : IsToldIn e told =
+    subst (λ (ls : List Line). AllZip (IsToldOf ls) e.explanations.items told) c.as_slice-lines.ensures.value
+    (subst (λ (es : List Explanation). AllZip (IsToldOf c.as_slice-lines.result.now) es told)
+    c.as_slice-explanations.ensures.value c.in_ok-told.ensures.told) in
+    let counted =
+    ap (λ (es : List Explanation). length es) c.as_slice-explanations.ensures.value
+    ∙ sym (AllZip-long (IsToldOf e.trace.report.lines.items) e.explanations.items told told_in) in
+    shown_told e c.args.waveform.now _ told c.as_slice-3.result.now c.as_slice-4.result.now _ told_in
+    c.as_slice-3.ensures.value c.as_slice-4.ensures.value refl c.as_slice-2.ensures.value counted c.in_ok-text.ensures
+    c.in_ok-save.ensures

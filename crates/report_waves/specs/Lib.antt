@@ -1,0 +1,4 @@
+pub mod Waves
+pub mod Scales
+pub mod Views
+pub mod Saves
