@@ -1,5 +1,6 @@
 -- What is told of a refusal.
-use Rattle.std.specs.Prelude.{◌≡◌, ℕ, ◌-◌, ◌++◌, ◌∷◌, [], List, take, slice_get}
+use Rattle.std.specs.Prelude.{◌≡◌, ℕ, ◌-◌, ◌++◌, ◌∷◌, [], List, Bool, take, drop, slice_get, map}
+use Rattle.std.specs.Prelude.{count_by, not, ◌||◌, chars, encode_utf8_all}
 use Rattle.std.specs.Prelude.{unwrap_or, codes, nat_le, nat_lt, ◌&&◌, ◌==◌, if◌then◌else◌}
 use Rattle.std.specs.List.{flat_map, after_last}
 use Rattle.std.specs.Str.Lines.{lines}
@@ -22,17 +23,38 @@ line_text text number = unwrap_or (slice_get (lines text) (number - 1)) []
 abbrev pub front_of : List ℕ → ℕ → List ℕ
 front_of text at = after_last is_feed (take at text)
 
+-- a character as it is shown: `?` for one that has no place on a line
+abbrev pub shown_char : ℕ → ℕ
+shown_char c = if (nat_lt c 32 && not (c == 9)) || (c == 127) then 63 else c
+
+-- so many characters after so many others, as they are shown
+abbrev pub shown_text : ℕ → ℕ → List ℕ → List ℕ
+shown_text before count text =
+    encode_utf8_all (map shown_char (take count (drop before (chars text))))
+
+-- a byte with which a character begins
+abbrev pub begins_char : ℕ → Bool
+begins_char b = not (nat_le 128 b && nat_lt b 192)
+
+-- A line, and what stands below it up to a caret, by the bytes in front of the caret: the line's
+-- first 240 characters, or where over 160 are in front, those from 80 in front of it on.
+abbrev pub told_line : List ℕ → List ℕ → List ℕ
+told_line line front =
+    if nat_le (count_by begins_char front) 160
+    then shown_text 0 240 line ++ codes "\n" ++ flat_map below front
+    else codes ".." ++ shown_text (count_by begins_char front - 80) 240 line ++ codes "\n"
+    ++ codes "                                                                                  "
+
 -- LINE:COLUMN
 abbrev pub place_text : List ℕ → ℕ → List ℕ
 place_text text at =
     decimal (line_number text at) ++ codes ":" ++ decimal (column_number text at)
 
--- PATH:LINE:COLUMN: MESSAGE, then the line of the text, and a caret below the byte
+-- PATH:LINE:COLUMN: MESSAGE, then the line of the text, or a part of it, and a caret below the byte
 unfoldable pub refusal_text : List ℕ → List ℕ → ℕ → List ℕ → List ℕ
 refusal_text path text at message =
     path ++ codes ":" ++ place_text text at ++ codes ": " ++ message ++ codes "\n"
-    ++ line_text text (line_number text at) ++ codes "\n"
-    ++ flat_map below (front_of text at) ++ codes "^\n"
+    ++ told_line (line_text text (line_number text at)) (front_of text at) ++ codes "^\n"
 
 -- REFUSED of ITEMS items refused
 abbrev pub total_text : ℕ → ℕ → List ℕ

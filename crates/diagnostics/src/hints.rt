@@ -96,7 +96,7 @@ pub const WORDS: [Hint; 30] = [
 ];
 
 /// Symbols and system names that the profile leaves out.
-pub const SIGNS: [Hint; 11] = [
+pub const SIGNS: [Hint; 15] = [
     (
         "*",
         "name the product by a wire in the bench, or write a sum or a shift",
@@ -118,6 +118,10 @@ pub const SIGNS: [Hint; 11] = [
         "write $onehot(v) for == 1, $onehot0(v) for <= 1, else a sum: 0 + v[0] + v[1]",
     ),
     ("$isunknown", "leave it out: x and z are 0"),
+    ("$rise", "write $rose(a)"),
+    ("$fall", "write $fell(a)"),
+    ("$change", "write $changed(a)"),
+    ("$prev", "write $past(a)"),
     ("$sampled", "leave it out: all values are sampled"),
     (
         "$error",
@@ -138,7 +142,7 @@ pub const SIGNS: [Hint; 11] = [
 ];
 
 /// Codes of faults that say what may stand there.
-pub const CODES: [Hint; 13] = [
+pub const CODES: [Hint; 15] = [
     (
         "L2",
         "digits are those of the base, without x, z and ?, and a size is from 1 to 128",
@@ -151,6 +155,14 @@ pub const CODES: [Hint; 13] = [
     (
         "P4",
         "a bound is a plain decimal from 0 to 127, and the lower one stands first",
+    ),
+    (
+        "P4 of $past",
+        "so many clocks before are a plain decimal from 1 to 64",
+    ),
+    (
+        "P4 of a counter",
+        "the width of a counter is a plain decimal from 1 to 128",
     ),
     (
         "Y2",

@@ -8,7 +8,7 @@ ghost use Rattle.diagnostics.specs.Hints.{stands_before};
 pub type Mark = (&'static str, usize, &'static str);
 
 /// Marks by which items go wrong.
-pub const MARKS: [Mark; 40] = [
+pub const MARKS: [Mark; 46] = [
     ("===", 2, "write ==: x and z are 0"),
     ("!==", 2, "write !=: x and z are 0"),
     (
@@ -43,6 +43,7 @@ pub const MARKS: [Mark; 40] = [
     ),
     ("].", 1, "name the signal by a wire in the bench"),
     ("<->", 1, "write !a == !b for a <-> b"),
+    ("=>", 0, "write |=> between sequences, >= between numbers"),
     (
         "->",
         1,
@@ -62,6 +63,11 @@ pub const MARKS: [Mark; 40] = [
     ),
     ("`", 0, "write out what the macro stands for"),
     ("\\", 0, "name the signal by a wire in the bench"),
+    (
+        "property @",
+        9,
+        "write brackets, as assert property (@(posedge clk) ..);",
+    ),
     ("@(", 2, "write @(posedge clk)"),
     ("@", 1, "write @(posedge clk)"),
     (
@@ -78,6 +84,14 @@ pub const MARKS: [Mark; 40] = [
         0,
         "write $past(v, n) for what was sampled before, or keep it in a counter",
     ),
+    (
+        "\u{feff}",
+        0,
+        "it is a byte order mark: save the text without one",
+    ),
+    ("0x", 1, "write a size and the base, as 8'h26 for 0x26"),
+    ("0X", 1, "write a size and the base, as 8'h26 for 0X26"),
+    ("0b", 1, "write a size and the base, as 4'b0101 for 0b0101"),
     ("inside", 0, "write a == 1 || a == 2 for a inside {1, 2}"),
     ("{", 0, "write {a, a} for {2{a}}"),
     ("-", 0, "write 0 - a for -a"),

@@ -1,9 +1,10 @@
 //! The text that tells of a refusal.
 
-ghost use Rattle.std.specs.Prelude.{◌≡◌, OnOk, string_bytes};
+ghost use Rattle.std.specs.Prelude.{◌≡◌, OnOk, string_bytes, count_by};
 ghost use Rattle.std.specs.List.{flat_map};
 ghost use Rattle.std.specs.Fmt.{decimal};
 ghost use Rattle.diagnostics.specs.Told.{Grows, below, line_text, front_of, place_text};
+ghost use Rattle.diagnostics.specs.Told.{shown_char, shown_text, begins_char, told_line};
 ghost use Rattle.diagnostics.specs.Told.{refusal_text, total_text};
 
 use crate::place::{Place, front, place_of};
@@ -65,8 +66,81 @@ fn front_of(text: &str, at: usize) -> &[u8]
     &before[before.len() - (column - 1)..]
 }
 
+/// How many characters of a line are shown at most.
+const SHOWN: usize = 240;
+
+/// How many characters may stand in front of a caret.
+const FRONT: usize = 160;
+
+/// How many characters are shown in front of a caret, where those at the line's front are not.
+const NEAR: usize = 80;
+
+/// What stands below a mark and so many characters.
+const BLANKS: &str =
+    "                                                                                  ";
+
+/// A character as it is shown.
+fn shown_char(character: char) -> char
+    ensures { result ≡ shown_char character }
+{
+    let code = character as u32;
+    if code < 32 && code != 9 || code == 127 {
+        '?'
+    } else {
+        character
+    }
+}
+
+/// Adds so many characters of a line after so many others.
+fn push_shown(out: &mut String, line: &str, before: usize, count: usize) -> Result<(), AllocError>
+    ensures { OnOk result (Grows (string_bytes out.old) (string_bytes out.new)
+        (shown_text before count line.now)) }
+{
+    let mut skipped = before;
+    let mut left = count;
+    for character in line.chars() {
+        if skipped > 0 {
+            skipped -= 1;
+            continue;
+        }
+        if left == 0 {
+            return Ok(());
+        }
+        left -= 1;
+        out.push(shown_char(character))?;
+    }
+    Ok(())
+}
+
+/// How many characters begin in bytes.
+fn count_chars(bytes: &[u8]) -> usize
+    ensures { result ≡ count_by begins_char bytes.now }
+{
+    bytes
+        .iter()
+        .filter(|byte| !(128 <= **byte && **byte < 192))
+        .count()
+}
+
+/// Adds a line, or the part of it that is near, and what stands below up to the caret.
+fn push_line(out: &mut String, line: &str, front: &[u8]) -> Result<(), AllocError>
+    ensures { OnOk result (Grows (string_bytes out.old) (string_bytes out.new)
+        (told_line line.now front.now)) }
+{
+    let columns = count_chars(front);
+    if columns <= FRONT {
+        push_shown(out, line, 0, SHOWN)?;
+        push_text(out, "\n")?;
+        return push_below(out, front);
+    }
+    push_text(out, "..")?;
+    push_shown(out, line, columns - NEAR, SHOWN)?;
+    push_text(out, "\n")?;
+    push_text(out, BLANKS)
+}
+
 /// Adds what is told of a refusal: the path of the text, the line and the column of the byte where
-/// it stands, and why; then the text's line, and a caret below the byte.
+/// it stands, and why; then the text's line, or the part near the byte, and a caret below that.
 pub fn push_refusal(
     out: &mut String,
     path: &str,
@@ -83,9 +157,8 @@ pub fn push_refusal(
     push_text(out, ": ")?;
     push_text(out, message)?;
     push_text(out, "\n")?;
-    push_text(out, line_of(text, place_of(text, at).line))?;
-    push_text(out, "\n")?;
-    push_below(out, front_of(text, at))?;
+    let line = line_of(text, place_of(text, at).line);
+    push_line(out, line, front_of(text, at))?;
     push_text(out, "^\n")?;
     Ok(())
 }

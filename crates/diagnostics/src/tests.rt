@@ -205,3 +205,40 @@ fn what_is_refused_alone_is_told_first(rt: HostRuntime) -> Result<(), Fail> {
     assert!(rt; rest.is_some());
     Ok(())
 }
+
+#[test]
+fn a_long_line_is_cut(rt: HostRuntime) -> Result<(), Fail> {
+    let alloc = rt.alloc();
+    let mut text = String::new(alloc);
+    for _ in 0..50 {
+        text.push_str("0123456789")?;
+    }
+    let mut out = String::new(alloc);
+    push_refusal(&mut out, "r.sva", text.as_str(), 205, "L1")?;
+    let mut lines = out.as_str().lines();
+    assert!(rt; lines.next() == Some("r.sva:1:206: L1"));
+    let Some(shown) = lines.next() else {
+        return Err(Fail::from("no line is shown"));
+    };
+    assert!(rt; shown.len() == 242 && shown.starts_with("..56789012345"));
+    let Some(mark) = lines.next() else {
+        return Err(Fail::from("there is no caret"));
+    };
+    assert!(rt; mark.len() == 83 && mark.trim_start() == "^");
+    assert!(rt; shown.as_bytes().get(82) == Some(&b'5'));
+    Ok(())
+}
+
+#[test]
+fn bytes_without_a_place_are_told(rt: HostRuntime) -> Result<(), Fail> {
+    let mut out = String::new(rt.alloc());
+    push_refusal(
+        &mut out,
+        "r.sva",
+        "a\u{0}\u{1b}\u{7f}\t\u{e9}",
+        1,
+        "L1 BadCharacter",
+    )?;
+    assert!(rt; out.as_str() == "r.sva:1:2: L1 BadCharacter\na???\t\u{e9}\n ^\n");
+    Ok(())
+}

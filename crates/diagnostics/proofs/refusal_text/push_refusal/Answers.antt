@@ -1,6 +1,5 @@
-use Rattle.std.proofs.Common.{◌∙◌, ℕ, List, ap}
-use Rattle.std.specs.List.{flat_map}
-use Rattle.diagnostics.specs.Told.{below, line_text, refusal_text}
+use Rattle.std.proofs.Common.{◌∙◌, ℕ, List, ap, ap₂}
+use Rattle.diagnostics.specs.Told.{told_line, line_text, refusal_text}
 use Rattle.diagnostics.proofs.Pieces.{and_then, told_as}
 use Rattle.diagnostics.proofs.refusal_text.push_refusal.Goals as goal
 
@@ -8,13 +7,11 @@ pub returns : goal.returns
 unfolding refusal_text
 returns c =
     let line =
-    told_as c.in_ok-push_text-6.ensures
-    (c.line_of.ensures ∙ ap (λ (n : ℕ). line_text c.args.text.now n) c.place_of.ensures.line) in
-    let under =
-    told_as c.in_ok-push_below.ensures (ap (λ (bytes : List ℕ). flat_map below bytes) c.front_of.ensures) in
+    told_as c.in_ok-push_line.ensures
+    (ap₂ (λ (l f : List ℕ). told_line l f)
+    (c.line_of-line.ensures ∙ ap (λ (n : ℕ). line_text c.args.text.now n) c.place_of.ensures.line)
+    c.front_of.ensures) in
     and_then
-    (and_then
-    (and_then
     (and_then
     (and_then
     (and_then
@@ -26,6 +23,4 @@ returns c =
     c.in_ok-push_text-4.ensures)
     c.in_ok-push_text-5.ensures)
     line)
-    c.in_ok-push_text-7.ensures)
-    under)
-    c.in_ok-push_text-8.ensures
+    c.in_ok-push_text-6.ensures
