@@ -170,10 +170,10 @@ fn remarks_of(
 /// # Errors
 ///
 /// A comment without an end, with its byte, and want of memory.
-pub fn imported(
+pub fn imported<'x>(
     alloc: Global,
-    text: &str,
-    defines: &[String],
+    text: &'x str,
+    defines: &'x [String],
     reading: &Reading<'_>,
 ) -> Result<Imported, ImportFault>
     // Each word of the text that begins an assertion has one outcome, in their order, or, in a
