@@ -164,16 +164,39 @@ fn remarks_of(
     Ok(remarks)
 }
 
+/// The assertions of a text, with the digits of small numbers, which stand in what is written for
+/// generate loops.
+fn imported_with<'x>(
+    alloc: Global,
+    text: &'x str,
+    defines: &'x [String],
+    digits: &'x [u8],
+    reading: &Reading<'_>,
+) -> Result<Imported, ImportFault>
+    ensures each { IfOk result (λ all.
+        AreOfAll text.now reading.now.bound all.outcomes.items) }
+{
+    let mut macros = macros_of(alloc, defines)?;
+    let expansions = Expansions::of(alloc, text.as_bytes(), &mut macros)?;
+    let read = expansions.tokens(alloc)?;
+    let numbers = numbers_of(alloc, digits)?;
+    let tokens = unrolled(alloc, read.as_slice(), numbers.as_slice())?;
+    let file = File::of(alloc, tokens.as_slice())?;
+    let (outcomes, declared) = outcomes_of(alloc, tokens.as_slice(), &file, reading)?;
+    let remarks = remarks_of(alloc, &file, declared)?;
+    Ok(Imported { outcomes, remarks })
+}
+
 /// The assertions of a text, with macros that are defined before it, each a name and after a `=`
 /// its text.
 ///
 /// # Errors
 ///
 /// A comment without an end, with its byte, and want of memory.
-pub fn imported<'x>(
+pub fn imported(
     alloc: Global,
-    text: &'x str,
-    defines: &'x [String],
+    text: &str,
+    defines: &[String],
     reading: &Reading<'_>,
 ) -> Result<Imported, ImportFault>
     // Each word of the text that begins an assertion has one outcome, in their order, or, in a
@@ -183,14 +206,6 @@ pub fn imported<'x>(
     ensures each { IfOk result (λ all.
         AreOfAll text.now reading.now.bound all.outcomes.items) }
 {
-    let mut macros = macros_of(alloc, defines)?;
-    let expansions = Expansions::of(alloc, text.as_bytes(), &mut macros)?;
-    let read = expansions.tokens(alloc)?;
     let digits = digits_of(alloc)?;
-    let numbers = numbers_of(alloc, digits.as_slice())?;
-    let tokens = unrolled(alloc, read.as_slice(), numbers.as_slice())?;
-    let file = File::of(alloc, tokens.as_slice())?;
-    let (outcomes, declared) = outcomes_of(alloc, tokens.as_slice(), &file, reading)?;
-    let remarks = remarks_of(alloc, &file, declared)?;
-    Ok(Imported { outcomes, remarks })
+    imported_with(alloc, text, defines, digits.as_slice(), reading)
 }

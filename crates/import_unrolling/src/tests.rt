@@ -8,11 +8,20 @@ use std::test::Fail;
 
 /// The tokens of a text with its generate constructs written out, each with a space after it.
 fn written(alloc: Global, text: &[u8]) -> Result<Vec<u8>, TokenFault> {
+    let digits = digits_of(alloc)?;
+    written_with(alloc, text, digits.as_slice())
+}
+
+/// The same, with the digits of small numbers.
+fn written_with<'x>(
+    alloc: Global,
+    text: &'x [u8],
+    digits: &'x [u8],
+) -> Result<Vec<u8>, TokenFault> {
     let mut macros = Macros::new(alloc);
     let expansions = Expansions::of(alloc, text, &mut macros)?;
     let tokens = expansions.tokens(alloc)?;
-    let digits = digits_of(alloc)?;
-    let numbers = numbers_of(alloc, digits.as_slice())?;
+    let numbers = numbers_of(alloc, digits)?;
     let all = unrolled(alloc, tokens.as_slice(), numbers.as_slice())?;
     let mut out = Vec::new(alloc);
     for token in all.iter() {
