@@ -104,7 +104,10 @@ fn row(number: usize) -> (&'static str, &'static str) {
             "UnknownType",
         ),
         11 => ("(byte x); a |-> x < 3; endproperty p(d)", "Signed"),
-        13 => ("(nibble x); a |-> x == w; endproperty p(d)", "a |-> d[3:0] == w"),
+        13 => (
+            "(nibble x); a |-> x == w; endproperty p(d)",
+            "a |-> d[3:0] == w",
+        ),
         12 => ("(int x); a |-> x < 3; endproperty p(d)", "a |-> d < 3"),
         _ => (
             "(sequence s, logic x, untyped u); s |-> x; endproperty p(a ##1 b, b, a)",
