@@ -6,24 +6,28 @@ use crate::folding::{counted, plain, resized};
 use crate::meaning::Meaning;
 use crate::opener::{MOST_OPENED, Opener, placed, refused};
 use crate::refused::Refused;
-use crate::types::{bracket_in, rest_of};
 use crate::value::{Value, ValueId};
 use import_scopes::{Declaration, DeclarationId, DeclarationKind};
 use import_tokens::{Keyword, Kind, Token};
 use import_trees::{Actuals, Expected, ExpressionId, Form, FormId, Number, Path, Refusal};
 
-/// The width of a type without brackets, and whether it has a sign (IEEE 1800-2017, 6.11).
-fn plain_width(tokens: &[Token]) -> Option<(u8, bool)> {
-    for token in tokens {
-        match token.kind {
-            Kind::Keyword(Keyword::Int | Keyword::Integer) => return Some((32, true)),
-            Kind::Keyword(Keyword::Logic | Keyword::Bit | Keyword::Reg) => {
-                return Some((1, false));
-            }
-            _ => {}
-        }
+/// Whether tokens say a type, and not a sign alone (IEEE 1800-2017, 6.20.2).
+fn says_type(tokens: &[Token]) -> bool {
+    tokens.iter().any(|token| !matches!(
+        token.kind,
+        Kind::Keyword(Keyword::Signed | Keyword::Unsigned)
+    ))
+}
+
+/// A number of the sign that tokens say alone, if they do.
+fn with_sign(number: Number, tokens: &[Token]) -> Number {
+    match tokens.last() {
+        Some(token) => Number {
+            signed: token.kind == Kind::Keyword(Keyword::Signed),
+            ..number
+        },
+        None => number,
     }
-    None
 }
 
 impl<'f, 't> Opener<'f, 't> {
@@ -54,9 +58,7 @@ impl<'f, 't> Opener<'f, 't> {
             Meaning::Signal | Meaning::Variable(_) if actuals.is_some() => {
                 Err(refused(Refusal::Function, at))
             }
-            Meaning::Variable(declaration) => {
-                self.variable(path, declaration, environment, at, depth - 1)
-            }
+            Meaning::Variable(id) => self.variable(path, id, environment, at, depth - 1),
             Meaning::Signal => self.keep(Value::Signal(path), at),
         }
     }
@@ -269,7 +271,8 @@ impl<'f, 't> Opener<'f, 't> {
         Ok(plain(more))
     }
 
-    /// A number, as wide as the type of its declaration says.
+    /// A number as one of the type that its declaration says. Where none is said it is as it is,
+    /// and so it is where the type isn't known.
     #[cycle(opened)]
     fn typed(
         &mut self,
@@ -282,18 +285,17 @@ impl<'f, 't> Opener<'f, 't> {
         if !self.may_go_on(depth) {
             return Err(refused(Refusal::TooHeavy, at));
         }
-        let Some(bracket) = bracket_in(declaration.formals) else {
-            return Ok(match plain_width(declaration.formals) {
-                Some((width, signed)) => resized(number, width, signed),
-                None => number,
-            });
-        };
+        if !says_type(declaration.formals) {
+            return Ok(with_sign(number, declaration.formals));
+        }
         let inside = self.enter_scope(declaration, caller, at)?;
-        let after = rest_of(declaration.formals, bracket.saturating_add(1));
-        let (high, low, _taken) = self.range(after, inside, at, depth - 1)?;
-        let width = high.checked_sub(low).ok_or(refused(Refusal::BadBound, at))?;
-        match u8::try_from(width.saturating_add(1)) {
-            Ok(width) if width <= 128 => Ok(resized(number, width, false)),
+        let Some((own, _range)) = self.ranged_type(declaration.formals, inside, at, depth - 1)?
+        else {
+            self.made.has_unknown_type = true;
+            return Ok(number);
+        };
+        match u8::try_from(own.width) {
+            Ok(width) if width <= 128 => Ok(resized(number, width, own.signed)),
             _ => Err(refused(Refusal::WiderThan128, at)),
         }
     }

@@ -1,14 +1,14 @@
-//! Constants of 32 bits and a sign (IEEE 1800-2017, 11.2.1).
+//! Constants (IEEE 1800-2017, 11.2.1): arithmetic of 32 bits, and tests of any numbers.
 
 use import_trees::{Infix, Number, Prefix};
 
-/// A number of 32 bits and a sign.
-fn integer(value: u32) -> Number {
+/// A number of 32 bits, with a sign or without one.
+fn word(value: u32, signed: bool) -> Number {
     Number {
         width: 32,
         value: u128::from(value),
         unknown: 0,
-        signed: true,
+        signed,
         sized: false,
     }
 }
@@ -24,9 +24,9 @@ fn bit(value: bool) -> Number {
     }
 }
 
-/// The bits of a number of 32 bits and a sign; none for others.
+/// The bits of a number of 32 bits; none for others.
 fn bits_of(number: Number) -> Option<u32> {
-    if number.width != 32 || !number.signed || number.unknown != 0 {
+    if number.width != 32 || number.unknown != 0 {
         return None;
     }
     u32::try_from(number.value).ok()
@@ -45,7 +45,7 @@ fn magnitude(value: u32) -> u32 {
     }
 }
 
-fn signed(value: u32, negative: bool) -> u32 {
+fn with_sign(value: u32, negative: bool) -> u32 {
     if negative {
         0u32.wrapping_sub(value)
     } else {
@@ -53,23 +53,24 @@ fn signed(value: u32, negative: bool) -> u32 {
     }
 }
 
-/// Whether one number is below another, with their signs.
-fn is_below(a: u32, b: u32) -> bool {
-    (a ^ 0x8000_0000) < (b ^ 0x8000_0000)
-}
-
-fn quotient(a: u32, b: u32) -> Option<u32> {
+fn quotient(a: u32, b: u32, signed: bool) -> Option<u32> {
+    if !signed {
+        return a.checked_div(b);
+    }
     let divided = magnitude(a).checked_div(magnitude(b))?;
-    Some(signed(divided, is_negative(a) != is_negative(b)))
+    Some(with_sign(divided, is_negative(a) != is_negative(b)))
 }
 
-fn remainder(a: u32, b: u32) -> Option<u32> {
+fn remainder(a: u32, b: u32, signed: bool) -> Option<u32> {
+    if !signed {
+        return a.checked_rem(b);
+    }
     let left = magnitude(a).checked_rem(magnitude(b))?;
-    Some(signed(left, is_negative(a)))
+    Some(with_sign(left, is_negative(a)))
 }
 
-fn power(a: u32, b: u32) -> Option<u32> {
-    if is_negative(b) {
+fn power(a: u32, b: u32, negative: bool) -> Option<u32> {
+    if negative {
         return None;
     }
     let mut value = 1u32;
@@ -96,18 +97,17 @@ fn shifted_right(a: u32, b: u32, negative: bool) -> u32 {
     a.wrapping_shr(b) | high
 }
 
-/// What an operator of arithmetic makes of two numbers.
-fn arithmetic(operator: Infix, a: u32, b: u32) -> Option<u32> {
+/// What an operator of arithmetic makes of two numbers, of which both have a sign, or not.
+fn arithmetic(operator: Infix, a: u32, b: u32, signed: bool) -> Option<u32> {
     match operator {
         Infix::Add => Some(a.wrapping_add(b)),
         Infix::Subtract => Some(a.wrapping_sub(b)),
         Infix::Multiply => Some(a.wrapping_mul(b)),
-        Infix::Divide => quotient(a, b),
-        Infix::Remainder => remainder(a, b),
-        Infix::Power => power(a, b),
+        Infix::Divide => quotient(a, b, signed),
+        Infix::Remainder => remainder(a, b, signed),
         Infix::ShiftLeft | Infix::ArithmeticShiftLeft => Some(shifted_left(a, b)),
         Infix::ShiftRight => Some(shifted_right(a, b, false)),
-        Infix::ArithmeticShiftRight => Some(shifted_right(a, b, is_negative(a))),
+        Infix::ArithmeticShiftRight => Some(shifted_right(a, b, signed && is_negative(a))),
         Infix::BitAnd => Some(a & b),
         Infix::BitOr => Some(a | b),
         Infix::BitXor => Some(a ^ b),
@@ -115,42 +115,86 @@ fn arithmetic(operator: Infix, a: u32, b: u32) -> Option<u32> {
     }
 }
 
-/// What a test says of two numbers.
-fn tested(operator: Infix, a: u32, b: u32) -> Option<bool> {
+/// What a test says of two numbers of one width, of which both have a sign, or not.
+fn tested(operator: Infix, a: Number, b: Number) -> Option<bool> {
+    let (low, high) = (ordinal(a), ordinal(b));
     match operator {
-        Infix::Equal | Infix::CaseEqual => Some(a == b),
-        Infix::NotEqual | Infix::CaseNotEqual => Some(a != b),
-        Infix::Less => Some(is_below(a, b)),
-        Infix::LessEqual => Some(!is_below(b, a)),
-        Infix::Greater => Some(is_below(b, a)),
-        Infix::GreaterEqual => Some(!is_below(a, b)),
-        Infix::And => Some(a != 0 && b != 0),
-        Infix::Or => Some(a != 0 || b != 0),
+        Infix::Equal | Infix::CaseEqual => Some(low == high),
+        Infix::NotEqual | Infix::CaseNotEqual => Some(low != high),
+        Infix::Less => Some(low < high),
+        Infix::LessEqual => Some(low <= high),
+        Infix::Greater => Some(high < low),
+        Infix::GreaterEqual => Some(high <= low),
+        Infix::And => Some(a.value != 0 && b.value != 0),
+        Infix::Or => Some(a.value != 0 || b.value != 0),
         _ => None,
     }
 }
 
-/// What an operator makes of two numbers, where both have 32 bits and a sign.
+/// Where a number stands among all of its width and kind, from the least on.
+fn ordinal(number: Number) -> u128 {
+    if !number.signed {
+        return number.value;
+    }
+    let top = (mask_of(number.width) >> 1).wrapping_add(1);
+    number.value ^ top
+}
+
+/// A number at another width, with a sign where both sides have one (11.8.2).
+fn beside(number: Number, width: u8, signed: bool) -> Number {
+    resized(Number { signed, ..number }, width, signed)
+}
+
+/// What a test says of two numbers, each at the width of the wider one.
+fn compared(operator: Infix, first: Number, second: Number) -> Option<bool> {
+    if first.unknown != 0 || second.unknown != 0 {
+        return None;
+    }
+    let width = first.width.max(second.width);
+    let signed = first.signed && second.signed;
+    let a = beside(first, width, signed);
+    let b = beside(second, width, signed);
+    tested(operator, a, b)
+}
+
+/// What an operator makes of two numbers, of 32 bits each but for tests. What moves or is raised
+/// alone says whether the result has a sign (11.8.1).
 pub(crate) fn joined(operator: Infix, first: Number, second: Number) -> Option<Number> {
+    if let Some(value) = compared(operator, first, second) {
+        return Some(bit(value));
+    }
     let a = bits_of(first)?;
     let b = bits_of(second)?;
-    if let Some(value) = arithmetic(operator, a, b) {
-        return Some(integer(value));
-    }
-    match tested(operator, a, b) {
-        Some(value) => Some(bit(value)),
-        None => None,
+    match operator {
+        Infix::Power => {
+            let value = power(a, b, second.signed && is_negative(b))?;
+            Some(word(value, first.signed))
+        }
+        Infix::ShiftLeft
+        | Infix::ArithmeticShiftLeft
+        | Infix::ShiftRight
+        | Infix::ArithmeticShiftRight => {
+            let value = arithmetic(operator, a, b, first.signed)?;
+            Some(word(value, first.signed))
+        }
+        _ => {
+            let signed = first.signed && second.signed;
+            let value = arithmetic(operator, a, b, signed)?;
+            Some(word(value, signed))
+        }
     }
 }
 
-/// What an operator makes of a number of 32 bits and a sign.
+/// What an operator makes of a number, of 32 bits but for `!`.
 pub(crate) fn prefixed(operator: Prefix, operand: Number) -> Option<Number> {
+    if operator == Prefix::Not && operand.unknown == 0 {
+        return Some(bit(operand.value == 0));
+    }
     let value = bits_of(operand)?;
     match operator {
-        Prefix::Minus => Some(integer(0u32.wrapping_sub(value))),
-        Prefix::Plus => Some(integer(value)),
-        Prefix::Complement => Some(integer(!value)),
-        Prefix::Not => Some(bit(value == 0)),
+        Prefix::Minus => Some(word(0u32.wrapping_sub(value), operand.signed)),
+        Prefix::Plus => Some(word(value, operand.signed)),
+        Prefix::Complement => Some(word(!value, operand.signed)),
         _ => None,
     }
 }
@@ -199,5 +243,5 @@ pub(crate) fn bits_below(number: u32) -> u32 {
 
 /// A number without a size.
 pub(crate) fn plain(value: u32) -> Number {
-    integer(value)
+    word(value, true)
 }

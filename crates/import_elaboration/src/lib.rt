@@ -42,7 +42,7 @@ mod types;
 mod value;
 mod values;
 
-pub use opener::{MOST_OPENED, MOST_PARTS, MOST_VALUES, Opener, Parts, Variable};
+pub use opener::{MOST_OPENED, MOST_PARTS, MOST_VALUES, Opener, Parts, Shape, Variable};
 pub use opening::Opened;
 pub use part::{Assignments, Choice, ChoiceId, Count, LocalAssignment, Part, PartId, PartNode};
 pub use refused::Refused;

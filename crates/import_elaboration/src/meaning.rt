@@ -4,7 +4,7 @@ use crate::arguments::{actual_of, formal_at, formal_place, type_at};
 use crate::environment::{EnvironmentId, declaration_at};
 use crate::locals::local_in;
 use crate::opener::Opener;
-use import_scopes::{Declaration, DeclarationId, DeclarationKind};
+use import_scopes::{DeclarationId, DeclarationKind};
 use import_tokens::Token;
 use import_trees::{Path, plain_name};
 
@@ -30,7 +30,7 @@ pub(crate) enum Meaning<'t> {
     LocalFormal,
     Declared(DeclarationId),
     /// A port, a net or a variable of the file.
-    Variable(Declaration<'t>),
+    Variable(DeclarationId),
     /// Nothing that the file declares.
     Signal,
 }
@@ -55,7 +55,7 @@ impl<'f, 't> Opener<'f, 't> {
             return Meaning::Signal;
         };
         match declaration_at(self.file, id) {
-            Some(declaration) if is_variable(declaration.kind) => Meaning::Variable(declaration),
+            Some(declaration) if is_variable(declaration.kind) => Meaning::Variable(id),
             _ => Meaning::Declared(id),
         }
     }
@@ -92,6 +92,6 @@ impl<'f, 't> Opener<'f, 't> {
 }
 
 /// Whether what is declared is a signal of the design.
-fn is_variable(kind: DeclarationKind) -> bool {
+pub(crate) fn is_variable(kind: DeclarationKind) -> bool {
     matches!(kind, DeclarationKind::Port | DeclarationKind::Variable)
 }

@@ -21,6 +21,20 @@ pub const MOST_PARTS: usize = 100_000;
 /// How many values a constant may come to.
 pub const MOST_VALUES: usize = 1_000;
 
+/// What is known of the type of a signal that the file declares.
+#[derive(Clone, Copy, PartialEq, Eq)]
+pub enum Shape {
+    /// A vector, with the two numbers of its range.
+    Vector(Type, (u32, u32)),
+    /// A vector of a range that isn't known, as by a constant of another file; whether it has a
+    /// sign.
+    Unranged(bool),
+    /// Several dimensions, so that a select takes more than a bit (7.4).
+    Array,
+    /// A type that isn't known, as of another file, or one of several members.
+    Unknown,
+}
+
 /// A signal that the file declares, where it is read.
 #[derive(Clone, Copy)]
 pub struct Variable<'t> {
@@ -30,8 +44,7 @@ pub struct Variable<'t> {
     pub declared_at: usize,
     /// Whether it is a port.
     pub is_port: bool,
-    /// Its type, if that is known.
-    pub own: Option<Type>,
+    pub shape: Shape,
     /// Whether a name stands in its type, as that of a parameter, of which an instance may have
     /// another.
     pub depends: bool,

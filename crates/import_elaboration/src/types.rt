@@ -1,13 +1,15 @@
 //! Types of arguments, local variables and signals (IEEE 1800-2017, 6.11, 7.4.1 and 16.8.1).
 
+use crate::arguments::{closes, opens};
 use crate::environment::{EnvironmentId, declaration_at};
 use crate::folding::resized;
-use crate::opener::{Opener, Variable, refused};
+use crate::meaning::is_variable;
+use crate::opener::{Opener, Shape, Variable, refused};
 use crate::refused::Refused;
 use crate::value::{Type, Value, ValueId};
-use import_scopes::{Declaration, DeclarationKind};
+use import_scopes::{Declaration, DeclarationId, DeclarationKind, is_before_type};
 use import_tokens::{Keyword, Kind, Symbol, Token};
-use import_trees::{Number, Path, Refusal};
+use import_trees::{Number, Path, Refusal, integral_type};
 
 /// The tokens from a place on.
 pub(crate) fn rest_of<'t>(tokens: &'t [Token<'t>], first: usize) -> &'t [Token<'t>] {
@@ -19,6 +21,14 @@ const INTEGER: Type = Type {
     width: 32,
     signed: true,
 };
+
+/// A vector, with the two numbers of its range.
+pub(crate) type Ranged = (Type, (u32, u32));
+
+/// A type whose bits are counted from 0 at the right.
+fn counted(own: Type) -> Ranged {
+    (own, (own.width.saturating_sub(1), 0))
+}
 
 /// The place of an opening square bracket, if one stands there.
 pub(crate) fn bracket_in(tokens: &[Token]) -> Option<usize> {
@@ -44,28 +54,8 @@ pub(crate) fn is_untyped(tokens: &[Token]) -> bool {
 
 /// The type that a keyword is, where no range follows.
 fn plain_type(keyword: Keyword) -> Option<Type> {
-    let (width, signed) = match keyword {
-        Keyword::Logic | Keyword::Bit | Keyword::Reg => (1, false),
-        Keyword::Byte => (8, true),
-        Keyword::ShortInt => (16, true),
-        Keyword::Int | Keyword::Integer => (32, true),
-        Keyword::LongInt => (64, true),
-        Keyword::Time => (64, false),
-        _ => return None,
-    };
+    let (width, signed) = integral_type(keyword)?;
     Some(Type { width, signed })
-}
-
-/// Whether a word stands before a type without being part of one (6.6, 6.8, 23.2.2.1).
-fn is_passed(word: &[u8]) -> bool {
-    word == b"input".as_slice()
-        || word == b"output".as_slice()
-        || word == b"inout".as_slice()
-        || word == b"wire".as_slice()
-        || word == b"tri".as_slice()
-        || word == b"uwire".as_slice()
-        || word == b"var".as_slice()
-        || word == b"const".as_slice()
 }
 
 /// The type of tokens before a range, or without one; none where it isn't known.
@@ -79,7 +69,7 @@ fn base_type(tokens: &[Token]) -> Option<Type> {
             Kind::Keyword(Keyword::Signed) => found.signed = true,
             Kind::Keyword(Keyword::Unsigned) => found.signed = false,
             Kind::Keyword(keyword) => found = plain_type(keyword)?,
-            Kind::Word if is_passed(token.text) => {}
+            Kind::Word if is_before_type(token.text) => {}
             _ => return None,
         }
     }
@@ -89,7 +79,7 @@ fn base_type(tokens: &[Token]) -> Option<Type> {
 /// The tokens of a type without those that say no more than what is declared.
 fn type_tokens<'t>(tokens: &'t [Token<'t>]) -> &'t [Token<'t>] {
     for (index, token) in tokens.iter().enumerate() {
-        if token.kind != Kind::Word || !is_passed(token.text) {
+        if token.kind != Kind::Word || !is_before_type(token.text) {
             return rest_of(tokens, index);
         }
     }
@@ -122,12 +112,74 @@ fn vector_tokens<'t>(said: &'t [Token<'t>]) -> &'t [Token<'t>] {
     said
 }
 
-/// The type that tokens say without a range, if it is known; its right bit is 0.
-fn plain_of<'t>(said: &'t [Token<'t>]) -> Option<(Type, u32)> {
+/// The type that tokens say without a range, if it is known.
+fn plain_of<'t>(said: &'t [Token<'t>]) -> Option<Ranged> {
     match enumerated(said) {
-        Some(own) if own.is_empty() => Some((INTEGER, 0)),
-        Some(own) => Some((base_type(own)?, 0)),
-        None => Some((base_type(said)?, 0)),
+        Some(own) if own.is_empty() => Some(counted(INTEGER)),
+        Some(own) => Some(counted(base_type(own)?)),
+        None => Some(counted(base_type(said)?)),
+    }
+}
+
+/// Whether tokens of a type say several dimensions, or a range of what a name stands for (7.4).
+fn says_array(tokens: &[Token]) -> bool {
+    let mut depth = 0u64;
+    let mut ranges = 0u64;
+    let mut named = false;
+    for token in tokens {
+        match token.kind {
+            Kind::Symbol(symbol) if opens(symbol) => {
+                if symbol == Symbol::OpenSquare && depth == 0 {
+                    ranges = ranges.saturating_add(1);
+                }
+                depth = depth.saturating_add(1);
+            }
+            Kind::Symbol(symbol) if closes(symbol) => depth = depth.saturating_sub(1),
+            Kind::Word if depth == 0 && !is_before_type(token.text) => named = true,
+            _ => {}
+        }
+    }
+    ranges > 1 || ranges == 1 && named
+}
+
+/// Whether a vector has a sign, by what stands before its range; none where that isn't known.
+fn sign_of(tokens: &[Token]) -> Option<bool> {
+    let bracket = bracket_in(tokens)?;
+    let base = base_type(tokens.get(..bracket)?)?;
+    if base.width == 1 {
+        return Some(base.signed);
+    }
+    None
+}
+
+/// Whether a vector has a sign; none of what is no vector.
+fn vector_sign(shape: Shape) -> Option<bool> {
+    match shape {
+        Shape::Vector(own, _) => Some(own.signed),
+        Shape::Unranged(signed) => Some(signed),
+        Shape::Array | Shape::Unknown => None,
+    }
+}
+
+/// What two declarations of one signal say: a sign where one of them has it, and the range of the
+/// wider one.
+fn both_shapes(before: Option<Shape>, more: Shape) -> Shape {
+    match (before, more) {
+        (None, _) => more,
+        (Some(Shape::Vector(one, range)), Shape::Vector(other, second)) => {
+            let signed = one.signed || other.signed;
+            if other.width > one.width {
+                let width = other.width;
+                return Shape::Vector(Type { width, signed }, second);
+            }
+            let width = one.width;
+            Shape::Vector(Type { width, signed }, range)
+        }
+        (Some(Shape::Array), _) | (_, Shape::Array) => Shape::Array,
+        (Some(first), _) => match (vector_sign(first), vector_sign(more)) {
+            (Some(one), Some(other)) => Shape::Unranged(one || other),
+            _ => Shape::Unknown,
+        },
     }
 }
 
@@ -166,27 +218,30 @@ impl<'f, 't> Opener<'f, 't> {
         let here = self.environment(environment)?;
         let id = self.file.declaration_of(here.scope, name.text)?;
         let declaration = declaration_at(self.file, id)?;
-        if declaration.kind == DeclarationKind::Type && declaration.body.is_empty() {
+        if declaration.kind == DeclarationKind::Type {
             return Some(declaration);
         }
         None
     }
 
-    /// The type that tokens say, and the number of its right bit; none where it isn't known, as of
-    /// one that another file declares, or of several ranges.
+    /// The type that tokens say, and its range; none where it isn't known, as of one that another
+    /// file declares, or of several ranges.
     #[cycle(opened)]
-    fn ranged_type(
+    pub(crate) fn ranged_type(
         &mut self,
         given: &'t [Token<'t>],
         environment: EnvironmentId,
         at: usize,
         depth: usize,
-    ) -> Result<Option<(Type, u32)>, Refused> {
+    ) -> Result<Option<Ranged>, Refused> {
         if !self.may_go_on(depth) {
             return Err(refused(Refusal::TooHeavy, at));
         }
         let said = type_tokens(given);
         if let Some(declaration) = self.named_type(said, environment) {
+            if !declaration.body.is_empty() {
+                return Ok(None);
+            }
             let inside = self.enter_scope(declaration, environment, at)?;
             return self.ranged_type(declaration.formals, inside, at, depth - 1);
         }
@@ -204,8 +259,8 @@ impl<'f, 't> Opener<'f, 't> {
         }
     }
 
-    /// The type of a vector whose one range has these tokens after its bracket, and the number of
-    /// its right bit; none where that is no range of constants.
+    /// The type of a vector whose one range has these tokens after its bracket, and that range;
+    /// none where that is no range of constants.
     #[cycle(opened)]
     fn vector_type(
         &mut self,
@@ -214,7 +269,7 @@ impl<'f, 't> Opener<'f, 't> {
         environment: EnvironmentId,
         at: usize,
         depth: usize,
-    ) -> Result<Option<(Type, u32)>, Refused> {
+    ) -> Result<Option<Ranged>, Refused> {
         if !self.may_go_on(depth) {
             return Err(refused(Refusal::TooHeavy, at));
         }
@@ -223,7 +278,7 @@ impl<'f, 't> Opener<'f, 't> {
         match self.range(inside, environment, at, depth - 1) {
             Ok((left, right, taken)) if taken.saturating_add(1) == inside.len() => {
                 let width = left.abs_diff(right).saturating_add(1);
-                Ok(Some((Type { width, signed }, right)))
+                Ok(Some((Type { width, signed }, (left, right))))
             }
             Err(fault) if fault.refusal == Refusal::Memory => Err(fault),
             _ => {
@@ -248,7 +303,7 @@ impl<'f, 't> Opener<'f, 't> {
             return Err(refused(Refusal::TooHeavy, at));
         }
         match self.ranged_type(tokens, environment, at, depth - 1)? {
-            Some((found, 0)) => Ok(Some(found)),
+            Some((found, (left, 0))) if left.saturating_add(1) == found.width => Ok(Some(found)),
             _ => Ok(None),
         }
     }
@@ -319,12 +374,72 @@ impl<'f, 't> Opener<'f, 't> {
         }
     }
 
+    /// What a declaration says of the shape of a signal.
+    #[cycle(opened)]
+    fn shape(
+        &mut self,
+        declaration: Declaration<'t>,
+        caller: EnvironmentId,
+        at: usize,
+        depth: usize,
+    ) -> Result<Shape, Refused> {
+        if !self.may_go_on(depth) {
+            return Err(refused(Refusal::TooHeavy, at));
+        }
+        let formals = declaration.formals;
+        if !declaration.body.is_empty() || says_array(formals) {
+            return Ok(Shape::Array);
+        }
+        let inside = self.enter_scope(declaration, caller, at)?;
+        if let Some(other) = self.named_type(type_tokens(formals), inside) {
+            return self.shape(other, inside, at, depth - 1);
+        }
+        match self.ranged_type(formals, inside, at, depth - 1)? {
+            Some((own, range)) => Ok(Shape::Vector(own, range)),
+            None => Ok(match sign_of(vector_tokens(type_tokens(formals))) {
+                Some(signed) => Shape::Unranged(signed),
+                None => Shape::Unknown,
+            }),
+        }
+    }
+
+    /// What all declarations of a signal say of its shape, as of a port in a body and of its net
+    /// (23.2.2.1).
+    #[cycle(opened)]
+    fn whole_shape(
+        &mut self,
+        first: DeclarationId,
+        caller: EnvironmentId,
+        at: usize,
+        depth: usize,
+    ) -> Result<Shape, Refused> {
+        if !self.may_go_on(depth) {
+            return Err(refused(Refusal::TooHeavy, at));
+        }
+        let mut found: Option<Shape> = None;
+        let mut next = Some(first);
+        for _ in 0..self.file.declarations.len() {
+            let Some(id) = next else {
+                break;
+            };
+            next = self.file.next_declaration(id);
+            let Some(declaration) = declaration_at(self.file, id) else {
+                break;
+            };
+            if is_variable(declaration.kind) {
+                let shape = self.shape(declaration, caller, at, depth - 1)?;
+                found = Some(both_shapes(found, shape));
+            }
+        }
+        Ok(found.unwrap_or(Shape::Unknown))
+    }
+
     /// A signal that the file declares.
     #[cycle(opened)]
     pub(crate) fn variable(
         &mut self,
         path: Path<'t>,
-        declaration: Declaration<'t>,
+        id: DeclarationId,
         caller: EnvironmentId,
         at: usize,
         depth: usize,
@@ -332,24 +447,30 @@ impl<'f, 't> Opener<'f, 't> {
         if !self.may_go_on(depth) {
             return Err(refused(Refusal::TooHeavy, at));
         }
-        let value = self.keep(Value::Signal(path), at)?;
-        let inside = self.enter_scope(declaration, caller, at)?;
-        let ranged = if declaration.body.is_empty() {
-            self.ranged_type(declaration.formals, inside, at, depth - 1)?
-        } else {
-            None
+        let Some(declaration) = declaration_at(self.file, id) else {
+            return Err(refused(Refusal::Outside, at));
         };
+        if self.is_of_block(declaration) {
+            return Err(refused(Refusal::BlockName, at));
+        }
+        let value = self.keep(Value::Signal(path), at)?;
+        let shape = self.whole_shape(id, caller, at, depth - 1)?;
         self.made.variables.push(Variable {
             value,
             name: declaration.name,
             declared_at: declaration.at,
             is_port: declaration.kind == DeclarationKind::Port,
-            own: match ranged {
-                Some((found, _)) => Some(found),
-                None => None,
-            },
+            shape,
             depends: has_name(type_tokens(declaration.formals)),
         })?;
         Ok(value)
+    }
+
+    /// Whether a generate block declares something.
+    fn is_of_block(&self, declaration: Declaration<'t>) -> bool {
+        match self.file.scopes.get(declaration.scope.0) {
+            Some(scope) => scope.is_block,
+            None => false,
+        }
     }
 }

@@ -5,7 +5,7 @@ use crate::plan::Plan;
 use crate::reason::Reason;
 use crate::term::Term;
 use crate::terms::Terms;
-use import_elaboration::{Type, ValueId};
+use import_elaboration::{Shape, Type, ValueId};
 use import_trees::Refusal;
 
 /// The width of a type, as that of a number.
@@ -108,9 +108,10 @@ impl<'p, 't> Terms<'p, 't> {
         let variables = self.parts.variables.as_slice();
         let place = variables.partition_point(|variable| variable.value.0 < id.0);
         match variables.get(place) {
-            Some(variable) if variable.value == id => match variable.own {
-                Some(own) => own.signed,
-                None => false,
+            Some(variable) if variable.value == id => match variable.shape {
+                Shape::Vector(own, _) => own.signed,
+                Shape::Unranged(signed) => signed,
+                Shape::Array | Shape::Unknown => false,
             },
             _ => false,
         }

@@ -222,16 +222,19 @@ impl<'p, 't> Terms<'p, 't> {
             }
             Value::Signal(path) => self.ask_signal(path),
             Value::Slice(base, high, low) => match self.signal_of(base) {
-                Some(path) if low <= high => self.ask_range(path, high, low),
+                Some(path) if high == low || self.ascends(base)? == (high < low) => {
+                    self.ask_range(path, high.max(low), high.min(low))
+                }
                 _ => self.ask_bits_of(id),
             },
             _ => self.ask_bits_of(id),
         }
     }
 
-    /// Asks for the bits of a signal from one down to another.
+    /// Asks for the bits of a signal whose declared numbers go from the one to the other.
     fn ask_range(&mut self, path: Path<'t>, high: u32, low: u32) -> Result<(), Reason> {
         let path = self.spelled(path)?;
+        let (high, low) = self.declared(path, high, low)?;
         self.asked.push(Asked::Bits(path, high, low))?;
         Ok(())
     }

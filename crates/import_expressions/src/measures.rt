@@ -172,7 +172,7 @@ impl<'p, 't> Terms<'p, 't> {
                 Some(width) => Ok(Some(width.saturating_mul(count))),
                 None => Ok(None),
             },
-            Value::Slice(_, high, low) => Ok(Some(high.saturating_sub(low).saturating_add(1))),
+            Value::Slice(_, high, low) => Ok(Some(high.abs_diff(low).saturating_add(1))),
             Value::PartUp(_, _, width) | Value::PartDown(_, _, width) => Ok(Some(width)),
             Value::System(name, list) => match function_of(name) {
                 SystemFunction::Past
@@ -192,7 +192,7 @@ impl<'p, 't> Terms<'p, 't> {
 
     /// The sum of the widths of a list.
     #[cycle(widths)]
-    fn total(&self, list: ValueList, depth: usize) -> Result<Option<u32>, Reason> {
+    pub(crate) fn total(&self, list: ValueList, depth: usize) -> Result<Option<u32>, Reason> {
         let mut total = 0u32;
         for place in 0..list.count {
             if depth == 0 {

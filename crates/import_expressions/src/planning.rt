@@ -204,6 +204,12 @@ impl<'p, 't> Terms<'p, 't> {
             Some(members) if members <= 128 => {}
             _ => return Err(Reason::Known(Refusal::WiderThan128)),
         }
+        match self.total(list, MOST_DEPTH)? {
+            Some(width) if width.saturating_mul(count) > 128 => {
+                return Err(Reason::Known(Refusal::WiderThan128));
+            }
+            _ => {}
+        }
         for place in 0..list.count {
             let member = self.member(list, place);
             self.ask(member, false)?;

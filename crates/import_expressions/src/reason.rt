@@ -63,14 +63,15 @@ impl Reason {
     pub fn hint(self) -> &'static str {
         match self {
             Reason::Known(Refusal::BadBound) => {
-                "a count from 1 on has to stand there, 128 at most"
+                "a count from 1 on has to stand there: of ticks 4,096 at most, of copies 128"
             }
             Reason::Known(Refusal::SecondClock) => {
                 "leave the clocking event out: it is that of the assertion"
             }
             Reason::Known(refusal) => refusal.hint(),
             Reason::Unknown => "x and z are read as 0 here: leave the test out",
-            Reason::Signed => "all values are unsigned here: compare with unsigned numbers",
+            Reason::Signed =>
+                "signs count there, and aren't read: test the top bit, or give it a wire",
             Reason::SliceRange => {
                 "a select has one bit at least, of those that are declared, in their order"
             }

@@ -76,7 +76,7 @@ impl<'p, 't> Terms<'p, 't> {
     }
 
     /// Whether a value is a signal whose declared range has its lowest number on the left.
-    fn ascends(&self, base: ValueId) -> Result<bool, Reason> {
+    pub(crate) fn ascends(&self, base: ValueId) -> Result<bool, Reason> {
         let Some(path) = self.signal_of(base) else {
             return Ok(false);
         };
@@ -88,7 +88,12 @@ impl<'p, 't> Terms<'p, 't> {
 
     /// The bits, counted from 0 at the right, that the numbers of a select mean, the higher one
     /// first.
-    fn declared(&self, path: Path<'t>, high: u32, low: u32) -> Result<(u32, u32), Reason> {
+    pub(crate) fn declared(
+        &self,
+        path: Path<'t>,
+        high: u32,
+        low: u32,
+    ) -> Result<(u32, u32), Reason> {
         let Some(known) = self.known(path)? else {
             return Ok((high, low));
         };

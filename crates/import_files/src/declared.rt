@@ -2,18 +2,18 @@
 
 use crate::outcome::{Cause, Remark};
 use crate::reading::Reading;
-use import_elaboration::{Parts, Value, Variable};
-use import_expressions::{known_signal, push_path};
+use import_elaboration::{Parts, Shape, Type, Value, ValueId, Variable};
+use import_expressions::{Known, known_signal, push_path};
 use import_scopes::NoteKind;
 use std::alloc::{AllocError, Global};
 
-/// The width of the dump's signal that a declared one is read as, if it has one.
-fn width_in(
+/// The dump's signal that a declared one is read as, if it has one.
+fn signal_in<'w>(
     alloc: Global,
     parts: &Parts<'_>,
-    reading: &Reading<'_>,
+    reading: &Reading<'w>,
     variable: &Variable<'_>,
-) -> Result<Option<u32>, AllocError> {
+) -> Result<Option<Known<'w>>, AllocError> {
     let Some(node) = parts.values.get(variable.value.0) else {
         return Ok(None);
     };
@@ -22,10 +22,7 @@ fn width_in(
     };
     let mut text = Vec::new(alloc);
     push_path(&mut text, path, reading.scope)?;
-    match known_signal(reading.widths, text.as_slice()) {
-        Some(known) => Ok(Some(known.width)),
-        None => Ok(None),
-    }
+    Ok(known_signal(reading.widths, text.as_slice()))
 }
 
 /// Whether a signal is declared with another width than the dump's has.
@@ -35,32 +32,94 @@ fn is_of_other_width(
     reading: &Reading<'_>,
     variable: &Variable<'_>,
 ) -> Result<bool, AllocError> {
-    let Some(own) = variable.own else {
+    let Shape::Vector(own, _) = variable.shape else {
         return Ok(false);
     };
-    match width_in(alloc, parts, reading, variable)? {
-        Some(width) => Ok(width != own.width),
+    match signal_in(alloc, parts, reading, variable)? {
+        Some(known) => Ok(known.width != own.width),
         None => Ok(false),
     }
 }
 
-/// Why an opening is refused of which a signal is declared with another width than the dump's has:
-/// such a scope is none of the module that declares it. An instance may have other parameters, so
-/// of a width by these that is noted alone.
-pub(crate) fn first_of_other_width(
+/// Whether a select takes bits of a value.
+fn is_selected(parts: &Parts<'_>, value: ValueId) -> bool {
+    parts.values.as_slice().iter().any(|node| match node.value {
+        Value::Index(base, _) => base == value,
+        Value::Slice(base, _, _) => base == value,
+        Value::PartUp(base, _, _) => base == value,
+        Value::PartDown(base, _, _) => base == value,
+        _ => false,
+    })
+}
+
+/// Why selects of a vector that the file declares with a range would take other bits in a rule, if
+/// they would: the dump tells no range, or another one.
+fn range_cause(
+    own: Type,
+    range: (u32, u32),
+    known: Option<Known<'_>>,
+) -> Option<(&'static str, &'static str)> {
+    let counted = range == (own.width.saturating_sub(1), 0);
+    let told = match known {
+        Some(known) => known.range,
+        None => None,
+    };
+    match told {
+        Some(found) if found == range => None,
+        Some(_) => Some((
+            "Range",
+            "the file declares it with another range than the dump: give its bits wires",
+        )),
+        None if counted => None,
+        None => Some((
+            "Range",
+            "its bits aren't counted from 0, and no dump tells its range: give its bits wires",
+        )),
+    }
+}
+
+/// Why a signal can't be read as the file declares it, if it can't: a code and what may be done.
+fn cause_of(
+    alloc: Global,
+    parts: &Parts<'_>,
+    reading: &Reading<'_>,
+    variable: &Variable<'_>,
+) -> Result<Option<(&'static str, &'static str)>, AllocError> {
+    if !variable.depends && is_of_other_width(alloc, parts, reading, variable)? {
+        return Ok(Some((
+            "Width",
+            "the file declares it with another width than the dump's signal has: \
+             give the --scope of this module",
+        )));
+    }
+    if !is_selected(parts, variable.value) {
+        return Ok(None);
+    }
+    match variable.shape {
+        Shape::Array => Ok(Some((
+            "Array",
+            "a select of it is an element, and no bit: give that a wire of the design",
+        ))),
+        Shape::Vector(own, range) if !variable.depends => {
+            let known = signal_in(alloc, parts, reading, variable)?;
+            Ok(range_cause(own, range, known))
+        }
+        _ => Ok(None),
+    }
+}
+
+/// Why an opening is refused of which a signal can't be read as the file declares it. An instance
+/// may have other parameters, so of a width by these that is noted alone.
+pub(crate) fn first_unfit(
     alloc: Global,
     parts: &Parts<'_>,
     reading: &Reading<'_>,
 ) -> Result<Option<Cause>, AllocError> {
     for variable in parts.variables.as_slice() {
-        if variable.depends {
-            continue;
-        }
-        if is_of_other_width(alloc, parts, reading, variable)? {
+        if let Some((code, hint)) = cause_of(alloc, parts, reading, variable)? {
             return Ok(Some(Cause {
-                code: "Width",
-                hint: "the file declares it with another width than the dump's signal has: \
-                       give the --scope of this module",
+                code,
+                hint,
                 at: match parts.values.get(variable.value.0) {
                     Some(node) => node.at,
                     None => variable.declared_at,
@@ -69,6 +128,15 @@ pub(crate) fn first_of_other_width(
         }
     }
     Ok(None)
+}
+
+/// Whether a signal is read of which the file says no type that is known.
+pub(crate) fn has_unknown_type(parts: &Parts<'_>) -> bool {
+    parts
+        .variables
+        .as_slice()
+        .iter()
+        .any(|variable| variable.shape == Shape::Unknown)
 }
 
 /// What is to be told of a signal that the file declares, if something is.

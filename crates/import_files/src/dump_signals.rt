@@ -4,7 +4,8 @@ use import_spelling::Known;
 use std::alloc::{AllocError, Global};
 use vcd_declarations::Header;
 
-/// How many bits a signal has, and the two numbers of its declared range, where it has one.
+/// How many bits a signal has, none where no rule can name one of its kind, and the two numbers of
+/// its declared range, where it has one.
 #[derive(Clone, Copy)]
 pub struct Bits {
     pub width: u32,
@@ -42,6 +43,14 @@ fn range_of(text: &[u8]) -> Option<(u32, u32)> {
     Some((left, right))
 }
 
+/// Whether no rule can name a variable of a kind (IEEE 1364-2005, 18.2.3.7).
+fn is_foreign(kind: &[u8]) -> bool {
+    kind == b"real".as_slice()
+        || kind == b"realtime".as_slice()
+        || kind == b"string".as_slice()
+        || kind == b"event".as_slice()
+}
+
 /// Adds a signal; one whose path is no text can't be named.
 fn push_signal(
     alloc: Global,
@@ -70,7 +79,11 @@ pub fn signals_of(alloc: Global, bytes: &[u8]) -> Result<Signals, AllocError> {
         };
         let spelling = header.spell(alloc, &variable)?;
         let bits = Bits {
-            width: variable.size,
+            width: if is_foreign(variable.kind) {
+                0
+            } else {
+                variable.size
+            },
             range: range_of(spelling.range()),
         };
         push_signal(alloc, &mut signals, spelling.path(), bits)?;

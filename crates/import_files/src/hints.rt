@@ -8,7 +8,8 @@ pub(crate) fn lowering_hint(reason: Reason) -> &'static str {
     match reason {
         Reason::NeedsBound => "it waits without an end: give --bound N",
         Reason::BadBound => "bounds go from the lower to the upper, 127 at most",
-        Reason::TooHeavy => "a part would weigh over 127: split it, or give a smaller --bound",
+        Reason::TooHeavy =>
+            "a part would weigh over 127: split it, or, where an end is open, lower --bound",
         Reason::Degenerate => "it can match no clock",
         Reason::LocalVar => "its age is no one number where it is read: use $past or a counter",
         Reason::Always => "drop always: an assertion begins an attempt at each clock",
@@ -21,7 +22,7 @@ pub(crate) fn rewriting_hint(refusal: NotRewritten) -> (&'static str, &'static s
     match refusal {
         NotRewritten::TooHeavy => (
             "TooHeavy",
-            "a part would weigh over 127: split the assertion, or give a smaller --bound",
+            "a part would weigh over 127: split it, or, where an end is open, lower --bound",
         ),
         NotRewritten::AdmitsEmpty => (
             "AdmitsEmpty",

@@ -8,10 +8,10 @@ ghost use Rattle.import_rewriting.specs.Rewriting.{IsRewriting};
 ghost use Rattle.import_readback.specs.Texts.{SaysRewriting};
 ghost use Rattle.import_files.specs.Written.{FateSays, SaysProperty};
 
-use crate::declared::{first_of_other_width, note_variables};
+use crate::declared::{first_unfit, has_unknown_type, note_variables};
 use crate::halves::halves_of;
 use crate::labels::Labels;
-use crate::names::first_missing;
+use crate::names::{first_missing, missing_clock, wide_clock};
 use crate::outcome::{Cause, Fate, Half, Marks, Remark};
 use crate::reading::Reading;
 use crate::stop::{Stop, not_checked, not_rewritten};
@@ -167,7 +167,7 @@ impl<'f, 't, 'w> Importer<'f, 't, 'w> {
         let marks = Marks {
             bounded: lowered.bounded,
             vacuity: joined || !keeps_vacuity(&lowered.property, &rewriting),
-            unknown_type: parts.has_unknown_type,
+            unknown_type: parts.has_unknown_type || has_unknown_type(parts),
         };
         Ok((rewriting, marks))
     }
@@ -325,6 +325,13 @@ impl<'f, 't, 'w> Importer<'f, 't, 'w> {
         let mut opener = Opener::new(self.alloc, self.file);
         let opened = opener.open(assertion)?;
         let clock = self.clock_path(opened.clock)?;
+        let (path, at) = (clock.as_slice(), opened.at);
+        if let Some(missing) = missing_clock(self.alloc, &self.reading, path, at)? {
+            return Ok(unwritten(Fate::Unknown(missing)));
+        }
+        if let Some(cause) = wide_clock(&self.reading, path, at) {
+            return Ok(unwritten(Fate::Refused(cause)));
+        }
         if !self.counts(clock.as_slice())? {
             let clock = text_of(self.alloc, clock.as_slice())?;
             return Ok(unwritten(Fate::OtherClock(clock)));
@@ -332,7 +339,7 @@ impl<'f, 't, 'w> Importer<'f, 't, 'w> {
         if let Some(missing) = first_missing(self.alloc, opener.parts(), &self.reading)? {
             return Ok(unwritten(Fate::Unknown(missing)));
         }
-        if let Some(cause) = first_of_other_width(self.alloc, opener.parts(), &self.reading)? {
+        if let Some(cause) = first_unfit(self.alloc, opener.parts(), &self.reading)? {
             return Ok(unwritten(Fate::Refused(cause)));
         }
         let (alloc, reading) = (self.alloc, self.reading);

@@ -49,7 +49,7 @@ fn push_notes(
     }
     if outcome.marks.unknown_type {
         let text = format!(in alloc;
-            "note {label} UnknownType: a type of an argument or a local variable isn't looked at"
+            "note {label} UnknownType: a type that it uses isn't known, nor then its sign and bits"
         )?;
         push_note(messages, at, text)?;
     }
@@ -75,6 +75,14 @@ fn scoped_message(
 /// What is told of a name that the dump lacks.
 fn unknown_message(alloc: Global, label: &str, missing: &Missing) -> Result<Message, AllocError> {
     let name = missing.name.as_str();
+    if missing.unnameable {
+        return Ok(Message {
+            at: missing.at,
+            text: format!(in alloc;
+                "refused {label} UnknownName: no rule can name {name}: it has no bits, or over 128"
+            )?,
+        });
+    }
     let text = match (&missing.lost, &missing.scope, &missing.nearest) {
         (Some(scope), _, _) => {
             let scope = scope.as_str();
@@ -146,6 +154,9 @@ fn remark_message(alloc: Global, remark: &Remark) -> Result<Option<Message>, All
         }
         NoteKind::Parameters => format!(in alloc;
             "note {text} Parameters: an instance's aren't looked at, but those of the module"
+        )?,
+        NoteKind::Checker => format!(in alloc;
+            "note {text} Checker: its ports are read as the dump's signals of their names"
         )?,
         NoteKind::Variable => format!(in alloc;
             "note {text} Declared: read as the dump's signal: --scope has to be this module's"

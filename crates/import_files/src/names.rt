@@ -1,10 +1,10 @@
 //! Names that a dump lacks.
 
-use crate::outcome::Missing;
+use crate::outcome::{Cause, Missing};
 use crate::reading::Reading;
 use diagnostics::nearest;
 use import_elaboration::{Parts, Value};
-use import_expressions::{known_signal, push_path};
+use import_expressions::{Known, known_signal, push_path};
 use std::alloc::{AllocError, Global};
 
 /// How many characters of a name may be wrong.
@@ -47,6 +47,30 @@ fn lost_scope(alloc: Global, reading: &Reading<'_>) -> Result<Option<String>, Al
     Ok(Some(String::from_str(alloc, scope)?))
 }
 
+/// Whether no rule can name a signal: it has no bits, or more than 128.
+fn is_unnameable(known: Option<Known<'_>>) -> bool {
+    match known {
+        Some(known) => known.width == 0 || known.width > 128,
+        None => false,
+    }
+}
+
+/// What is told of a name that the dump has, and no rule can name.
+fn unnameable_name(alloc: Global, path: &[u8], at: usize) -> Result<Missing, AllocError> {
+    let name = match str::from_utf8(path) {
+        Ok(name) => String::from_str(alloc, name)?,
+        Err(_) => String::new(alloc),
+    };
+    Ok(Missing {
+        name,
+        nearest: None,
+        scope: None,
+        lost: None,
+        unnameable: true,
+        at,
+    })
+}
+
 /// What is told of a name that the dump lacks.
 fn missing_name(
     alloc: Global,
@@ -73,8 +97,34 @@ fn missing_name(
         nearest,
         scope,
         lost,
+        unnameable: false,
         at,
     })
+}
+
+/// The clock of an assertion, where the dump lacks it; none where no dump is given.
+pub(crate) fn missing_clock(
+    alloc: Global,
+    reading: &Reading<'_>,
+    clock: &[u8],
+    at: usize,
+) -> Result<Option<Missing>, AllocError> {
+    if reading.widths.is_empty() || known_signal(reading.widths, clock).is_some() {
+        return Ok(None);
+    }
+    Ok(Some(missing_name(alloc, reading, clock, at)?))
+}
+
+/// Why an assertion is refused whose clock has several bits in the dump, if it has.
+pub(crate) fn wide_clock(reading: &Reading<'_>, clock: &[u8], at: usize) -> Option<Cause> {
+    match known_signal(reading.widths, clock) {
+        Some(known) if known.width != 1 => Some(Cause {
+            code: "ClockForm",
+            hint: "the clock has to be one bit",
+            at,
+        }),
+        _ => None,
+    }
 }
 
 /// The first signal of an opening that the dump lacks; none where no dump is given.
@@ -90,7 +140,11 @@ pub(crate) fn first_missing<'t>(
         if let Value::Signal(path) = node.value {
             let mut text = Vec::new(alloc);
             push_path(&mut text, path, reading.scope)?;
-            if known_signal(reading.widths, text.as_slice()).is_none() {
+            let known = known_signal(reading.widths, text.as_slice());
+            if is_unnameable(known) {
+                return Ok(Some(unnameable_name(alloc, text.as_slice(), node.at)?));
+            }
+            if known.is_none() {
                 return Ok(Some(missing_name(alloc, reading, text.as_slice(), node.at)?));
             }
         }

@@ -22,6 +22,8 @@ pub struct Missing {
     pub scope: Option<String>,
     /// The scope that is given, where the dump has nothing in it.
     pub lost: Option<String>,
+    /// Whether the dump has it, and no rule can name it.
+    pub unnameable: bool,
     /// The byte of the text at which it stands.
     pub at: usize,
 }

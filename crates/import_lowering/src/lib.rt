@@ -44,6 +44,7 @@ mod sequences;
 mod triggered;
 mod values;
 mod ways;
+mod widening;
 
 pub use lowered::{Lowered, MOST_DEPTH, property_of};
 pub use reason::{Hint, NotLowered, Reason};

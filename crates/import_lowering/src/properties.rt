@@ -9,6 +9,7 @@ use crate::nodes::{
 use crate::now::Span;
 use crate::polarity::Polarity;
 use crate::reason::{Hint, NotLowered, Reason, hinted, refused};
+use crate::widening::are_widened_alone;
 use import_elaboration::{Choice, ChoiceId, Count, Part, PartId, Parts, ValueId};
 use import_semantics::{Condition, Property, Sequence};
 use std::alloc::{AllocError, Global};
@@ -277,6 +278,9 @@ impl Lowering {
         if depth == 0 {
             return Err(refused(Reason::TooHeavy, at));
         }
+        if !are_widened_alone(parts, value, last) {
+            return Err(hinted(Reason::Width, at, Hint::CaseWidths));
+        }
         let start = self.now;
         let value = self.written(parts, value, depth - 1)?;
         let mut rest = match default_of(parts, last) {
@@ -389,7 +393,7 @@ fn after_delay(
 }
 
 /// An item of a `case`, by its place.
-fn choice_at(parts: &Parts<'_>, id: Option<ChoiceId>) -> Option<Choice> {
+pub(crate) fn choice_at(parts: &Parts<'_>, id: Option<ChoiceId>) -> Option<Choice> {
     let id = id?;
     match parts.choices.get(id.0) {
         Some(choice) => Some(*choice),

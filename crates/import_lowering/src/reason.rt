@@ -22,6 +22,8 @@ pub enum Reason {
     LocalVar,
     /// `always` without an end.
     Always,
+    /// Values that are compared at one width, which depends on that.
+    Width,
     /// A form that isn't taken.
     Outside,
     /// Memory ran out.
@@ -39,6 +41,7 @@ impl Reason {
             Reason::AdmitsEmpty => "AdmitsEmpty",
             Reason::LocalVar => "LocalVar",
             Reason::Always => "Always",
+            Reason::Width => "Width",
             Reason::Outside => "Outside",
             Reason::Memory => "OutOfMemory",
         }
@@ -58,6 +61,7 @@ pub enum Hint {
     NegateAlone,
     EndsUntold,
     NoAntecedent,
+    CaseWidths,
 }
 
 impl Hint {
@@ -66,7 +70,8 @@ impl Hint {
         match self {
             Hint::GiveBound => "no upper bound here: give --bound N",
             Hint::BoundBelow => "the upper bound is below the lower one",
-            Hint::BoundOver127 => "a bound over 127",
+            Hint::BoundOver127 =>
+                "a bound over 127: put a part of it before the arrow, as A ##100 1 |-> ##100 b",
             Hint::AgeDiffers => "its age differs between matches",
             Hint::NoValue => "it has no value there",
             Hint::DropAlways => "drop always: an assertion begins an attempt at each clock",
@@ -74,6 +79,7 @@ impl Hint {
             Hint::NegateAlone => "not s_eventually: write the negated expression alone",
             Hint::EndsUntold => "first_match of a sequence whose ends are not told one by one",
             Hint::NoAntecedent => "the antecedent matches nothing",
+            Hint::CaseWidths => "all widths of a case count: give what is worked out there a wire",
         }
     }
 }

@@ -7,7 +7,7 @@ use crate::construct::Construct;
 use crate::declaration::{Declaration, DeclarationId};
 use crate::names::Names;
 use crate::scope::{Scope, ScopeId};
-use crate::status::{Assertion, Mark, Note, Status};
+use crate::status::{Assertion, Mark, Note, NoteKind, Status};
 use crate::walker::{Found, Walker};
 use crate::words::{is_misspelt, words_of};
 use import_tokens::{Keyword, Token};
@@ -73,16 +73,24 @@ fn has_assertion(scopes: &[Scope], assertions: &[Assertion], name: &[u8]) -> boo
     })
 }
 
-/// Notes, and after them those on instances of modules that have assertions.
+/// Whether a name is one of a list.
+fn is_among(names: &[&[u8]], name: &[u8]) -> bool {
+    names.iter().any(|one| *one == name)
+}
+
+/// Notes, and after them those on instances of modules that have assertions; of what is given for
+/// ports, those on instances of checkers alone.
 fn with_instances<'t>(
     notes: Vec<Note<'t>>,
     instances: &[Note<'t>],
+    checkers: &[&'t [u8]],
     scopes: &[Scope],
     assertions: &[Assertion],
 ) -> Result<Vec<Note<'t>>, AllocError> {
     let mut all = notes;
     for instance in instances {
-        if has_assertion(scopes, assertions, instance.text) {
+        let counts = instance.kind != NoteKind::Checker || is_among(checkers, instance.text);
+        if counts && has_assertion(scopes, assertions, instance.text) {
             all.push(*instance)?;
         }
     }
@@ -106,11 +114,13 @@ impl<'t> File<'t> {
             notes,
             constructs,
             instances,
+            checkers,
             marks,
         } = walker.into_found();
         let notes = with_instances(
             notes,
             instances.as_slice(),
+            checkers.as_slice(),
             scopes.as_slice(),
             assertions.as_slice(),
         )?;
@@ -126,6 +136,11 @@ impl<'t> File<'t> {
             constructs,
             names,
         })
+    }
+
+    /// The next declaration of the same name in the same scope, as a port in a body and its net.
+    pub fn next_declaration(&self, id: DeclarationId) -> Option<DeclarationId> {
+        self.names.next_of(self.declarations.as_slice(), id.0)
     }
 
     /// The declaration of a name that a scope sees: in it, or else in one round it.

@@ -45,4 +45,5 @@ pub use passing::{
 };
 pub use scope::{DefaultClock, Scope, ScopeId};
 pub use status::{Assertion, AssertionId, Note, NoteKind, Status};
+pub use variables::is_before_type;
 pub use words::begins_assertion;

@@ -156,6 +156,25 @@ enum Nesting {
     Neither,
 }
 
+/// Whether `fork` stands there as the end of `wait fork` or `disable fork` (9.6.1, 9.6.3).
+fn ends_fork(tokens: &[Token], index: usize) -> bool {
+    let before = index.saturating_sub(1);
+    match tokens.get(before) {
+        Some(token) if before < index && is_keyword(tokens, index, Keyword::Fork) => {
+            token.text == b"wait".as_slice() || token.text == b"disable".as_slice()
+        }
+        _ => false,
+    }
+}
+
+/// How the token at a place nests statements.
+fn nesting_at(tokens: &[Token], index: usize) -> Nesting {
+    if ends_fork(tokens, index) {
+        return Nesting::Neither;
+    }
+    nesting_of(kind_at(tokens, index))
+}
+
 fn nesting_of(kind: Kind) -> Nesting {
     match kind {
         Kind::Keyword(
@@ -189,7 +208,7 @@ pub fn past_statement(tokens: &[Token], start: usize) -> usize
             return index;
         }
         brackets = deeper(brackets, kind);
-        match nesting_of(kind) {
+        match nesting_at(tokens, index) {
             Nesting::Begins => blocks = blocks.saturating_add(1),
             Nesting::Ends => blocks = blocks.saturating_sub(1),
             Nesting::Neither => {}

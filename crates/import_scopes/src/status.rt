@@ -55,6 +55,9 @@ pub enum NoteKind {
     Parameters,
     /// A net or a variable that the file declares is read as a signal.
     Variable,
+    /// An instance of a checker of the file that has assertions; what it gives for the ports isn't
+    /// looked at (17.2).
+    Checker,
 }
 
 /// A note, at the byte of its token.

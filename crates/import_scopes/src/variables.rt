@@ -6,35 +6,65 @@ use crate::passing::{
 };
 use crate::walker::Walker;
 use import_tokens::{Keyword, Kind, Symbol, Token};
+use import_trees::integral_type;
 use std::alloc::AllocError;
 
-/// Whether a keyword is a type of variables (6.11).
-fn is_type(keyword: Keyword) -> bool {
-    matches!(
-        keyword,
-        Keyword::Logic
-            | Keyword::Bit
-            | Keyword::Reg
-            | Keyword::Int
-            | Keyword::Integer
-            | Keyword::Byte
-            | Keyword::ShortInt
-            | Keyword::LongInt
-            | Keyword::Time
-            | Keyword::Enum
-    )
-}
-
-/// The words beside keywords by which nets, ports in a body and variables are declared (6.6, 6.8,
-/// 7.2, 23.2.2.1); the first three are those of ports.
-const DECLARING: [&[u8]; 14] = [
-    b"input", b"output", b"inout", b"wire", b"tri", b"tri0", b"tri1", b"wand", b"wor", b"uwire",
-    b"var", b"struct", b"union", b"const",
+/// The words beside keywords that stand before the type of a port, a net or a variable, or before
+/// its name, and are no part of a type (6.6 to 6.9, 6.21, 13.5.2, 18.4, 23.2.2.1); those of ports
+/// come first.
+const BEFORE_TYPES: [&[u8]; 24] = [
+    b"input",
+    b"output",
+    b"inout",
+    b"ref",
+    b"wire",
+    b"tri",
+    b"tri0",
+    b"tri1",
+    b"triand",
+    b"trior",
+    b"trireg",
+    b"wand",
+    b"wor",
+    b"uwire",
+    b"supply0",
+    b"supply1",
+    b"var",
+    b"const",
+    b"vectored",
+    b"scalared",
+    b"static",
+    b"automatic",
+    b"rand",
+    b"randc",
 ];
 
-/// Whether a word is among the first so many of those that declare something.
-fn declares(word: &[u8], count: usize) -> bool {
-    DECLARING.iter().take(count).any(|own| *own == word)
+/// How many of those are words of ports.
+const OF_PORTS: usize = 4;
+
+/// Whether a word is among the first so many of those.
+fn is_among(word: &[u8], count: usize) -> bool {
+    BEFORE_TYPES.iter().take(count).any(|own| *own == word)
+}
+
+/// Whether a word stands before the type of a port, a net or a variable and is no part of it.
+pub fn is_before_type(word: &[u8]) -> bool {
+    is_among(word, BEFORE_TYPES.len())
+}
+
+/// Whether a keyword is a type of variables (6.11, 6.19).
+fn is_type(keyword: Keyword) -> bool {
+    keyword == Keyword::Enum || integral_type(keyword).is_some()
+}
+
+/// Whether a word says how long variables live (6.21).
+pub(crate) fn is_lifetime(word: &[u8]) -> bool {
+    word == b"static".as_slice() || word == b"automatic".as_slice()
+}
+
+/// Whether a word begins a type of several members (7.2, 7.3).
+fn begins_members(word: &[u8]) -> bool {
+    word == b"struct".as_slice() || word == b"union".as_slice()
 }
 
 /// Where a name stands that is declared, and where what is said of it before its value ends.
@@ -67,7 +97,10 @@ impl<'t> Walker<'t> {
     pub(crate) fn declares_variables(&self, kind: Kind) -> bool {
         match kind {
             Kind::Keyword(keyword) => is_type(keyword),
-            Kind::Word => declares(self.text(self.at), DECLARING.len()) || self.names_type(),
+            Kind::Word => {
+                let word = self.text(self.at);
+                is_before_type(word) || begins_members(word) || self.names_type()
+            }
             _ => false,
         }
     }
@@ -87,7 +120,7 @@ impl<'t> Walker<'t> {
     pub(crate) fn variables(&mut self) -> Result<(), AllocError> {
         let start = self.at;
         let word = self.text(start);
-        let kind = if declares(word, 3) {
+        let kind = if is_among(word, OF_PORTS) {
             DeclarationKind::Port
         } else {
             DeclarationKind::Variable

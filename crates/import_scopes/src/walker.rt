@@ -9,6 +9,7 @@ use crate::passing::{
 };
 use crate::scope::{DefaultClock, Scope, ScopeId};
 use crate::status::{Assertion, AssertionId, Mark, Note, NoteKind, Status};
+use crate::variables::is_lifetime;
 use import_tokens::{Keyword, Kind, Symbol, Token};
 use import_trees::{Expected, Refusal};
 use std::alloc::{AllocError, Global};
@@ -23,6 +24,8 @@ pub(crate) struct Found<'t> {
     pub constructs: Vec<Construct>,
     /// Instances that give parameters, as notes on them.
     pub instances: Vec<Note<'t>>,
+    /// The names of checkers.
+    pub checkers: Vec<&'t [u8]>,
     pub marks: Vec<Mark>,
 }
 
@@ -33,6 +36,26 @@ pub(crate) struct Walker<'t> {
     pub(crate) at: usize,
     scope: ScopeId,
     found: Found<'t>,
+}
+
+/// The place after `automatic` or `static`, if one stands there (6.21).
+fn past_lifetime(tokens: &[Token], index: usize) -> usize {
+    match tokens.get(index) {
+        Some(token) if is_lifetime(token.text) => index.saturating_add(1),
+        _ => index,
+    }
+}
+
+/// The place after the imports of a header, before its parameters (23.2.1, 26.4).
+fn past_imports(tokens: &[Token], start: usize) -> usize {
+    let mut at = start;
+    for _ in start..tokens.len() {
+        match tokens.get(at) {
+            Some(token) if token.text == b"import".as_slice() => at = past_item(tokens, at),
+            _ => break,
+        }
+    }
+    at
 }
 
 impl<'t> Walker<'t> {
@@ -56,6 +79,7 @@ impl<'t> Walker<'t> {
                 notes: Vec::new(alloc),
                 constructs: Vec::new(alloc),
                 instances: Vec::new(alloc),
+                checkers: Vec::new(alloc),
                 marks: Vec::new(alloc),
             },
         })
@@ -121,8 +145,27 @@ impl<'t> Walker<'t> {
         Ok(())
     }
 
+    /// Whether a name stands there, another one after it, and what is given for its ports.
+    fn is_instance(&self) -> bool {
+        let second = self.at.saturating_add(1);
+        let open = second.saturating_add(1);
+        self.is_name(self.at)
+            && self.is_name(second)
+            && is_symbol(self.tokens, open, Symbol::OpenRound)
+    }
+
+    /// Whether `defparam` stands there, which gives an instance other parameters (23.10.1).
+    fn overrides_parameters(&self) -> bool {
+        self.text(self.at) == b"defparam".as_slice()
+    }
+
     /// One item of a scope (annex A.1.4).
     fn item(&mut self, kind: Kind) -> Result<(), AllocError> {
+        if self.overrides_parameters() {
+            self.note(NoteKind::Parameters)?;
+            self.at = past_item(self.tokens, self.at);
+            return Ok(());
+        }
         match kind {
             _ if self.declares_variables(kind) => self.variables(),
             Kind::Keyword(keyword) => self.keyword_item(keyword),
@@ -135,6 +178,12 @@ impl<'t> Walker<'t> {
             _ if self.labels_macro() => {
                 self.at = self.at.saturating_add(2);
                 self.macro_item()
+            }
+            _ if self.is_instance() => {
+                let note = self.note_of(NoteKind::Checker);
+                self.found.instances.push(note)?;
+                self.at = past_item(self.tokens, self.at);
+                Ok(())
             }
             _ if is_symbol(self.tokens, self.at.saturating_add(1), Symbol::Hash) => {
                 let note = self.note_of(NoteKind::Parameters);
@@ -160,6 +209,10 @@ impl<'t> Walker<'t> {
     /// An item that a keyword begins.
     fn keyword_item(&mut self, keyword: Keyword) -> Result<(), AllocError> {
         match keyword {
+            Keyword::Interface
+                if is_keyword(self.tokens, self.at.saturating_add(1), Keyword::Class) => {
+                self.left_out(Keyword::Class)
+            }
             Keyword::Module
             | Keyword::MacroModule
             | Keyword::Interface
@@ -280,23 +333,35 @@ impl<'t> Walker<'t> {
         Ok(())
     }
 
-    /// The header of a module or the like, with its parameters; what follows is its scope.
+    /// The header of a module or the like, with its parameters and ports; what follows is its
+    /// scope.
     fn open_scope(&mut self) -> Result<(), AllocError> {
-        let place = self.at.saturating_add(1);
+        let place = past_lifetime(self.tokens, self.at.saturating_add(1));
         let name = self.text(place);
+        let is_checker = is_keyword(self.tokens, self.at, Keyword::Checker);
         self.push_scope(name, false)?;
-        let end = past_item(self.tokens, self.at);
-        for index in self.at..end {
-            if let Kind::Keyword(Keyword::Parameter | Keyword::LocalParam) = kind_at(
-                self.tokens,
-                index,
-            ) {
+        if is_checker {
+            self.found.checkers.push(name)?;
+        }
+        let start = past_imports(self.tokens, place.saturating_add(1));
+        let end = past_item(self.tokens, start);
+        self.parameters(start, end)?;
+        self.ports(start, end)?;
+        self.at = end;
+        Ok(())
+    }
+
+    /// The parameters of a header, of which the first may lack its word (23.2.1).
+    fn parameters(&mut self, start: usize, end: usize) -> Result<(), AllocError> {
+        let first = start.saturating_add(2);
+        if is_symbol(self.tokens, start, Symbol::Hash) && !self.begins_constants(first) {
+            let _end = self.constants(first)?;
+        }
+        for index in start..end {
+            if self.begins_constants(index) {
                 let _end = self.constants(index.saturating_add(1))?;
             }
         }
-        let start = self.at;
-        self.ports(start, end)?;
-        self.at = end;
         Ok(())
     }
 
@@ -331,9 +396,19 @@ impl<'t> Walker<'t> {
         self.at = after_name(self.tokens, self.at.saturating_add(1));
     }
 
-    /// Constants with their values, from a place on (6.20); where they end.
+    /// Whether the word of parameters stands there.
+    fn begins_constants(&self, index: usize) -> bool {
+        matches!(
+            kind_at(self.tokens, index),
+            Kind::Keyword(Keyword::Parameter | Keyword::LocalParam)
+        )
+    }
+
+    /// Constants with their values, from a place on (6.20); where they end. One that has no type of
+    /// its own has that of the one before it.
     fn constants(&mut self, first: usize) -> Result<usize, AllocError> {
         let mut start = first;
+        let mut own = self.between(first, first);
         for _ in first..self.tokens.len() {
             let sign = value_start(self.tokens, start);
             let end = value_end(self.tokens, sign.saturating_add(1));
@@ -341,17 +416,16 @@ impl<'t> Walker<'t> {
             if !is_symbol(self.tokens, sign, Symbol::Assign) || !self.is_name(name) {
                 return Ok(value_end(self.tokens, start));
             }
-            let formals = self.between(start, name);
+            if name > start {
+                own = self.between(start, name);
+            }
             let body = self.between(sign.saturating_add(1), end);
-            self.declare(DeclarationKind::Constant, name, formals, body)?;
+            self.declare(DeclarationKind::Constant, name, own, body)?;
             if !is_symbol(self.tokens, end, Symbol::Comma) {
                 return Ok(end);
             }
             start = end.saturating_add(1);
-            if let Kind::Keyword(Keyword::Parameter | Keyword::LocalParam) = kind_at(
-                self.tokens,
-                start,
-            ) {
+            if self.begins_constants(start) {
                 return Ok(end);
             }
         }

@@ -12,6 +12,7 @@ pub(crate) enum Directive {
     EndIf,
     Define,
     Undefine,
+    UndefineAll,
     Include,
     /// One that says nothing about assertions, with the rest of its line.
     Line,
@@ -30,11 +31,12 @@ pub(crate) fn directive_of(name: &[u8]) -> Directive {
         b"`endif" => Directive::EndIf,
         b"`define" => Directive::Define,
         b"`undef" => Directive::Undefine,
+        b"`undefineall" => Directive::UndefineAll,
         b"`include" => Directive::Include,
         b"`timescale" | b"`default_nettype" | b"`line" | b"`pragma" => Directive::Line,
         b"`begin_keywords" | b"`unconnected_drive" => Directive::Line,
         b"`resetall" | b"`celldefine" | b"`endcelldefine" => Directive::Alone,
-        b"`end_keywords" | b"`nounconnected_drive" | b"`undefineall" => Directive::Alone,
+        b"`end_keywords" | b"`nounconnected_drive" => Directive::Alone,
         _ => Directive::Use,
     }
 }

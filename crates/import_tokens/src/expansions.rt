@@ -88,6 +88,7 @@ fn step_at<'a>(
             return Ok(Step { remains, after });
         }
         Directive::Undefine => undefine_at(pieces, index, macros),
+        Directive::UndefineAll => macros.clear(),
         _ => {}
     }
     let after = after_directive(pieces, index, directive, macros);

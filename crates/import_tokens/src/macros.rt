@@ -39,6 +39,11 @@ impl<'a> Macros<'a> {
         self.definitions.retain(|one| one.name != name);
     }
 
+    /// Forgets all macros.
+    pub(crate) fn clear(&mut self) {
+        self.definitions.clear();
+    }
+
     pub(crate) fn find(&self, name: &[u8]) -> Option<&Definition<'a>> {
         self.definitions.iter().find(|one| one.name == name)
     }

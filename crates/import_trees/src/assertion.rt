@@ -7,6 +7,7 @@ use crate::fault::TreeFault;
 use crate::form::FormId;
 use crate::parser::{MOST_DEPTH, Parser};
 use crate::refusal::{Expected, Refusal};
+use crate::types::is_type;
 use import_tokens::{Keyword, Kind, Symbol, Token};
 
 /// A clocking event.
@@ -37,24 +38,6 @@ fn within(fault: TreeFault, tokens: &[Token]) -> TreeFault
         refusal: fault.refusal,
         token: fault.token.min(tokens.len()),
     }
-}
-
-/// Whether a word is that of a type, as begins the declaration of a variable (6.8).
-pub(crate) fn is_type(kind: Kind) -> bool {
-    matches!(
-        kind,
-        Kind::Keyword(
-            Keyword::Logic
-                | Keyword::Bit
-                | Keyword::Reg
-                | Keyword::Int
-                | Keyword::Integer
-                | Keyword::Byte
-                | Keyword::ShortInt
-                | Keyword::LongInt
-                | Keyword::Time
-        )
-    )
 }
 
 impl<'t> Parser<'t> {

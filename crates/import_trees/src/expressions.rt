@@ -1,12 +1,12 @@
 //! Expressions (IEEE 1800-2017, 11.3 and annex A.8).
 
-use crate::assertion::is_type;
 use crate::expression::{Expression, ExpressionId, ExpressionList};
 use crate::fault::TreeFault;
 use crate::number::number_of;
 use crate::operator::{Infix, left_joint_of, prefix_of, right_joint_of};
 use crate::parser::Parser;
 use crate::refusal::{Expected, Refusal};
+use crate::types::is_type;
 use import_tokens::{Keyword, Kind, Symbol};
 
 impl<'t> Parser<'t> {

@@ -51,8 +51,9 @@ fn clock_hint(refusal: Refusal) -> &'static str {
         Refusal::SecondClock => {
             "a second clock: make it two assertions; one clock goes first, before disable iff"
         }
-        Refusal::ClockEdge => "one rising edge alone: write posedge",
-        Refusal::ClockIff => "no gate on the clock: put it into the antecedent",
+        Refusal::ClockEdge =>
+            "one rising edge alone: for another one give a rule a wire of that clock, inverted",
+        Refusal::ClockIff => "no gate on the clock: the gated clock has to be a wire of the design",
         _ => "the clock has to be a path after posedge",
     }
 }
@@ -61,12 +62,15 @@ fn clock_hint(refusal: Refusal) -> &'static str {
 fn name_hint(refusal: Refusal) -> &'static str {
     match refusal {
         Refusal::NoWord => "no rule can spell this name: give it a wire with a plain name",
+        Refusal::BlockName => {
+            "no rule can spell a name of a generate block: give it a wire of the module"
+        }
         Refusal::NotConstant => "a constant has to stand there",
         Refusal::BadBound => "bounds go from the lower to the upper, 127 at most",
         Refusal::Recursive => "it reaches itself: write it out",
         Refusal::Arguments => "it has another number of arguments",
         Refusal::UnknownLocal => "no local variable of this name is declared",
-        Refusal::Cast => "no casts: drop it, or give its value a wire of the design",
+        Refusal::Cast => "no casts: give its value a wire of the design",
         Refusal::PackageName => "no package names: write the number, or a localparam of the file",
         Refusal::Function => "no functions: write their bodies, or give them a wire",
         _ => "no rule can say this: give it a wire of the design or of a checker",

@@ -43,6 +43,7 @@ mod ranges;
 mod refusal;
 mod repeats;
 mod trees;
+mod types;
 
 pub use assertion::{Clock, Specification};
 pub use expression::{
@@ -55,3 +56,4 @@ pub use operator::{Infix, Prefix};
 pub use parser::{MOST_DEPTH, Parser};
 pub use refusal::{Expected, Refusal};
 pub use trees::Trees;
+pub use types::integral_type;

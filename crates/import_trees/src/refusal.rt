@@ -45,6 +45,8 @@ pub enum Refusal {
     Quoted,
     /// A name that no rule can spell.
     NoWord,
+    /// A name that a generate block declares.
+    BlockName,
     /// A number of no bits, or of more than 128.
     WiderThan128,
     /// Brackets and operators lie too deep in one another, or the text is read too often.
@@ -84,7 +86,7 @@ impl Refusal {
             Refusal::UnknownDigits => "XLiteral",
             Refusal::Real => "Real",
             Refusal::Quoted => "String",
-            Refusal::NoWord => "NoWord",
+            Refusal::NoWord | Refusal::BlockName => "NoWord",
             Refusal::WiderThan128 => "WiderThan128",
             Refusal::TooHeavy => "TooHeavy",
             Refusal::Immediate => "Immediate",

@@ -1,4 +1,4 @@
-//! Trials of what reads a team's own file: trees and items of SystemVerilog texts, and that
+//! Tests of what reads a team's own file: trees and items of SystemVerilog texts, and that
 //! properties have rewritings.
 //!
 //! `trees`: how operators group, by tables 11-2 and 16-3 of IEEE 1800-2017, what numbers are worth,

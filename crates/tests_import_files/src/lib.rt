@@ -1,4 +1,4 @@
-//! Trials of what becomes of a team's own files: what is written, what is told, and where.
+//! Tests of what becomes of a team's own files: what is written, what is told, and where.
 //!
 //! `files`: texts with what stands for each of their assertions, the messages and the status; an
 //! assertion that is too heavy as two; and the text that is judged in place of the files.

@@ -8,13 +8,14 @@ use std::alloc::{AllocError, Global};
 use std::test::Fail;
 
 /// Signals of a dump with their widths, in the order of their paths.
-const SIGNALS: [(&[u8], u32); 7] = [
+const SIGNALS: [(&[u8], u32); 8] = [
     (b"a", 1),
     (b"b", 1),
     (b"c", 1),
     (b"d", 8),
     (b"e", 8),
     (b"full", 1),
+    (b"g", 0),
     (b"w", 16),
 ];
 
@@ -162,6 +163,84 @@ fn declared(number: usize) -> (&'static str, &'static str) {
              endmodule\nm #(.N(2)) u(.a(b));\n",
             "f:4:1: note m Parameters: ",
         ),
+        4 => (
+            "module m(input tri0 signed [7:0] d);\nr: assert property (@(posedge c) d < 3);\n\
+             endmodule\n",
+            "f:2:34: refused r Signed: ",
+        ),
+        5 => (
+            "module m(input a);\nwand signed [7:0] d;\nr: assert property (@(posedge c) d < 3);\n\
+             endmodule\n",
+            "f:2:19: note d Declared: ",
+        ),
+        6 => (
+            "module m(input logic [3:0][7:0] d);\nr: assert property (@(posedge c) d[1] == 3);\n\
+             endmodule\n",
+            "f:2:34: refused r Array: ",
+        ),
+        7 => (
+            "module m import p::*; (input signed [7:0] d);\n\
+             r: assert property (@(posedge c) d < 3);\nendmodule\n",
+            "f:2:34: refused r Signed: ",
+        ),
+        8 => (
+            "module m(d);\noutput [7:0] d;\nreg signed [7:0] d;\n\
+             r: assert property (@(posedge c) d < 3);\nendmodule\n",
+            "f:4:34: refused r Signed: ",
+        ),
+        9 => (
+            "module m(input [8:1] d);\nr: assert property (@(posedge c) d[3]);\nendmodule\n",
+            "f:2:34: refused r Range: ",
+        ),
+        10 => (
+            "module m(input a);\nfor (genvar i = 0; i < 1; i = i + 1) begin : g\nwire b = a;\n\
+             r: assert property (@(posedge c) b);\nend\nendmodule\n",
+            "f:4:34: refused r_0 NoWord: ",
+        ),
+        11 => (
+            "checker k(a, b);\nr: assert property (@(posedge c) a |-> b);\nendchecker\n\
+             k u(b, a);\n",
+            "f:4:1: note k Checker: ",
+        ),
+        12 => (
+            "r: assert property (@(posedge c) case (d + e) 8'd3: a; 9'd300: b; default: 1; \
+             endcase);\n",
+            "f:1:34: refused r Width: ",
+        ),
+        13 => (
+            "`define X a\n`undefineall\nr: assert property (@(posedge c) `X);\n",
+            "f:3:34: refused r UnknownMacro: ",
+        ),
+        14 => (
+            "module m(input pk::t d);\nr: assert property (@(posedge c) d == 8'd3);\nendmodule\n",
+            "f:2:1: note r UnknownType: ",
+        ),
+        15 => (
+            "module m #(int N = 3, K = 2) (input a);\n\
+             r: assert property (@(posedge c) a |-> ##[K:N] b);\nendmodule\n",
+            "",
+        ),
+        16 => (
+            "module m(input a);\ninitial begin wait fork; end\n\
+             r: assert property (@(posedge c) a);\nendmodule\n",
+            "",
+        ),
+        17 => (
+            "r: assert property (@(posedge c) g);\n",
+            "f:1:34: refused r UnknownName: no rule can name g",
+        ),
+        18 => (
+            "r: assert property (@(posedge k) a);\n",
+            "f:1:1: refused r UnknownName: the dump has no k",
+        ),
+        19 => (
+            "r: assert property (@(posedge d) a);\n",
+            "f:1:1: refused r ClockForm: ",
+        ),
+        20 => (
+            "r: assert property (@(posedge c) |{8{w, d}});\n",
+            "f:1:35: refused r WiderThan128: ",
+        ),
         _ => (
             "module m(input logic [W-1:0] d, input e);\n\
              r: assert property (@(posedge c) d == 3 && full);\nendmodule\n",
@@ -173,13 +252,57 @@ fn declared(number: usize) -> (&'static str, &'static str) {
 #[test]
 fn signals_that_the_file_declares(rt: HostRuntime) -> Result<(), Fail> {
     let alloc = rt.alloc();
-    for number in 0..5 {
+    for number in 0..22 {
         let (text, wanted) = declared(number);
         let (written, told) = answer(alloc, text)?;
         let (written, told) = (written.as_str(), told.as_str());
         assert!(rt; told.starts_with(wanted), "{number}: {written}{told}");
         assert!(rt;
             told.is_empty() == wanted.is_empty(),
+            "{number}: {written}{told}"
+        );
+    }
+    Ok(())
+}
+
+/// A constant, a property of it, and what is written after the clock, or the code that is told
+/// (6.20.2, 11.2.1, 11.8).
+fn constant(number: usize) -> (&'static str, &'static str, &'static str) {
+    match number {
+        0 => ("parameter signed [7:0] K = -3;", "K == -3", "1);"),
+        1 => ("parameter byte K = 300;", "d == K", "d == 8'd44"),
+        2 => ("parameter [3:0] J = 1, K = -1;", "d == K", "d == 4'd15"),
+        3 => (
+            "parameter int unsigned K = 4;",
+            "a |-> ##[1:K - 1] b",
+            "a |-> ##[1:3] b",
+        ),
+        4 => ("localparam logic signed [3:0] K = -1;", "K < 0", "1);"),
+        5 => ("parameter nibble K = 20;", "d == K", "d == 4'd4"),
+        6 => ("parameter other_t K = 3;", "d == K", "UnknownType"),
+        7 => ("parameter [0:3] K = 18;", "d == K", "d == 4'd2"),
+        8 => ("parameter int unsigned K = -2;", "K < 0", "0);"),
+        9 => ("localparam int K = -7 / 2;", "K == -3", "1);"),
+        _ => ("parameter signed K = 4'd15;", "K < 0", "1);"),
+    }
+}
+
+#[test]
+fn types_of_constants(rt: HostRuntime) -> Result<(), Fail> {
+    let alloc = rt.alloc();
+    for number in 0..11 {
+        let (declared, property, wanted) = constant(number);
+        let text = format!(in alloc;
+            "typedef logic [3:0] nibble;\n{declared}\n\
+             r: assert property (@(posedge c) {property});\n"
+        )?;
+        let (written, told) = answer(alloc, text.as_str())?;
+        let (written, told) = (written.as_str(), told.as_str());
+        let found = written
+            .strip_prefix("r: assert property (@(posedge c) ")
+            .unwrap_or(told);
+        assert!(rt;
+            found.starts_with(wanted) || told.contains(wanted),
             "{number}: {written}{told}"
         );
     }

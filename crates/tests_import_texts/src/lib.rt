@@ -1,4 +1,4 @@
-//! Trials of what spells a team's own assertions in the profile.
+//! Tests of what spells a team's own assertions in the profile.
 //!
 //! `forms`: the text of each form of expression, by the clauses of IEEE 1800-2017 that say
 //! what it is worth and how wide it is, and which are refused, with their codes. `texts`: those

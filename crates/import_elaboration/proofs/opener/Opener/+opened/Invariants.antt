@@ -98,3 +98,9 @@ decreases-held l = l.depth
 
 abbrev pub decreases-variable : goal.decreases-variable
 decreases-variable l = l.depth
+
+abbrev pub decreases-shape : goal.decreases-shape
+decreases-shape l = l.depth
+
+abbrev pub decreases-whole_shape : goal.decreases-whole_shape
+decreases-whole_shape l = l.depth
