@@ -39,7 +39,7 @@ fault_status_of (Report reports.Memory) = 3
 fault_status_of (Code codes.Memory) = 3
 fault_status_of (Refused refusals.Memory) = 3
 fault_status_of (Words words.OutOfMemory) = 3
-fault_status_of (File path) = 4
+fault_status_of (File file) = 4
 fault_status_of Memory = 3
 fault_status_of _ = 2
 

@@ -15,6 +15,14 @@ use vcd_reader::VcdFault;
 use verdicts::ReportFault;
 use verifier::Refusal;
 
+/// A file that could not be opened, read or made.
+#[derive(Debug, Drop)]
+pub struct BadFile {
+    pub path: String,
+    /// Why, or nothing where that is not known.
+    pub why: &'static str,
+}
+
 /// Why there is no report, or no line of limits.
 #[derive(Debug, Drop)]
 pub enum Fault<'a> {
@@ -45,8 +53,8 @@ pub enum Fault<'a> {
     NotText(String),
     /// The words of the command line.
     Words(WordsFault),
-    /// The path of a file that could not be opened, read or made.
-    File(String),
+    /// A file that could not be opened, read or made.
+    File(BadFile),
     /// Memory ran out.
     Memory,
 }

@@ -23,7 +23,7 @@ mod report_totals;
 mod statuses;
 mod writing;
 
-pub use fault::Fault;
+pub use fault::{BadFile, Fault};
 pub use lines::fault_line;
 pub use statuses::status;
 pub use writing::written;

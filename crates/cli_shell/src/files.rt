@@ -1,10 +1,28 @@
 //! Files by their paths, and what is wrong with them.
 
-use cli_faults::Fault;
+use cli_faults::{BadFile, Fault};
 use std::alloc::Global;
 use std::fs::{File, Files};
 use std::io::{ErrorKind, Read};
 use std::{fs, io};
+
+/// Why a file could not be opened, read or made; nothing where that is not known.
+fn reason_of(kind: ErrorKind) -> &'static str {
+    match kind {
+        ErrorKind::NotFound => "no such file or folder",
+        ErrorKind::PermissionDenied => "no permission",
+        ErrorKind::IsADirectory => "it is a folder",
+        ErrorKind::NotADirectory => "a part of its path is no folder",
+        ErrorKind::StorageFull => "no space is left",
+        ErrorKind::QuotaExceeded => "no space is left by the quota",
+        ErrorKind::FileTooLarge => "it would be too large",
+        ErrorKind::ReadOnlyFilesystem => "it stands where nothing can be written",
+        ErrorKind::InvalidFilename => "its name is too long",
+        ErrorKind::FilesystemLoop => "its links lead round",
+        ErrorKind::BrokenPipe => "nobody reads it any more",
+        _ => "",
+    }
+}
 
 /// The fault of a file that could not be opened, read or made.
 fn file_fault(alloc: Global, path: &str, error: io::Error) -> Fault<'static> {
@@ -12,7 +30,10 @@ fn file_fault(alloc: Global, path: &str, error: io::Error) -> Fault<'static> {
         return Fault::Memory;
     }
     match String::from_str(alloc, path) {
-        Ok(path) => Fault::File(path),
+        Ok(path) => Fault::File(BadFile {
+            path,
+            why: reason_of(error.kind()),
+        }),
         Err(_) => Fault::Memory,
     }
 }

@@ -2,7 +2,7 @@
 
 use crate::files::write_bytes;
 use cli_faults::{Fault, written};
-use report_forms::{Provenance, json_report, junit_report};
+use report_forms::{Provenance, Refused, json_report, junit_report};
 use signals::Counted;
 use std::alloc::{AllocError, Global};
 use std::fs::Files;
@@ -30,11 +30,12 @@ impl FormFiles<'_> {
         &self,
         alloc: Global,
         from: &Provenance<'_>,
+        refused: &[Refused<'_>],
         report: &Report,
     ) -> Result<Vec<u8>, AllocError> {
         match self.junit {
             None => Ok(Vec::new(alloc)),
-            Some(_) => junit_report(alloc, from, report),
+            Some(_) => junit_report(alloc, from, refused, report),
         }
     }
 
@@ -43,11 +44,12 @@ impl FormFiles<'_> {
         &self,
         alloc: Global,
         from: &Provenance<'_>,
+        refused: &[Refused<'_>],
         report: &Report,
     ) -> Result<Vec<u8>, AllocError> {
         match self.json {
             None => Ok(Vec::new(alloc)),
-            Some(_) => json_report(alloc, from, report),
+            Some(_) => json_report(alloc, from, refused, report),
         }
     }
 }
@@ -64,16 +66,17 @@ fn write_form<R: Files + AllocGlobal>(
     }
 }
 
-/// Writes a report into files in other forms, which all are made before one is written, and then to
-/// standard output; answers its totals.
+/// Writes a report into files in other forms, with what is refused of its text, which all are made
+/// before one is written, and then to standard output; answers its totals.
 pub fn print_report<R: Files + Print + AllocGlobal>(
     rt: &R,
     files: &FormFiles<'_>,
     from: &Provenance<'_>,
+    refused: &[Refused<'_>],
     report: &Report,
 ) -> Result<[u64; 5], Fault<'static>> {
-    let junit = files.junit_bytes(rt.alloc(), from, report)?;
-    let json = files.json_bytes(rt.alloc(), from, report)?;
+    let junit = files.junit_bytes(rt.alloc(), from, refused, report)?;
+    let json = files.json_bytes(rt.alloc(), from, refused, report)?;
     write_form(rt, files.junit, junit.as_slice())?;
     write_form(rt, files.json, json.as_slice())?;
     let mut out = Counted::new(io::writer(rt));

@@ -4,28 +4,31 @@
 //! ```text
 //! let words = words_of(&rt)?;
 //! let request = request_of(&rt, words.as_slice())?;
+//! let refused = clash_of(&rt, &request)?;         // a file would be written over
 //! let dump = open(&rt, "top.vcd")?;
 //! let sources = read_sources(&rt, &paths, Some("ports.txt"))?;        // sources.text, its files
 //! let sources = read_chosen(&rt, &paths, None, &patterns)?;           // some assertions alone
 //! let sources = chosen_sources(alloc, sources, &patterns)?;           // of what was read
 //! let fault = moved_fault(&sources.added, fault);                     // where the files have it
 //! let status = shown_status(&rt, outcome);
-//! let totals = print_report(&rt, &files, &from, &report)?;    // files in other forms before it
+//! let totals = print_report(&rt, &files, &from, &refused, &report)?;    // other forms before it
 //! ```
 //!
-//! A file that can't be opened, read or made is the fault `File` with its path, and one that is no
-//! UTF-8 is `NotText` (N2). The line of a fault goes to standard error, and is lost where that
-//! can't be written.
+//! A file that can't be opened, read or made is the fault `File` with its path and why, and one
+//! that is no UTF-8 is `NotText` (N2). The line of a fault goes to standard error, and is lost
+//! where that can't be written. Two paths name one file where their devices and numbers there are
+//! the same, behind all links.
 //!
 //! The definitions: statuses in `cli_faults/specs/Statuses.antt`, the rules of ports in
 //! `axi4_rules`, what words ask for in `cli_words`, joined and chosen texts in `source_files`,
 //! faults of these in `specs/Moved.antt`, the other forms of a report in `report_forms`.
 //!
-//! Not promised: what a file holds, and that a line reaches anyone; these are tested
-//! (`docs/TESTED.md`).
+//! Not promised: what a file holds, which paths name one file, and that a line reaches anyone;
+//! these are tested (`docs/TESTED.md`).
 #![tactic(auto)]
 
 mod assertions_text;
+mod clashes;
 mod files;
 mod forms;
 mod moved;
@@ -34,10 +37,11 @@ mod status;
 mod words;
 
 pub use assertions_text::{Sources, chosen_sources, read_chosen, read_sources, told_paths};
+pub use clashes::clash_of;
 pub use files::{open, read_bytes, write_bytes};
 pub use forms::{FormFiles, print_report};
 pub use moved::moved_fault;
 pub use print::{print_bytes, print_rules};
-pub use report_forms::Provenance;
+pub use report_forms::{Provenance, Refused};
 pub use status::{shown_lines, shown_status};
 pub use words::{refuse_words, request_of, shown_version, words_of};

@@ -1,2 +1,3 @@
 mod CommandLaws
 mod NumberLaws
+mod PathLaws

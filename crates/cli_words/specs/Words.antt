@@ -64,10 +64,6 @@ workers_rule = number_rule (codes "workers") (codes "4") 64
 abbrev pub window_rule : Rule
 window_rule = number_rule (codes "window") (codes "1024") 65536
 
--- an assertion's name, which may be left out
-abbrev pub only_rule : Rule
-only_rule = option_rule (codes "only")
-
 -- a clock, which may be left out
 abbrev pub start_rule : Rule
 start_rule = record (option_rule (codes "start")) {
@@ -110,15 +106,15 @@ team_app name =
     (tied (many_rule (codes "define")))) (tied (flag_rule (codes "split")))
 
 -- with options for the assertions that are judged
-abbrev pub chosen_app : App
-chosen_app =
-    with_rule (with_rule (team_app (codes "check")) (many_rule (codes "only")))
+abbrev pub chosen_app : Text → App
+chosen_app name =
+    with_rule (with_rule (team_app name) (many_rule (codes "only")))
     (flag_rule (codes "keep-going"))
 
 -- with options for files into which other forms of the report are written
 abbrev pub check_app : App
 check_app =
-    let team = with_rule (with_rule chosen_app workers_rule) window_rule in
+    let team = with_rule (with_rule (chosen_app (codes "check")) workers_rule) window_rule in
     with_rule
     (with_rule (with_rule team (option_rule (codes "junit"))) (option_rule (codes "json")))
     (option_rule (codes "html"))
@@ -141,8 +137,8 @@ judge_app = text_app (codes "judge")
 
 abbrev pub explain_app : App
 explain_app =
-    let wanted = with_rule (with_rule (team_app (codes "explain")) only_rule) start_rule in
-    with_rule (with_rule wanted most_rule) (option_rule (codes "gtkw"))
+    let wanted = with_rule (with_rule (chosen_app (codes "explain")) start_rule) most_rule in
+    with_rule wanted (option_rule (codes "gtkw"))
 
 abbrev pub lint_app : App
 lint_app = team_app (codes "lint")
@@ -252,11 +248,10 @@ abbrev pub HasOutput : List Row → String Global → String Global → Type 0
 HasOutput rows name out =
     Gives (codes "name") rows (Some name) × Gives (codes "out") rows (Some out)
 
--- which attempts are explained: of which assertion, from which clock on, and how many at most
-abbrev pub HasWanted : List Row → Option (String Global) → Option ℕ → ℕ → Type 0
-HasWanted rows only start most =
-    Gives (codes "only") rows only × GivesNumber (codes "start") rows start
-    × IsNumber (codes "most") 65536 rows most
+-- which attempts are explained: those that began at a clock, if one is given, and how many at most
+abbrev pub HasWanted : List Row → Option ℕ → ℕ → Type 0
+HasWanted rows start most =
+    GivesNumber (codes "start") rows start × IsNumber (codes "most") 65536 rows most
 
 -- a dump, and which of its names are told: those with a text in them, and in a scope, if any
 abbrev pub HasNames : List Row → String Global → Option (String Global) → Option (String Global)
@@ -295,7 +290,7 @@ command_of (Build vcd sva axi name out) = codes "build"
 command_of (Verify code) = codes "verify"
 command_of (Run vcd code workers window) = codes "run"
 command_of (Judge vcd sva axi) = codes "judge"
-command_of (Explain vcd sva axi team only start most gtkw) = codes "explain"
+command_of (Explain vcd sva axi team only keep_going start most gtkw) = codes "explain"
 command_of (Lint vcd sva axi team) = codes "lint"
 command_of (Names vcd matching scope) = codes "names"
 command_of (Import team vcd) = codes "import"
@@ -314,9 +309,10 @@ IsGiven rows (Verify code) = Gives (codes "code") rows (Some code)
 IsGiven rows (Run vcd code workers window) =
     HasProgram rows vcd code × HasTeam rows workers window
 IsGiven rows (Judge vcd sva axi) = HasText rows vcd sva.items axi
-IsGiven rows (Explain vcd sva axi team only start most gtkw) =
+IsGiven rows (Explain vcd sva axi team only keep_going start most gtkw) =
     HasText rows vcd sva.items axi × HasTeamFiles (codes "sv") rows team
-    × HasWanted rows only start most × Gives (codes "gtkw") rows gtkw
+    × HasChoice rows only.items keep_going × HasWanted rows start most
+    × Gives (codes "gtkw") rows gtkw
 IsGiven rows (Lint vcd sva axi team) =
     HasText rows vcd sva.items axi × HasTeamFiles (codes "sv") rows team
 IsGiven rows (Names vcd matching scope) = HasNames rows vcd matching scope

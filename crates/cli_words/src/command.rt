@@ -9,7 +9,7 @@ ghost use Rattle.cli_words.specs.Words.{option_rule, flag_rule, many_rule, sva_r
 ghost use Rattle.cli_words.specs.Words.{text_app, check_app, build_app, verify_app, run_app};
 ghost use Rattle.cli_words.specs.Words.{judge_app, lint_app, rules_app, upgrade_app, first_app};
 ghost use Rattle.cli_words.specs.Words.{chosen_app};
-ghost use Rattle.cli_words.specs.Words.{explain_app, names_app, only_rule, start_rule, most_rule};
+ghost use Rattle.cli_words.specs.Words.{explain_app, names_app, start_rule, most_rule};
 ghost use Rattle.cli_words.specs.Words.{svamon_app, words_rule, bound_rule, scoped_app, import_app};
 
 use crate::release::VERSION;
@@ -27,6 +27,12 @@ const DEFINE: &str = "Defines a macro; may be given again and again";
 
 /// What `--split` is.
 const SPLIT: &str = "Makes two of an assertion of two properties that is too heavy";
+
+/// What `--only` is.
+const ONLY: &str = "Takes these assertions alone: * in a name is any run of characters, ? is one";
+
+/// What `--keep-going` is.
+const KEEP_GOING: &str = "Tells all that is refused as lint does, and goes on with the rest";
 
 /// What `--junit` is.
 const JUNIT: &str = "Writes the report into a file, as JUnit's XML";
@@ -206,15 +212,6 @@ fn window_option<'a>(alloc: Global) -> Arg<'a>
     within_sizes(option)
 }
 
-/// The option for the name of the one assertion that is asked for, which may be left out.
-fn only_option<'a>(alloc: Global) -> Arg<'a>
-    ensures rule { rule_of result ≡ only_rule }
-    ensures local { result.global ≡ false }
-{
-    let help = "The assertion whose failures are explained; without it, all are";
-    free_option(alloc, "only", "NAME", help)
-}
-
 /// The option for the clock at which an attempt began, which may be left out.
 fn start_option<'a>(alloc: Global) -> Arg<'a>
     ensures rule { rule_of result ≡ start_rule }
@@ -347,22 +344,24 @@ fn team_command<'a>(alloc: Global, name: &'a str, about: &'a str) -> Result<Comm
     with_tied(command, flag_option(alloc, "split", SPLIT))
 }
 
-/// `check`, with what it reads and which assertions it judges.
-fn chosen_command<'a>(alloc: Global) -> Result<Command<'a>, AllocError>
-    ensures { IfOk result (λ c. app_of c ≡ chosen_app) }
+/// A command with what it reads and which assertions it judges.
+fn chosen_command<'a>(
+    alloc: Global,
+    name: &'a str,
+    about: &'a str,
+) -> Result<Command<'a>, AllocError>
+    ensures { IfOk result (λ c. app_of c ≡ chosen_app name.entry.now) }
 {
-    let about = "Judges assertions over a dump and prints the report";
-    let only = "Judges these assertions alone: * in a name is any run of characters, ? is one";
-    let keep_going = "Tells all that is refused as lint does, and judges the rest";
-    team_command(alloc, "check", about)?
-        .arg(many_option(alloc, "only", "GLOB", only))?
-        .arg(flag_option(alloc, "keep-going", keep_going))
+    team_command(alloc, name, about)?
+        .arg(many_option(alloc, "only", "GLOB", ONLY))?
+        .arg(flag_option(alloc, "keep-going", KEEP_GOING))
 }
 
 fn check_command<'a>(alloc: Global) -> Result<Command<'a>, AllocError>
     ensures { IfOk result (λ c. app_of c ≡ check_app) }
 {
-    chosen_command(alloc)?
+    let about = "Judges assertions over a dump and prints the report";
+    chosen_command(alloc, "check", about)?
         .arg(workers_option(alloc))?
         .arg(window_option(alloc))?
         .arg(form_option(alloc, "junit", JUNIT))?
@@ -406,8 +405,7 @@ fn explain_command<'a>(alloc: Global) -> Result<Command<'a>, AllocError>
     ensures { IfOk result (λ c. app_of c ≡ explain_app) }
 {
     let about = "Explains failed attempts of assertions over a dump";
-    team_command(alloc, "explain", about)?
-        .arg(only_option(alloc))?
+    chosen_command(alloc, "explain", about)?
         .arg(start_option(alloc))?
         .arg(most_option(alloc))?
         .arg(form_option(alloc, "gtkw", GTKW))

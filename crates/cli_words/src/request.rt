@@ -72,8 +72,10 @@ pub enum Request {
         axi: Option<String>,
         /// A team's own files, which are written as the text; none of them where a text is given.
         team: TeamFiles,
-        /// The name of the one assertion that is asked for.
-        only: Option<String>,
+        /// Patterns of the names of the assertions that are asked for; none where all are.
+        only: Vec<String>,
+        /// Whether what is refused is told, and failures of the rest are explained.
+        keep_going: bool,
         /// The clock at which the one attempt that is asked for began.
         start: Option<u64>,
         /// How many attempts of each assertion are explained at most, from 1 to 65,536.

@@ -1,6 +1,5 @@
 //! Expressions as text.
 
-use crate::value_text::push_value;
 use assertions::Signal;
 use expressions::{
     Arithmetic, Change, Comparison, Connective, Expr, Name, Node, Origin, Reduction, Shift, Slice,
@@ -57,9 +56,12 @@ fn push_number(text: &mut String, bits: Bits) -> Result<(), AllocError> {
         return write!(text, "{value}");
     }
     let width = bits.width;
-    write!(text, "{width}")?;
-    text.push_str(if width <= 4 { "'d" } else { "'h" })?;
-    push_value(text, bits.value, width)
+    let value = bits.value;
+    if width <= 4 {
+        write!(text, "{width}'d{value}")
+    } else {
+        write!(text, "{width}'h{value:x}")
+    }
 }
 
 /// Adds bits of a name.

@@ -36,3 +36,4 @@ pub use asked::Attempt;
 pub use cells::{Read, RowSource};
 pub use sheet::{Sheet, SheetRow, sheet_of};
 pub use sheet_text::push_sheet;
+pub use value_text::push_value;

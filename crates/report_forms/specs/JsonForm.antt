@@ -6,6 +6,7 @@ use Rattle.verdicts.specs.declared.line.Counts.{Counts}
 use Rattle.verdicts.specs.declared.line.Failure.{Failure}
 use Rattle.verdicts.specs.Lines.{LineData, ReportData}
 use Rattle.report_forms.specs.Provenances.{ProvenanceData, time_at}
+use Rattle.report_forms.specs.Refusals.{RefusedData}
 
 -- the number of this schema
 abbrev pub schema_version : ℕ
@@ -50,12 +51,23 @@ line_json p l = object_with (
     (codes "counts", counts_json l.counts) ∷
     (codes "failures", list_of (map (failure_json p) l.fails)) ∷ [])
 
--- the whole report
-abbrev pub report_json : ProvenanceData → ReportData → Json
-report_json p r = object_with (
+-- an item that is refused
+abbrev pub refused_json : RefusedData → Json
+refused_json r = object_with (
+    (codes "place", string r.place) ∷
+    (codes "reason", string r.reason) ∷ [])
+
+-- those that are refused, if there are some
+abbrev pub refused_members : List RefusedData → List (List ℕ × Json)
+refused_members [] = []
+refused_members (r ∷ rs) = (codes "refused", list_of (map refused_json (r ∷ rs))) ∷ []
+
+-- the whole report, and what is refused
+abbrev pub report_json : ProvenanceData → List RefusedData → ReportData → Json
+report_json p rs r = object_with (
     (codes "version", number_of schema_version) ∷
     (codes "dump", string p.dump) ∷
     (codes "text", string p.text) ∷
     (codes "clocks", number_of r.clocks) ∷
     (codes "assertions", list_of (map (line_json p) r.lines)) ∷
-    (codes "total", counts_json r.total) ∷ [])
+    (codes "total", counts_json r.total) ∷ refused_members rs)

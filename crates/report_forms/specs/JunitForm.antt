@@ -1,10 +1,11 @@
 -- A report as the XML that JUnit's readers take.
-use Rattle.std.specs.Prelude.{ℕ, List, [], ◌++◌, if◌then◌else◌, codes, decimal, length, take}
+use Rattle.std.specs.Prelude.{ℕ, List, [], ◌∷◌, ◌++◌, if◌then◌else◌, codes, decimal, length, take}
 use Rattle.std.specs.Prelude.{count_by, flat_map}
 use Rattle.verdicts.specs.declared.line.Counts.{Counts}
 use Rattle.verdicts.specs.declared.line.Failure.{Failure}
 use Rattle.verdicts.specs.Lines.{LineData, ReportData}
 use Rattle.report_forms.specs.Provenances.{ProvenanceData, time_at}
+use Rattle.report_forms.specs.Refusals.{RefusedData}
 use Rattle.report_forms.specs.Outcomes.{has_failed, is_untried}
 use Rattle.report_forms.specs.Escapes.{escaped}
 
@@ -64,7 +65,28 @@ suite_text p r =
     ++ number_text (codes "\">\n<properties>\n<property name=\"clocks\" value=\"") r.clocks
     ++ codes "\"/>\n</properties>\n"
 
--- the whole document
-unfoldable pub junit_text : ProvenanceData → ReportData → List ℕ
-junit_text p r =
-    suite_text p r ++ flat_map (case_text p) r.lines ++ codes "</testsuite>\n</testsuites>\n"
+-- an item that is refused, as a case with an error
+unfoldable pub refused_text : ProvenanceData → RefusedData → List ℕ
+refused_text p r =
+    attribute (codes "<testcase name=\"") r.place ++ attribute (codes " classname=\"") p.text
+    ++ attribute (codes ">\n<error type=\"refused\" message=\"") r.reason
+    ++ codes "/>\n</testcase>\n"
+
+-- the head of a suite of so many items that are refused
+unfoldable pub refused_head : ℕ → List ℕ
+refused_head count =
+    number_text (codes "<testsuite name=\"refused\" tests=\"") count
+    ++ number_text (codes "\" failures=\"0\" errors=\"") count
+    ++ codes "\" skipped=\"0\">\n"
+
+-- a suite of those that are refused, if there are some
+abbrev pub refused_suite : ProvenanceData → List RefusedData → List ℕ
+refused_suite p [] = []
+refused_suite p (r ∷ rs) =
+    refused_head (length (r ∷ rs)) ++ flat_map (refused_text p) (r ∷ rs) ++ codes "</testsuite>\n"
+
+-- the whole document: a suite of the report, and one of what is refused
+unfoldable pub junit_text : ProvenanceData → List RefusedData → ReportData → List ℕ
+junit_text p rs r =
+    suite_text p r ++ flat_map (case_text p) r.lines ++ codes "</testsuite>\n" ++ refused_suite p rs
+    ++ codes "</testsuites>\n"

@@ -4,15 +4,18 @@ ghost use Rattle.std.specs.Prelude.{◌≡◌, ◌∷◌, ◌++◌, [], OnOk, If
 ghost use Rattle.json.specs.Json.{document};
 ghost use Rattle.json.specs.Print.{print};
 ghost use Rattle.json.specs.Token.{key, number, string};
-ghost use Rattle.json.specs.Tree.{json_tokens};
+ghost use Rattle.json.specs.Tree.{json_tokens, members_tokens};
 ghost use Rattle.verdicts.specs.Lines.{line};
 ghost use Rattle.verdicts.specs.Shown.{data_of};
 ghost use Rattle.report_forms.specs.Grown.{Adds};
 ghost use Rattle.report_forms.specs.Provenances.{provenance_of, time_at};
 ghost use Rattle.report_forms.specs.JsonForm.{counts_json, failure_json, line_json, report_json};
-ghost use Rattle.report_forms.specs.JsonForm.{list_of};
+ghost use Rattle.report_forms.specs.JsonForm.{list_of, members_with};
+ghost use Rattle.report_forms.specs.JsonForm.{refused_json, refused_members};
+ghost use Rattle.report_forms.specs.Refusals.{refused_of};
 
 use crate::provenance::Provenance;
+use crate::refused::Refused;
 use json::Writer;
 use std::alloc::{AllocError, Global};
 use verdicts::{Counts, Failure, Line, Report};
@@ -124,10 +127,54 @@ fn put_lines(out: &mut Writer, from: &Provenance<'_>, lines: &[Line]) -> Result<
     Ok(())
 }
 
-/// Adds the whole report.
-fn put_report(out: &mut Writer, from: &Provenance<'_>, report: &Report) -> Result<(), AllocError>
+/// Adds an item that is refused.
+fn put_refused(out: &mut Writer, refused: &Refused<'_>) -> Result<(), AllocError>
     ensures { OnOk result (Adds out.old out.new
-        (json_tokens (report_json (provenance_of from.now) (data_of report.now)))) }
+        (json_tokens (refused_json (refused_of refused.now)))) }
+{
+    out.begin_object()?;
+    put_text(out, "place", refused.place)?;
+    put_text(out, "reason", refused.reason)?;
+    out.end_object()?;
+    Ok(())
+}
+
+/// Adds those that are refused.
+fn put_refused_list(out: &mut Writer, refused: &[Refused<'_>]) -> Result<(), AllocError>
+    ensures { OnOk result (Adds out.old out.new
+        (json_tokens (list_of (map refused_json (map refused_of refused.now))))) }
+{
+    out.begin_array()?;
+    for item in refused {
+        put_refused(out, item)?;
+    }
+    out.end_array()?;
+    Ok(())
+}
+
+/// Ends an object; those that are refused stand before its end, if there are some.
+fn put_end(out: &mut Writer, refused: &[Refused<'_>]) -> Result<(), AllocError>
+    ensures { OnOk result (Adds out.old out.new
+        (members_tokens (members_with (refused_members (map refused_of refused.now))))) }
+{
+    if !refused.is_empty() {
+        out.key("refused")?;
+        put_refused_list(out, refused)?;
+    }
+    out.end_object()?;
+    Ok(())
+}
+
+/// Adds the whole report.
+fn put_report(
+    out: &mut Writer,
+    from: &Provenance<'_>,
+    refused: &[Refused<'_>],
+    report: &Report,
+) -> Result<(), AllocError>
+    ensures { OnOk result (Adds out.old out.new
+        (json_tokens (report_json (provenance_of from.now) (map refused_of refused.now)
+        (data_of report.now)))) }
 {
     out.begin_object()?;
     put_number(out, "version", SCHEMA_VERSION)?;
@@ -138,22 +185,26 @@ fn put_report(out: &mut Writer, from: &Provenance<'_>, report: &Report) -> Resul
     put_lines(out, from, report.lines.as_slice())?;
     out.key("total")?;
     put_counts(out, &report.total)?;
-    out.end_object()?;
+    put_end(out, refused)?;
     Ok(())
 }
 
-/// A report as JSON: one object, in one line without a line feed.
+/// A report as JSON, and items of the text that are refused: one object, in one line without a line
+/// feed.
 pub fn json_report(
     alloc: Global,
     from: &Provenance<'_>,
+    refused: &[Refused<'_>],
     report: &Report,
 ) -> Result<Vec<u8>, AllocError>
     ensures text { IfOk result (λ bytes. bytes.items
-        ≡ print (json_tokens (report_json (provenance_of from.now) (data_of report.now)))) }
+        ≡ print (json_tokens (report_json (provenance_of from.now) (map refused_of refused.now)
+        (data_of report.now)))) }
     ensures read_back { IfOk result (λ bytes. document bytes.items
-        ≡ Some (report_json (provenance_of from.now) (data_of report.now))) }
+        ≡ Some (report_json (provenance_of from.now) (map refused_of refused.now)
+        (data_of report.now))) }
 {
     let mut out = Writer::new(Vec::new(alloc));
-    put_report(&mut out, from, report)?;
+    put_report(&mut out, from, refused, report)?;
     Ok(out.into_inner())
 }

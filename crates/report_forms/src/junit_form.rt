@@ -1,7 +1,7 @@
 //! A report as the XML that JUnit's readers take.
 
 ghost use Rattle.std.specs.Prelude.{◌≡◌, ◌++◌, OnOk, IfOk, string_bytes, codes, take, length};
-ghost use Rattle.std.specs.Prelude.{count_by};
+ghost use Rattle.std.specs.Prelude.{count_by, flat_map, map};
 ghost use Rattle.verdicts.specs.Lines.{line};
 ghost use Rattle.verdicts.specs.Shown.{data_of};
 ghost use Rattle.report_forms.specs.Grown.{Grows};
@@ -9,11 +9,14 @@ ghost use Rattle.report_forms.specs.Outcomes.{has_failed, is_untried};
 ghost use Rattle.report_forms.specs.Provenances.{provenance_of};
 ghost use Rattle.report_forms.specs.JunitForm.{attribute, clock_text, attempt_text};
 ghost use Rattle.report_forms.specs.JunitForm.{failure_text, outcome_text, counts_text, case_text};
-ghost use Rattle.report_forms.specs.JunitForm.{suite_text, junit_text};
+ghost use Rattle.report_forms.specs.JunitForm.{suite_text, refused_text, refused_head};
+ghost use Rattle.report_forms.specs.JunitForm.{refused_suite, junit_text};
+ghost use Rattle.report_forms.specs.Refusals.{refused_of};
 
 use crate::escape::push_escaped;
 use crate::pieces::{push_number, push_text};
 use crate::provenance::Provenance;
+use crate::refused::Refused;
 use std::alloc::{AllocError, Global};
 use verdicts::{Counts, Failure, Line, Report};
 
@@ -191,20 +194,99 @@ fn push_suite(text: &mut String, from: &Provenance<'_>, report: &Report) -> Resu
     Ok(())
 }
 
-/// A report as a document of one test suite, with a test case for each assertion.
+/// Adds a case for each assertion.
+fn push_cases(text: &mut String, from: &Provenance<'_>, lines: &[Line]) -> Result<(), AllocError>
+    ensures { OnOk result (Grows (string_bytes text.old) (string_bytes text.new)
+        (flat_map (case_text (provenance_of from.now)) (map line lines.now))) }
+{
+    for line in lines {
+        push_case(text, from, line)?;
+    }
+    Ok(())
+}
+
+/// Adds an item that is refused.
+fn push_refused(
+    text: &mut String,
+    from: &Provenance<'_>,
+    refused: &Refused<'_>,
+) -> Result<(), AllocError>
+    ensures { OnOk result (Grows (string_bytes text.old) (string_bytes text.new)
+        (refused_text (provenance_of from.now) (refused_of refused.now))) }
+{
+    push_attribute(text, "<testcase name=\"", refused.place)?;
+    push_attribute(text, " classname=\"", from.text)?;
+    push_attribute(
+        text,
+        ">\n<error type=\"refused\" message=\"",
+        refused.reason,
+    )?;
+    push_text(text, "/>\n</testcase>\n")?;
+    Ok(())
+}
+
+/// Adds a case for each item that is refused.
+fn push_refused_cases(
+    text: &mut String,
+    from: &Provenance<'_>,
+    refused: &[Refused<'_>],
+) -> Result<(), AllocError>
+    ensures { OnOk result (Grows (string_bytes text.old) (string_bytes text.new)
+        (flat_map (refused_text (provenance_of from.now)) (map refused_of refused.now))) }
+{
+    for item in refused {
+        push_refused(text, from, item)?;
+    }
+    Ok(())
+}
+
+/// Adds the head of a suite of so many items that are refused.
+fn push_refused_head(text: &mut String, count: usize) -> Result<(), AllocError>
+    ensures { OnOk result
+        (Grows (string_bytes text.old) (string_bytes text.new) (refused_head count)) }
+{
+    let count = count as u64;
+    push_number(text, "<testsuite name=\"refused\" tests=\"", count)?;
+    push_number(text, "\" failures=\"0\" errors=\"", count)?;
+    push_text(text, "\" skipped=\"0\">\n")?;
+    Ok(())
+}
+
+/// Adds a suite of those that are refused, if there are some.
+fn push_refused_suite(
+    text: &mut String,
+    from: &Provenance<'_>,
+    refused: &[Refused<'_>],
+) -> Result<(), AllocError>
+    ensures { OnOk result (Grows (string_bytes text.old) (string_bytes text.new)
+        (refused_suite (provenance_of from.now) (map refused_of refused.now))) }
+{
+    if refused.is_empty() {
+        return push_text(text, "");
+    }
+    push_refused_head(text, refused.len())?;
+    push_refused_cases(text, from, refused)?;
+    push_text(text, "</testsuite>\n")?;
+    Ok(())
+}
+
+/// A report as a document with a test case for each assertion, and after these one with an error
+/// for each item of the text that is refused.
 pub fn junit_report(
     alloc: Global,
     from: &Provenance<'_>,
+    refused: &[Refused<'_>],
     report: &Report,
 ) -> Result<Vec<u8>, AllocError>
     ensures { IfOk result (λ bytes. bytes.items
-        ≡ junit_text (provenance_of from.now) (data_of report.now)) }
+        ≡ junit_text (provenance_of from.now) (map refused_of refused.now)
+        (data_of report.now)) }
 {
     let mut text = String::new(alloc);
     push_suite(&mut text, from, report)?;
-    for line in &report.lines {
-        push_case(&mut text, from, line)?;
-    }
-    push_text(&mut text, "</testsuite>\n</testsuites>\n")?;
+    push_cases(&mut text, from, report.lines.as_slice())?;
+    push_text(&mut text, "</testsuite>\n")?;
+    push_refused_suite(&mut text, from, refused)?;
+    push_text(&mut text, "</testsuites>\n")?;
     Ok(text.into_bytes())
 }

@@ -1,8 +1,7 @@
 //! Where the columns and rows of a picture stand.
 
-use explaining::{Sheet, SheetRow};
+use explaining::{Sheet, SheetRow, push_value};
 use std::alloc::{AllocError, Global};
-use std::fmt::Write;
 
 /// The height of a row.
 pub(crate) const ROW: usize = 26;
@@ -37,15 +36,10 @@ pub(crate) fn number_of_letters(number: u64) -> usize {
     letters
 }
 
-/// The text of a value of so many bits, as `explaining` writes it: in decimal digits up to 4 bits,
-/// else in hexadecimal ones.
+/// The text of a value of so many bits, as `explaining` writes it.
 pub(crate) fn cell_text(alloc: Global, value: u128, width: u8) -> Result<String, AllocError> {
     let mut text = String::new(alloc);
-    if width <= 4 {
-        write!(text, "{value}")?;
-    } else {
-        write!(text, "{value:x}")?;
-    }
+    push_value(&mut text, value, width)?;
     Ok(text)
 }
 

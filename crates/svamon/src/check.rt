@@ -3,12 +3,13 @@
 ghost use Rattle.vcd_reader.specs.Dump.{Contents};
 ghost use Rattle.vcd_reader.specs.Held.{HoldsContents};
 
+use crate::refused::{paths_with, refused_of};
 use crate::team::{TeamFront, read_team, status_with};
 use cli::{Fault, NoGate, PagedReport, Paths, check_all, page_over, report_over};
 use cli_lint::{Rest, rest_over};
 use cli_shell::{
-    FormFiles, Provenance, Sources, chosen_sources, moved_fault, open, print_report, read_chosen,
-    shown_lines, shown_status, told_paths, write_bytes,
+    FormFiles, Provenance, Refused, Sources, chosen_sources, moved_fault, open, print_report,
+    read_chosen, shown_lines, shown_status, told_paths, write_bytes,
 };
 use cli_words::TeamFiles;
 use cycle_window::WindowSize;
@@ -61,13 +62,15 @@ impl<'a> Asked<'a> {
 /// How many failed attempts of each assertion a page shows.
 const SHOWN: u64 = 3;
 
-/// The report on a text over a dump in memory; the page is made where it is asked for.
+/// The report on a text over a dump in memory; the page is made where it is asked for, and names
+/// what is refused of the text.
 fn paged_over<'a, R: Files + AllocGlobal + Threads + Wait + Sync>(
     rt: &R,
     dump: Dump,
     text: &'a str,
     origin: &Origin<'_>,
     asked: &Asked<'_>,
+    refused: &[Refused<'_>],
 ) -> Result<PagedReport, Fault<'a>>
     requires held { (c : Contents) × HoldsContents dump c }
 {
@@ -81,6 +84,7 @@ fn paged_over<'a, R: Files + AllocGlobal + Threads + Wait + Sync>(
         return Ok(PagedReport { timed, page });
     }
     let told = told_paths(rt.alloc(), asked.files_of_text(), asked.axi)?;
+    let told = paths_with(rt.alloc(), told.as_str(), refused)?;
     let paths = Paths {
         dump: asked.vcd,
         text: told.as_str(),
@@ -132,18 +136,19 @@ fn judge_by_team<'a, R: Files + Print + AllocGlobal + Threads + Wait + Sync, D: 
     )
 }
 
-/// Judges a text over a dump in memory by a team; the report goes to files in other forms, and to
-/// standard output.
+/// Judges a text over a dump in memory by a team; the report goes to files in other forms, with
+/// what was refused of the text before, and to standard output.
 fn judge_over<'a, R: Files + Print + AllocGlobal + Threads + Wait + Sync>(
     rt: &R,
     dump: Dump,
     text: &'a str,
     origin: &Origin<'_>,
     asked: &Asked<'_>,
+    refused: &[Refused<'_>],
 ) -> Result<[u64; 5], Fault<'a>>
     requires held { (c : Contents) × HoldsContents dump c }
 {
-    let made = paged_over(rt, dump, text, origin, asked)?;
+    let made = paged_over(rt, dump, text, origin, asked, refused)?;
     let paths = told_paths(rt.alloc(), asked.files_of_text(), asked.axi)?;
     let from = Provenance {
         dump: asked.vcd,
@@ -151,7 +156,7 @@ fn judge_over<'a, R: Files + Print + AllocGlobal + Threads + Wait + Sync>(
         times: made.timed.times.as_slice(),
     };
     write_page(rt, asked.html, made.page.as_slice())?;
-    print_report(rt, &asked.files, &from, &made.timed.report)
+    print_report(rt, &asked.files, &from, refused, &made.timed.report)
 }
 
 /// Reads a dump, and judges a text over it, as [`judge_over`] does. Windows and workers out of
@@ -168,12 +173,27 @@ fn judge_into_forms<'a, R: Files + Print + AllocGlobal + Threads + Wait + Sync, 
         return Err(Fault::BadWorkers);
     }
     let dump = read_dump(rt.alloc(), &mut Counted::new(dump))?;
-    judge_over(rt, dump, text, origin, asked)
+    judge_over(rt, dump, text, origin, asked, &[])
+}
+
+/// Judges what is left of a text over a dump in memory.
+fn judge_rest<'a, R: Files + Print + AllocGlobal + Threads + Wait + Sync>(
+    rt: &R,
+    dump: Dump,
+    text: &'a str,
+    rest: &Rest,
+    origin: &Origin<'_>,
+    asked: &Asked<'_>,
+) -> Result<[u64; 5], Fault<'a>>
+    requires held { (c : Contents) × HoldsContents dump c }
+{
+    let refused = refused_of(rt.alloc(), rest)?;
+    judge_over(rt, dump, text, origin, asked, refused.as_slice())
 }
 
 /// The status of an outcome; the line of a fault goes to standard error, with the byte that it has
 /// in the files.
-fn shown<R: Eprint + AllocGlobal>(
+pub(crate) fn shown<R: Eprint + AllocGlobal>(
     rt: &R,
     added: &[Added],
     outcome: Result<[u64; 5], Fault<'_>>,
@@ -186,7 +206,7 @@ fn shown<R: Eprint + AllocGlobal>(
 
 /// The status where some items were refused, which were told, and the rest was judged. That no
 /// assertion was left is not told: all that were there were refused.
-fn shown_after_refusals<R: Eprint + AllocGlobal>(
+pub(crate) fn shown_after_refusals<R: Eprint + AllocGlobal>(
     rt: &R,
     added: &[Added],
     outcome: Result<[u64; 5], Fault<'_>>,
@@ -211,7 +231,7 @@ fn serve_rest<R: Files + Print + Eprint + AllocGlobal + Threads + Wait + Sync>(
         return 2;
     };
     let added = origin.added;
-    let outcome = judge_over(rt, dump, text.as_str(), origin, asked);
+    let outcome = judge_rest(rt, dump, text.as_str(), rest, origin, asked);
     if rest.refused == 0 {
         return shown(rt, added, outcome);
     }

@@ -51,13 +51,17 @@ pub(crate) fn read_front<D: Read>(alloc: Global, dump: &mut D) -> Result<Vec<u8>
     Ok(bytes)
 }
 
-/// The header of what was read of a dump, or all of it where it has no end; what is wrong with it
-/// is a fault.
-pub(crate) fn header_of(alloc: Global, front: &[u8]) -> Result<&[u8], Fault<'static>> {
-    let header = match header_end(front) {
+/// The header of what was read of a dump, or all of it where it has no end.
+pub(crate) fn header_in(front: &[u8]) -> &[u8] {
+    match header_end(front) {
         Some(end) => front.get(..end).unwrap_or(front),
         None => front,
-    };
+    }
+}
+
+/// The same; what is wrong with it is a fault.
+pub(crate) fn header_of(alloc: Global, front: &[u8]) -> Result<&[u8], Fault<'static>> {
+    let header = header_in(front);
     read_dump(alloc, &mut Counted::new(header))?;
     Ok(header)
 }

@@ -10,8 +10,8 @@
 //! svamon run --vcd top.vcd --code r.svm [--workers 4] [--window 1024]
 //! svamon verify r.svm
 //! svamon upgrade r.svm --out r2.svm
-//! svamon explain --vcd top.vcd --sva rules.sva [--axi ports.txt] [--only r] [--start 9] [--most 1]
-//!     [--gtkw failures.gtkw]
+//! svamon explain --vcd top.vcd --sva rules.sva [--axi ports.txt] [--only 'req_*'] [--keep-going]
+//!     [--start 9] [--most 1] [--gtkw failures.gtkw]
 //! svamon lint --vcd top.vcd --sva rules.sva [--axi ports.txt]
 //! svamon import checks.sv [--scope tb.dut] [--bound 30] [--vcd top.vcd] [--clock tb.clk] [--split]
 //! svamon names --vcd top.vcd [--match addr] [--scope tb.dut]
@@ -19,7 +19,8 @@
 //! svamon --version
 //! ```
 //!
-//! A report goes to standard output, a fault as one line to standard error. The status is 0 where
+//! A report goes to standard output, a fault as one line to standard error, or two for a file: the
+//! second says why it can't be used. The status is 0 where
 //! no attempt failed, 1 where some did, 2 for input or words that are refused, 3 for want of
 //! memory, and 4 for a file that can't be opened, read or written.
 //!
@@ -42,6 +43,7 @@ mod dump_front;
 mod dump_header;
 mod explain;
 mod import;
+mod refused;
 mod serve;
 mod team;
 mod team_commands;

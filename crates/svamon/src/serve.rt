@@ -1,6 +1,7 @@
 //! The commands, from the words of the command line to the answer.
 
 use crate::check::{Asked, Team, serve_check};
+use crate::dump_front::{header_in, read_front};
 use crate::explain::{ExplainAsked, serve_explain};
 use crate::import::serve_import;
 use crate::team_commands::{serve_team_explain, serve_team_lint};
@@ -10,10 +11,9 @@ use cli_bytecode::{run_code, upgrade_code, verify_code};
 use cli_lint::{LintFault, PortSaid, lint_one};
 use cli_names_command::{Filter, NamesFault, names_one};
 use cli_shell::{
-    FormFiles, Sources, open, print_rules, read_bytes, read_sources, refuse_words, request_of,
-    shown_status, shown_version, words_of, write_bytes,
+    FormFiles, Sources, clash_of, open, print_rules, read_bytes, read_sources, refuse_words,
+    request_of, shown_lines, shown_status, shown_version, words_of, write_bytes,
 };
-use cli_words::overwritten;
 use signals::Counted;
 use source_files::Origin;
 use std::alloc::{AllocError, Global};
@@ -159,15 +159,20 @@ fn names_fault(fault: NamesFault) -> Fault<'static> {
     }
 }
 
-/// Tells the variables of a dump; they go to standard output. The answer is how many.
+/// Tells the variables of a dump, of which its front alone is read; they go to standard output. The
+/// answer is how many.
 fn tell_names<R: Files + Print + AllocGlobal>(
     rt: &R,
-    dump: R::File,
+    mut dump: R::File,
     filter: &Filter<'_>,
-) -> Result<u64, NamesFault> {
-    let mut dump = Counted::new(dump);
+) -> Result<u64, Fault<'static>> {
+    let front = read_front(rt.alloc(), &mut dump)?;
+    let mut header = Counted::new(header_in(front.as_slice()));
     let mut out = Counted::new(io::writer(rt));
-    names_one(rt.alloc(), &mut dump, filter, &mut out)
+    match names_one(rt.alloc(), &mut header, filter, &mut out) {
+        Ok(count) => Ok(count),
+        Err(fault) => Err(names_fault(fault)),
+    }
 }
 
 /// Opens the dump, and tells its variables: status 0 where one was told, 1 where none was.
@@ -183,7 +188,7 @@ fn serve_names<R: Files + Print + Eprint + AllocGlobal>(
     match tell_names(rt, dump, filter) {
         Ok(0) => 1,
         Ok(_) => 0,
-        Err(fault) => shown_status(rt, Err(names_fault(fault))),
+        Err(fault) => shown_status(rt, Err(fault)),
     }
 }
 
@@ -385,17 +390,20 @@ fn serve<R: Files + Print + Eprint + AllocGlobal + Threads + Wait + Sync>(
             axi,
             team,
             only,
+            keep_going,
             start,
             most,
             gtkw,
         } => {
             let wanted = Wanted {
-                only: path_of(only),
+                only: None,
                 start: *start,
                 most: *most,
             };
             let asked = ExplainAsked {
                 vcd: vcd.as_str(),
+                only: only.as_slice(),
+                keep_going: *keep_going,
                 wanted,
                 gtkw: path_of(gtkw),
             };
@@ -432,20 +440,19 @@ fn serve<R: Files + Print + Eprint + AllocGlobal + Threads + Wait + Sync>(
     }
 }
 
-/// Does what the words ask for, unless a file would be written over one that is read.
+/// Does what the words ask for, unless a file would be written over one that is read, or over
+/// another one that is written.
 fn serve_apart<R: Files + Print + Eprint + AllocGlobal + Threads + Wait + Sync>(
     rt: &R,
     request: &Request,
 ) -> u8 {
-    match overwritten(request) {
-        None => serve(rt, request),
-        Some(path) => {
-            let _ = eprintln!(rt;
-                "error: the file '{path}' is read, and would be written over\n\nFor more \
-                 information, try '--help'."
-            );
+    match clash_of(rt, request) {
+        Ok(None) => serve(rt, request),
+        Ok(Some(refusal)) => {
+            shown_lines(rt, refusal.as_str());
             2
         }
+        Err(_) => shown_status(rt, Err(Fault::Memory)),
     }
 }
 

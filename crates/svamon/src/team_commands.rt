@@ -1,9 +1,9 @@
 //! Commands that read a team's own files in place of a text.
 
-use crate::explain::{ExplainAsked, explain_text};
+use crate::explain::{ExplainAsked, explain_sources};
 use crate::serve::lint_status;
 use crate::team::{TeamFront, read_team, status_with};
-use cli_shell::{moved_fault, open, shown_status};
+use cli_shell::{chosen_sources, open, shown_status};
 use cli_words::TeamFiles;
 use std::fs::Files;
 use std::io::{Cursor, Eprint, Print, Read};
@@ -32,12 +32,12 @@ pub(crate) fn serve_team_explain<R: Files + Print + Eprint + AllocGlobal + Threa
     let Some(sources) = sources else {
         return 2;
     };
-    let dump = Cursor::new(head).chain(dump);
-    let status = match explain_text(rt, dump, &sources, asked) {
-        Ok(totals) => shown_status(rt, Ok(totals)),
-        Err(fault) => shown_status(rt, Err(moved_fault(sources.added.as_slice(), fault))),
+    let sources = match chosen_sources(rt.alloc(), sources, asked.only) {
+        Ok(sources) => sources,
+        Err(fault) => return shown_status(rt, Err(fault)),
     };
-    status_with(is_whole, status)
+    let dump = Cursor::new(head).chain(dump);
+    status_with(is_whole, explain_sources(rt, dump, &sources, asked))
 }
 
 /// Tells all refusals of what is written of a team's files, and notes, by their places there:

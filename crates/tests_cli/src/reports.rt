@@ -3,6 +3,7 @@
 
 use axi4_rules::PortFault;
 use cli::{Fault, WordsFault, check_one, judge_one, status};
+use cli_faults::BadFile;
 use cycle_window::WindowFault;
 use parser::ParseFault;
 use signals::{Counted, CutReader, CutWriter, Sink, Source};
@@ -208,6 +209,14 @@ fn lines_of_memory(rt: HostRuntime) -> Result<(), Fail> {
     Ok(())
 }
 
+/// The fault of a file.
+fn bad_file(alloc: Global, path: &str, why: &'static str) -> Result<Fault<'static>, AllocError> {
+    Ok(Fault::File(BadFile {
+        path: String::from_str(alloc, path)?,
+        why,
+    }))
+}
+
 /// The lines of faults with a name, a file or a path, of which one has a line feed.
 #[test]
 fn lines_of_names(rt: HostRuntime) -> Result<(), Fail> {
@@ -216,8 +225,11 @@ fn lines_of_names(rt: HostRuntime) -> Result<(), Fail> {
     assert!(rt; has_line(alloc, name, "svamon: N1 NoAssertion a", 2)?);
     let text = Fault::NotText(String::from_str(alloc, "f.sva")?);
     assert!(rt; has_line(alloc, text, "svamon: N2 NotText f.sva", 2)?);
-    let file = Fault::File(String::from_str(alloc, "a\nb.vcd")?);
+    let file = bad_file(alloc, "a\nb.vcd", "")?;
     assert!(rt; has_line(alloc, file, "svamon: file a\\nb.vcd", 4)?);
+    let missing = bad_file(alloc, "a.vcd", "no such file or folder")?;
+    let lines = "svamon: file a.vcd\n  no such file or folder";
+    assert!(rt; has_line(alloc, missing, lines, 4)?);
     let signal = Fault::Window(WindowFault::NoSignal(String::from_str(alloc, "top.a")?));
     assert!(rt; has_line(alloc, signal, "svamon: C4 NoSignal top.a", 2)?);
     let width = Fault::Window(WindowFault::SignalWidth(String::from_str(alloc, "top.a")?));

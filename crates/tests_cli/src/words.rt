@@ -1,7 +1,7 @@
 //! The words of commands, read and refused.
 
 use cli::{Fault, Request, WordsFault, read_words, status};
-use cli_words::{TeamFiles, overwritten};
+use cli_words::{TeamFiles, overwritten, written_twice};
 use std::alloc::{AllocError, Global};
 use std::test::Fail;
 
@@ -129,15 +129,16 @@ fn line_of(alloc: Global, request: &Request) -> Result<String, AllocError> {
             axi,
             team,
             only,
+            keep_going,
             start,
             most,
             gtkw,
         } => {
             let texts = texts_of(alloc, vcd.as_str(), sva.as_slice(), axi)?;
+            let only = listed(alloc, only.as_slice())?;
             let team = team_of(alloc, team)?;
             format!(in alloc;
-                "explain {texts}{team} {} {} {} {most} {}",
-                file_or_none(only),
+                "explain {texts}{team} {only} {keep_going} {} {} {most} {}",
                 start.is_some(),
                 start.unwrap_or(0),
                 file_or_none(gtkw)
@@ -233,18 +234,22 @@ fn words_are_read(rt: HostRuntime) -> Result<(), Fail> {
         ("svamon upgrade a.svm --out b.svm", "upgrade a.svm b.svm"),
         (
             "svamon explain --vcd a --sva b",
-            "explain a b none none false 0 1 none",
+            "explain a b none  false false 0 1 none",
         ),
         (
             "svamon explain --vcd a --sva b --axi p --only r --start 0 --most 7",
-            "explain a b p r true 0 7 none",
+            "explain a b p r false true 0 7 none",
+        ),
+        (
+            "svamon explain --only r* --vcd a --keep-going --sva b --only ?s",
+            "explain a b none r*,?s true false 0 1 none",
         ),
         ("svamon lint --vcd a --sva b --axi p", "lint a b p"),
         ("svamon lint --vcd a", "refused 2 true"),
         ("svamon explain --vcd a --sva b --start x", "refused 2 true"),
         (
             "svamon explain --vcd a --sva b --gtkw g",
-            "explain a b none none false 0 1 g",
+            "explain a b none  false false 0 1 g",
         ),
         ("svamon explain --vcd a --sva b --most 0", "refused 2 true"),
         ("svamon check --vcd a --sva b --window 0", "refused 2 true"),
@@ -278,7 +283,7 @@ fn words_of_a_team_are_read(rt: HostRuntime) -> Result<(), Fail> {
         ),
         (
             "svamon explain --vcd v --sv a --start 3 --bound 127",
-            "explain v  none a none 127 none  false none true 3 1 none",
+            "explain v  none a none 127 none  false  false true 3 1 none",
         ),
         (
             "svamon lint --scope t --vcd v --sv a",
@@ -299,14 +304,19 @@ fn words_of_a_team_are_read(rt: HostRuntime) -> Result<(), Fail> {
     Ok(())
 }
 
-/// The path that would be written over, by words with one space between.
+/// The path of a file that is read and would be written over, or would be written twice, by words
+/// with one space between.
 fn clash(alloc: Global, line: &str) -> Result<String, AllocError> {
     let mut words = Vec::new(alloc);
     for word in line.split(' ') {
         words.push(word)?;
     }
     match read_words(alloc, words.as_slice()) {
-        Ok(request) => String::from_str(alloc, overwritten(&request).unwrap_or("none")),
+        Ok(request) => {
+            let read = overwritten(alloc, &request)?.unwrap_or("none");
+            let twice = written_twice(alloc, &request)?.unwrap_or("none");
+            format!(in alloc; "{read} {twice}")
+        }
         Err(_) => String::from_str(alloc, "refused"),
     }
 }
@@ -314,14 +324,40 @@ fn clash(alloc: Global, line: &str) -> Result<String, AllocError> {
 #[test]
 fn inputs_are_kept(rt: HostRuntime) -> Result<(), Fail> {
     for (words, wanted) in [
-        ("svamon check --vcd a --sva b --json c", "none"),
-        ("svamon check --vcd a --sva b --json a", "a"),
-        ("svamon check --vcd a --sva c --sva b --html b", "b"),
-        ("svamon check --vcd a --axi p --junit p", "p"),
-        ("svamon check --vcd a --sv b --junit b", "b"),
-        ("svamon explain --vcd a --sva b --gtkw c", "none"),
-        ("svamon explain --vcd a --sva b --gtkw a", "a"),
-        ("svamon lint --vcd a --sva a", "none"),
+        ("svamon check --vcd a --sva b --json c", "none none"),
+        ("svamon check --vcd a --sva b --json a", "a none"),
+        ("svamon check --vcd a --sva c --sva b --html b", "b none"),
+        ("svamon check --vcd a --axi p --junit p", "p none"),
+        ("svamon check --vcd a --sv b --junit b", "b none"),
+        ("svamon check --vcd a --sva b --json ./a", "./a none"),
+        (
+            "svamon check --vcd d/a --sva b --json d//./a",
+            "d//./a none",
+        ),
+        ("svamon check --vcd a --sva b --json d/../a", "d/../a none"),
+        ("svamon check --vcd ../a --sva b --json ../a", "../a none"),
+        ("svamon check --vcd a --sva b --json ../a", "none none"),
+        (
+            "svamon check --vcd ../../a --sva b --json ../a",
+            "none none",
+        ),
+        ("svamon check --vcd /a --sva b --json a", "none none"),
+        ("svamon check --vcd /a --sva b --json /../a", "/../a none"),
+        ("svamon check --vcd d/a --sva b --json a", "none none"),
+        ("svamon check --vcd a --sva b --json c --html ./c", "none c"),
+        (
+            "svamon check --vcd a --sva b --json c --html d --junit d",
+            "none d",
+        ),
+        ("svamon explain --vcd a --sva b --gtkw c", "none none"),
+        ("svamon explain --vcd a --sva b --gtkw a", "a none"),
+        (
+            "svamon build --vcd a --sva b --name n --out ./b",
+            "./b none",
+        ),
+        ("svamon build --vcd a --sva b --name n --out c", "none none"),
+        ("svamon upgrade a --out a", "none none"),
+        ("svamon lint --vcd a --sva a", "none none"),
     ] {
         assert!(rt; clash(rt.alloc(), words)?.as_str() == wanted, "{words}");
     }

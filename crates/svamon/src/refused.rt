@@ -1,0 +1,48 @@
+//! What is refused of a text, item by item, for reports in other forms.
+
+use cli_lint::Rest;
+use cli_shell::Refused;
+use std::alloc::{AllocError, Global};
+
+/// How many lines tell of each: where it stands and why, that line of the text, and a caret.
+const LINES: usize = 3;
+
+/// A refusal, by the first of its lines.
+fn refused_in(line: &str) -> Refused<'_> {
+    match line.split_once(": ") {
+        Some((place, reason)) => Refused { place, reason },
+        None => Refused {
+            place: line,
+            reason: "",
+        },
+    }
+}
+
+/// What is refused of a text, in the order in which it is told.
+pub(crate) fn refused_of(alloc: Global, rest: &Rest) -> Result<Vec<Refused<'_>>, AllocError> {
+    let mut refused = Vec::new(alloc);
+    for (place, line) in rest.told.as_str().lines().enumerate() {
+        if place % LINES == 0 && place / LINES < rest.refused {
+            refused.push(refused_in(line))?;
+        }
+    }
+    Ok(refused)
+}
+
+/// The paths of a text, and what is refused of it, if something is.
+pub(crate) fn paths_with(
+    alloc: Global,
+    paths: &str,
+    refused: &[Refused<'_>],
+) -> Result<String, AllocError> {
+    let mut told = String::from_str(alloc, paths)?;
+    let mut word = "; refused: ";
+    for item in refused {
+        told.push_str(word)?;
+        told.push_str(item.place)?;
+        told.push_str(" ")?;
+        told.push_str(item.reason)?;
+        word = " | ";
+    }
+    Ok(told)
+}
