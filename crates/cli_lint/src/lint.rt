@@ -14,7 +14,7 @@ use crate::refusals::text_of;
 use diagnostics::{Linted, Refusal};
 use lint_dump_notes::{Beside, told_notes};
 use lint_messages::{Meant, Unnamed, names_of, unnamed_in};
-use lint_notes::PortSaid;
+use lint_notes::{PortSaid, Turned, turned_names};
 use lint_refusals::lint_over;
 use signals::{Counted, ReadAllError, Sink, Source, read_all, write_all};
 use source_files::Origin;
@@ -53,6 +53,8 @@ pub fn rest_over<'a>(
         dump,
         names: names.as_slice(),
         unnamed: &[],
+        turned: &[],
+        knows_ranges: false,
         origin: *origin,
     };
     let mut told = lint_over(alloc, &meant, text)?;
@@ -65,24 +67,43 @@ pub fn rest_over<'a>(
     })
 }
 
+/// What the declarations of a dump say beside paths and widths.
+#[derive(Drop)]
+struct Declared {
+    /// What no rule can name.
+    unnamed: Vec<Unnamed>,
+    /// Names whose declared range isn't counted from 0 at the right.
+    turned: Vec<Turned>,
+}
+
+/// What the declarations of the dump say that bytes are.
+fn declared_in(alloc: Global, bytes: &[u8]) -> Result<Declared, AllocError> {
+    let unnamed = unnamed_in(alloc, bytes)?;
+    let turned = turned_names(alloc, bytes)?;
+    Ok(Declared { unnamed, turned })
+}
+
 /// The same, with notes on what is left.
 fn noted_over<'a>(
     alloc: Global,
     dump: Dump,
     text: &'a str,
     origin: &Origin<'a>,
-    unnamed: &'a [Unnamed],
+    declared: Declared,
     beside: &Beside<'_, '_>,
 ) -> Result<Rest, AllocError>
     ensures { IfOk result (λ r. (notes : List Refusal)
         × TellsRefusals (variables_of dump) text.now origin.now.parts.now origin.now.added.now
         notes r.refused (string_bytes r.told) r.text) }
 {
+    let Declared { unnamed, turned } = declared;
     let names = names_of(alloc, &dump, text)?;
     let meant = Meant {
         dump: &dump,
         names: names.as_slice(),
-        unnamed,
+        unnamed: unnamed.as_slice(),
+        turned: turned.as_slice(),
+        knows_ranges: true,
         origin: *origin,
     };
     let mut told = lint_over(alloc, &meant, text)?;
@@ -155,9 +176,9 @@ fn told_over<'a>(
         r.refused (string_bytes r.told) r.text) }
 {
     let dump = dump_of(alloc, bytes)?;
-    let unnamed = unnamed_in(alloc, bytes)?;
+    let declared = declared_in(alloc, bytes)?;
     let beside = Beside { bytes, ports };
-    let rest = noted_over(alloc, dump, text, origin, unnamed.as_slice(), &beside)?;
+    let rest = noted_over(alloc, dump, text, origin, declared, &beside)?;
     Ok(rest)
 }
 

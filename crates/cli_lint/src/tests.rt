@@ -131,8 +131,8 @@ fn why_names_are_refused(rt: HostRuntime) -> Result<(), Fail> {
                   r.sva:2:39: Y1 UnknownName tb.done; it is an event, without a value: \
                   turn a reg over where it is triggered; and tb.wide; it has over 128 bits: \
                   name parts of it by wires in the bench\n\
-                  r.sva:3:39: Y4 SliceRange; tb.addr has 30 bits, [29:0], \
-                  and [31:2] asks for others; bits are counted from 0 at the right, \
+                  r.sva:3:39: Y4 SliceRange; tb.addr is declared [31:2]: write tb.addr[29:0] \
+                  for its [31:2]; bits are counted from 0 at the right, \
                   whatever range is declared\n\
                   r.sva:4:50: Y1 UnknownName tb.gn; did you mean tb.gnt?; and tb.ad\n";
     assert!(rt; heads_over(rt.alloc(), ODD, text, &[])?.as_str() == wanted);
@@ -149,8 +149,8 @@ fn what_is_meant_is_told(rt: HostRuntime) -> Result<(), Fail> {
                   r.sva:2:58: P1 Expected ); is a ) missing before it?\n\
                   r.sva:3:39: P2 OutsideProfile not; write a && !b for not (a |-> b), \
                   a ##1 !b for not (a |=> b), and S |-> 0 for not (S)\n\
-                  r.sva:4:39: Y9 TooWide; weighs 129, at most 127; make it two assertions, \
-                  as S and T, or A or B before the arrow; or count in a counter\n";
+                  r.sva:4:39: Y9 TooWide; weighs 129, at most 127; shorten its ranges, \
+                  or count in a counter\n";
     assert!(rt; heads_over(rt.alloc(), DUMP, text, &[])?.as_str() == wanted);
     Ok(())
 }

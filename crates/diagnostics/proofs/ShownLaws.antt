@@ -1,5 +1,5 @@
 -- What is shown of a line, character by character.
-use Rattle.std.proofs.Common.{◌≡◌, ℕ, zero, suc, List, [], ◌∷◌, ◌++◌, take, drop, map, refl, ap, ◌∙◌}
+use Rattle.std.proofs.Common.{◌≡◌, ℕ, zero, suc, List, [], ◌++◌, take, drop, map, refl, ap, ◌∙◌}
 use Rattle.std.specs.Prelude.{encode_utf8_all, IsUtf8, encode_utf8}
 use Rattle.std.specs.Str.{chars}
 use Rattle.std.proofs.lemmas.Str.{chars_past_char, chars-nil}

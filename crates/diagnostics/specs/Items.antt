@@ -1,7 +1,9 @@
--- How the tokens of a text are cut into items, each where the grammar ends it.
+-- How the tokens of a text are cut into items, each where the grammar ends it, or where another
+-- one begins.
 use Rattle.std.specs.Prelude.{◌≡◌, ℕ, ◌+◌, ◌-◌, [], ◌∷◌, List, Bool, true, false, length, min, map}
 use Rattle.std.specs.Prelude.{drop, codes, if◌then◌else◌, nat_le, slice_get, Ok}
 use Rattle.std.specs.Prelude.{slice_index, slice_index_or, ◌==◌, unwrap_or, option_map}
+use Rattle.std.specs.Prelude.{◌&&◌, ◌||◌, not}
 use Rattle.std.specs.List.{list_any, prefix_len}
 use Rattle.std.specs.Str.{bytes_eq}
 use Rattle.lexer.specs.declared.token.Token.{Token}
@@ -27,15 +29,51 @@ ends =
     codes ";" ∷ codes "endsequence" ∷ codes "endproperty" ∷ codes "endclocking"
     ∷ codes "endmodule" ∷ codes "end" ∷ []
 
--- how many tokens there are up to the first that is one of some words, which counts
+-- what begins an item, maybe after a label
+abbrev pub starts : List (List ℕ)
+starts =
+    codes "assert" ∷ codes "assume" ∷ codes "cover" ∷ codes "restrict" ∷ codes "sequence" ∷ []
+
+-- what stands after a label
+abbrev pub colon : List (List ℕ)
+colon = codes ":" ∷ []
+
+-- what an item goes on after, whatever follows: a label's colon, a path's dot, a dash in a label, a
+-- bracket, and words that stand before `sequence`
+abbrev pub joints : List (List ℕ)
+joints =
+    codes ":" ∷ codes "." ∷ codes "-" ∷ codes "(" ∷ codes "assert" ∷ codes "assume"
+    ∷ codes "cover" ∷ []
+
+-- whether the word that begins an item stands first
+abbrev pub is_start : List Token → Bool
+is_start [] = false
+is_start (t ∷ ts) = is_one starts t
+
+-- whether it stands after a colon
+abbrev pub is_labelled : List Token → Bool
+is_labelled [] = false
+is_labelled (t ∷ ts) = is_one colon t && is_start ts
+
+-- whether an item begins there, with its label or with its word
+abbrev pub begins : List Token → Bool
+begins [] = false
+begins (t ∷ ts) = is_one starts t || is_labelled ts
+
+-- whether an item ends after a token: it is one of some words, or another item begins after it, and
+-- no token joins them
+abbrev pub ends_after : List (List ℕ) → Token → List Token → Bool
+ends_after words t ts = is_one words t || (begins ts && not (is_one joints t))
+
+-- how many tokens there are up to the first after which an item ends, which counts
 abbrev pub through : List (List ℕ) → List Token → ℕ
 through words [] = 0
-through words (t ∷ ts) = if is_one words t then 1 else 1 + through words ts
+through words (t ∷ ts) = if ends_after words t ts then 1 else 1 + through words ts
 
 -- how many tokens a name after a colon has, if one stands first
 abbrev pub closing_name : List Token → ℕ
 closing_name [] = 0
-closing_name (t ∷ ts) = if is_one (codes ":" ∷ []) t then 1 + min 1 (length ts) else 0
+closing_name (t ∷ ts) = if is_one colon t then 1 + min 1 (length ts) else 0
 
 -- how many tokens a named sequence or a property declaration has
 abbrev pub block_length : List Token → ℕ

@@ -1,5 +1,5 @@
 -- Words that close nothing: `endmodule` and its kin, where no item of the profile was opened.
-use Rattle.std.specs.Prelude.{ℕ, ◌-◌, ◌==◌, List, ◌∷◌, length, Bool, codes, nat_lt, not, ◌&&◌}
+use Rattle.std.specs.Prelude.{ℕ, ◌-◌, ◌==◌, List, length, Bool, codes, nat_lt, not, ◌&&◌}
 use Rattle.std.specs.Prelude.{◌||◌, slice_index}
 use Rattle.std.specs.Char.{is_ascii_alphanumeric}
 use Rattle.diagnostics.specs.Hints.{stands_before}

@@ -11,7 +11,7 @@ pub type Hint = (&'static str, &'static str);
 pub const WORDS: [Hint; 30] = [
     (
         "within",
-        "write (1[*0:20] ##1 R ##1 1[*0:20]) intersect S for R within S",
+        "for S of 3 clocks write (1[*0:2] ##1 R ##1 1[*0:2]) intersect S, of 4 1[*0:3], and so on",
     ),
     ("first_match", "write it round a whole antecedent alone"),
     (
@@ -39,15 +39,21 @@ pub const WORDS: [Hint; 30] = [
         "always",
         "leave it out in front; write a[*4] for always [0:3] a, or count in a counter",
     ),
-    ("nexttime", "write ##1 S"),
-    ("eventually", "write ##[0:60] S, or count in a counter"),
+    ("nexttime", "write ##1 S, and ##2 S for nexttime [2] S"),
+    (
+        "eventually",
+        "write ##[1:4] S for eventually [1:4] S, ##[0:60] S without a range, or use a counter",
+    ),
     (
         "until",
         "write a[*0:60] ##1 b for a until b, or count in a counter",
     ),
     ("s_always", "write a[*60] for as many clocks as are meant"),
-    ("s_nexttime", "write ##1 S"),
-    ("s_eventually", "write ##[0:60] S, or count in a counter"),
+    ("s_nexttime", "write ##1 S, and ##2 S for s_nexttime [2] S"),
+    (
+        "s_eventually",
+        "write ##[0:60] S, ##[1:4] S for s_eventually [1:4] S, or count in a counter",
+    ),
     (
         "s_until",
         "write a[*0:60] ##1 b for a s_until b, or count in a counter",
@@ -88,7 +94,10 @@ pub const WORDS: [Hint; 30] = [
         "negedge",
         "name a clock that is turned round in the bench: wire nclk = ~clk;",
     ),
-    ("edge", "write posedge"),
+    (
+        "edge",
+        "posedge alone is half of those clocks: make a clock in the bench that rises at each",
+    ),
     (
         "local",
         "leave it out: $past(a, n) is for what was sampled before",
@@ -96,7 +105,7 @@ pub const WORDS: [Hint; 30] = [
 ];
 
 /// Symbols and system names that the profile leaves out.
-pub const SIGNS: [Hint; 15] = [
+pub const SIGNS: [Hint; 22] = [
     (
         "*",
         "name the product by a wire in the bench, or write a sum or a shift",
@@ -116,6 +125,22 @@ pub const SIGNS: [Hint; 15] = [
     (
         "$countones",
         "write $onehot(v) for == 1, $onehot0(v) for <= 1, else a sum: 0 + v[0] + v[1]",
+    ),
+    (
+        "$countbits",
+        "write $onehot(v) for == 1, $onehot0(v) for <= 1, else a sum: 0 + v[0] + v[1]",
+    ),
+    (
+        "$signed",
+        "leave it out: all values are unsigned; v[7] is the sign of 8 bits",
+    ),
+    ("$unsigned", "leave it out: all values are unsigned"),
+    ("$bits", "write the number of bits, as 8"),
+    ("$clog2", "write the number, as 3 for $clog2(8)"),
+    ("$time", "count clocks in a counter: a rule has no time"),
+    (
+        "$assertoff",
+        "leave it out: disable iff says when a rule is off",
     ),
     ("$isunknown", "leave it out: x and z are 0"),
     ("$rise", "write $rose(a)"),
@@ -142,19 +167,26 @@ pub const SIGNS: [Hint; 15] = [
 ];
 
 /// Codes of faults that say what may stand there.
-pub const CODES: [Hint; 15] = [
+pub const CODES: [Hint; 16] = [
     (
         "L2",
         "digits are those of the base, without x, z and ?, and a size is from 1 to 128",
     ),
-    ("L3", "the comment has no end"),
+    (
+        "L3",
+        "the comment has no end, so all that follows is refused with it",
+    ),
     (
         "P3",
         "at most 64 brackets and unfinished operators are open at once",
     ),
     (
+        "L2 of a plain number",
+        "it is 2^32 or more: write a size, as 40'd5000000000",
+    ),
+    (
         "P4",
-        "a bound is a plain decimal from 0 to 127, and the lower one stands first",
+        "a bound is a decimal from 0 to 127, the lower one first; ##[1:126] b weighs 127, the most",
     ),
     (
         "P4 of $past",

@@ -5,9 +5,10 @@ ghost use Rattle.std.specs.List.{list_any};
 ghost use Rattle.std.specs.Str.{bytes_eq};
 ghost use Rattle.diagnostics.specs.Items.{through, closing_name, block_length, item_length, end_of};
 ghost use Rattle.diagnostics.specs.Items.{item_end, is_over, AreEnds, AreItemEnds, item_at};
+ghost use Rattle.diagnostics.specs.Items.{is_start, is_labelled, begins, ends_after};
 ghost use Rattle.lexer.specs.Cutting.{tokens_of};
 
-use crate::lexable::lexable;
+use crate::lexable::ends_beside;
 use lexer::{Kind, LexFault, Token, lex};
 use std::alloc::{AllocError, Global};
 
@@ -27,6 +28,16 @@ const ENDS: [&str; 6] = [
     "end",
 ];
 
+/// What begins an item, maybe after a label.
+const STARTS: [&str; 5] = ["assert", "assume", "cover", "restrict", "sequence"];
+
+/// What stands after a label.
+const COLON: [&str; 1] = [":"];
+
+/// What an item goes on after, whatever follows: a label's colon, a path's dot, a dash in a label,
+/// a bracket, and words that stand before `sequence`.
+const JOINTS: [&str; 7] = [":", ".", "-", "(", "assert", "assume", "cover"];
+
 /// Whether a text is one of some words.
 fn is_among(words: &[&str], text: &str) -> bool
     ensures { result ≡ list_any (bytes_eq text.now) (map (λ word. word.now) words.now) }
@@ -39,14 +50,52 @@ fn is_among(words: &[&str], text: &str) -> bool
     false
 }
 
-/// How many tokens there are up to the first that is one of some words, which counts.
+/// Whether the word that begins an item stands first.
+fn is_start(tokens: &[Token]) -> bool
+    ensures { result ≡ is_start tokens.now }
+{
+    match tokens {
+        [] => false,
+        [first, ..] => is_among(&STARTS, first.text),
+    }
+}
+
+/// Whether it stands after a colon.
+fn is_labelled(tokens: &[Token]) -> bool
+    ensures { result ≡ is_labelled tokens.now }
+{
+    match tokens {
+        [] => false,
+        [first, rest @ ..] => is_among(&COLON, first.text) && is_start(rest),
+    }
+}
+
+/// Whether an item begins there, with its label or with its word.
+fn begins(tokens: &[Token]) -> bool
+    ensures { result ≡ begins tokens.now }
+{
+    match tokens {
+        [] => false,
+        [first, rest @ ..] => is_among(&STARTS, first.text) || is_labelled(rest),
+    }
+}
+
+/// Whether an item ends after a token: it is one of some words, or another item begins after it,
+/// and no token joins them.
+fn ends_after(words: &[&str], token: &Token, rest: &[Token]) -> bool
+    ensures { result ≡ ends_after (map (λ word. word.now) words.now) token.now rest.now }
+{
+    is_among(words, token.text) || begins(rest) && !is_among(&JOINTS, token.text)
+}
+
+/// How many tokens there are up to the first after which an item ends, which counts.
 fn through(words: &[&str], tokens: &[Token]) -> usize
     ensures count { result ≡ through (map (λ word. word.now) words.now) tokens.now }
     ensures high { result ≤ length tokens.now }
     ensures low { 0 < length tokens.now → 0 < result }
 {
     for (place, token) in tokens.iter().enumerate() {
-        if is_among(words, token.text) {
+        if ends_after(words, token, &tokens[place + 1..]) {
             return place + 1;
         }
     }
@@ -61,7 +110,7 @@ fn closing_name(tokens: &[Token]) -> usize
     let [first, rest @ ..] = tokens else {
         return 0;
     };
-    if !is_among(&[":"], first.text) {
+    if !is_among(&COLON, first.text) {
         return 0;
     }
     rest.len().min(1) + 1
@@ -120,7 +169,11 @@ fn is_over(tokens: &[Token]) -> bool
 }
 
 /// The bytes after the items of tokens.
-fn ends_in(alloc: Global, size: usize, tokens: &[Token]) -> Result<Vec<usize>, AllocError>
+pub(crate) fn ends_in(
+    alloc: Global,
+    size: usize,
+    tokens: &[Token],
+) -> Result<Vec<usize>, AllocError>
     ensures { IfOk result (λ ends. AreEnds size tokens.now ends.items) }
 {
     let mut ends = Vec::new(alloc);
@@ -133,18 +186,18 @@ fn ends_in(alloc: Global, size: usize, tokens: &[Token]) -> Result<Vec<usize>, A
 }
 
 /// The bytes after the items of a text, in its order: an item ends with `;`, or with the word that
-/// ends what its first word opens. After the last of them only what is no token stands.
+/// ends what its first word opens, or before another one begins. After the last of them only
+/// what is no token stands.
 ///
-/// What no token begins with is passed over.
+/// What no token begins with is passed over; a line of a macro that stands between items is one.
 pub fn item_ends(alloc: Global, text: &str) -> Result<Vec<usize>, AllocError>
     ensures { IsOk (tokens_of text.now)
         → IfOk result (λ ends. AreItemEnds text.now ends.items) }
 {
-    let text = lexable(alloc, text)?;
-    match lex(alloc, text.as_str()) {
+    match lex(alloc, text) {
         Ok(tokens) => ends_in(alloc, text.len(), tokens.as_slice()),
         Err(LexFault::Memory) => Err(AllocError),
-        Err(_) => Ok(Vec::new(alloc)),
+        Err(_) => ends_beside(alloc, text),
     }
 }
 

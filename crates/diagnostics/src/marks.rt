@@ -8,7 +8,7 @@ ghost use Rattle.diagnostics.specs.Hints.{stands_before};
 pub type Mark = (&'static str, usize, &'static str);
 
 /// Marks by which items go wrong.
-pub const MARKS: [Mark; 46] = [
+pub const MARKS: [Mark; 49] = [
     ("===", 2, "write ==: x and z are 0"),
     ("!==", 2, "write !=: x and z are 0"),
     (
@@ -28,6 +28,9 @@ pub const MARKS: [Mark; 46] = [
     ("##[", 3, "a bound is a number, not a name"),
     ("#-#", 0, "write ##0 for #-#, as in A ##0 S"),
     ("#=#", 0, "write ##1 for #=#, as in A ##1 S"),
+    ("][->", 1, "write !a[*0:20] ##1 a for a[->1]"),
+    ("][=", 1, "write !a[*0:20] ##1 a ##1 !a[*0:20] for a[=1]"),
+    ("][+", 1, "write [*1:20]"),
     ("[->", 1, "write !a[*0:20] ##1 a for a[->1]"),
     ("[=", 1, "write !a[*0:20] ##1 a ##1 !a[*0:20] for a[=1]"),
     ("[*]", 2, "write [*0:20]"),

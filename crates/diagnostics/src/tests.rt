@@ -74,7 +74,8 @@ fn names_are_near(rt: HostRuntime) -> Result<(), Fail> {
 
 #[test]
 fn hints(rt: HostRuntime) -> Result<(), Fail> {
-    assert!(rt; hint_beside("nexttime", &WORDS) == Some("write ##1 S"));
+    let later = "write ##1 S, and ##2 S for nexttime [2] S";
+    assert!(rt; hint_beside("nexttime", &WORDS) == Some(later));
     assert!(rt; hint_beside("next", &WORDS).is_none());
     assert!(rt; hint_beside("%", &SIGNS).is_some());
     assert!(rt; hint_beside("Y3", &CODES) == Some("a concatenation has at most 128 bits"));
@@ -105,6 +106,11 @@ fn items_end(rt: HostRuntime) -> Result<(), Fail> {
     );
     assert!(rt; are_ends(alloc, "a \"x; y\"; b", &[9, 11])?);
     assert!(rt; are_ends(alloc, "x = 4'bx; \\a;b ; c;", &[9, 16, 19])?);
+    assert!(rt; are_ends(alloc, "a: assert b\nc: assume d;", &[11, 24])?);
+    assert!(rt; are_ends(alloc, "sequence s; a assert b;", &[13, 23])?);
+    assert!(rt; are_ends(alloc, "a.assert b;", &[11])?);
+    assert!(rt; are_ends(alloc, "`x a: b;\nc;", &[8, 11])?);
+    assert!(rt; are_ends(alloc, "a `x;\nb;", &[5, 8])?);
     Ok(())
 }
 

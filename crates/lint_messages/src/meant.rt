@@ -1,6 +1,7 @@
 //! What the names of a text may mean, and where it comes from.
 
 use crate::unnamed::Unnamed;
+use lint_notes::Turned;
 use source_files::Origin;
 use vcd_reader::Dump;
 
@@ -12,5 +13,9 @@ pub struct Meant<'d> {
     pub names: &'d [String],
     /// The variables of the dump that no rule can name, as far as they are known.
     pub unnamed: &'d [Unnamed],
+    /// The names whose declared range isn't `[n:0]`, as far as they are known.
+    pub turned: &'d [Turned],
+    /// Whether they are known.
+    pub knows_ranges: bool,
     pub origin: Origin<'d>,
 }

@@ -5,12 +5,15 @@ ghost use Rattle.parser_grammar.specs.Views.{items_of};
 ghost use Rattle.lint_suites.specs.Suites.{clock_byte};
 ghost use Rattle.lint_messages.specs.Bytes.{byte_of_lex, byte_of_parse, byte_of_type};
 
+use crate::comments::without_comments;
 use crate::doubles::told_double;
+use crate::item_words::head_hint;
 use crate::meant::Meant;
 use crate::paths::{is_listed, path_at, push_others, told_path};
 use crate::selects::told_select;
-use crate::token_hints::{bound_code, mark_hint, not_hint, token_hint};
-use crate::weights::side_weight;
+use crate::token_hints::{bound_code, mark_hint, not_hint, number_code, path_hint, token_hint};
+use crate::wanted::wanted_at;
+use crate::weights::told_weight;
 use compiler::CompileFault;
 use diagnostics::{CODES, MARKS, Refusal, SIGNS, WORDS, hint_at, hint_beside};
 use lexer::LexFault;
@@ -51,7 +54,7 @@ pub fn lex_refusal(alloc: Global, text: &str, fault: LexFault) -> Result<Refusal
         LexFault::BadCharacter(at) => {
             refusal_at(alloc, at, "L1 BadCharacter", hint_beside_token(text, at))
         }
-        LexFault::BadNumber(at) => coded(alloc, at, "L2", "L2 BadNumber"),
+        LexFault::BadNumber(at) => coded(alloc, at, number_code(text, at), "L2 BadNumber"),
         LexFault::UnclosedComment(at) => coded(alloc, at, "L3", "L3 UnclosedComment"),
         LexFault::Memory => Err(AllocError),
     }
@@ -75,16 +78,34 @@ fn bad_bound(alloc: Global, text: &str, at: usize) -> Result<Refusal, AllocError
     coded(alloc, at, bound_code(text, at), "P4 BadBound")
 }
 
+/// What to write where the grammar wants something else than a token.
+fn hint_where(text: &str, at: usize, what: &str) -> Option<&'static str> {
+    if what == "an implication" {
+        return Some("first_match stands round a whole antecedent, as first_match(a ##1 b) |-> c");
+    }
+    if let Some(hint) = hint_beside_token(text, at) {
+        return Some(hint);
+    }
+    if what == "an item" {
+        return Some("after a label stand assert property or assume property");
+    }
+    head_hint(text, at)
+}
+
 /// What is told of a token that can't go on.
-fn expected(alloc: Global, text: &str, at: usize, what: &str) -> Result<Refusal, AllocError>
+fn expected(alloc: Global, text: &str, at: usize, what: &'static str) -> Result<Refusal, AllocError>
     ensures { IfOk result (λ r. r.at ≡ at) }
 {
-    let message = format!(in alloc; "P1 Expected {what}")?;
-    refusal_at(alloc, at, message.as_str(), hint_beside_token(text, at))
+    let wanted = wanted_at(text, at, what);
+    let message = format!(in alloc; "P1 Expected {wanted}")?;
+    refusal_at(alloc, at, message.as_str(), hint_where(text, at, what))
 }
 
 /// What to write for a word or a symbol that the profile leaves out.
 fn hint_of_word(text: &str, at: usize, word: &str) -> Option<&'static str> {
+    if let Some(hint) = path_hint(text, at, word) {
+        return Some(hint);
+    }
     if let Some(hint) = not_hint(text, at) {
         return Some(hint);
     }
@@ -105,8 +126,8 @@ fn outside(alloc: Global, text: &str, at: usize, word: &str) -> Result<Refusal, 
     refusal_at(alloc, at, message.as_str(), hint_of_word(text, at, word))
 }
 
-/// What is told of a text whose tokens spell no items.
-pub fn parse_refusal(alloc: Global, text: &str, fault: ParseFault) -> Result<Refusal, AllocError>
+/// What is told of a text without comments whose tokens spell no items.
+fn told_parse(alloc: Global, text: &str, fault: ParseFault) -> Result<Refusal, AllocError>
     ensures { IfOk result (λ r. byte_of_parse fault.entry ≡ Some r.at) }
 {
     match fault {
@@ -118,14 +139,21 @@ pub fn parse_refusal(alloc: Global, text: &str, fault: ParseFault) -> Result<Ref
     }
 }
 
+/// What is told of a text whose tokens spell no items.
+pub fn parse_refusal(alloc: Global, text: &str, fault: ParseFault) -> Result<Refusal, AllocError>
+    ensures { IfOk result (λ r. byte_of_parse fault.entry ≡ Some r.at) }
+{
+    let clear = without_comments(alloc, text)?;
+    told_parse(alloc, clear.as_str(), fault)
+}
+
 /// What is told of a path that stands for nothing that can be read there.
 fn unknown(alloc: Global, meant: &Meant<'_>, text: &str, at: usize) -> Result<Refusal, AllocError>
     ensures { IfOk result (λ r. r.at ≡ at) }
 {
     let path = path_at(text, at);
     let mut message = told_path(alloc, meant, "Y1 UnknownName", path)?;
-    let end = at.saturating_add(path.len());
-    push_others(alloc, meant, text, end, &mut message)?;
+    push_others(alloc, meant, text, at, &mut message)?;
     Ok(Refusal { at, message })
 }
 
@@ -178,14 +206,10 @@ fn out_of_range(
 fn too_wide(alloc: Global, file: &File, at: usize) -> Result<Refusal, AllocError>
     ensures { IfOk result (λ r. r.at ≡ at) }
 {
-    let weight = side_weight(alloc, file, at)?;
-    if weight <= 127 {
-        return coded(alloc, at, "Y9", "Y9 TooWide");
+    match told_weight(alloc, file, at)? {
+        None => coded(alloc, at, "Y9", "Y9 TooWide"),
+        Some(told) => refusal_at(alloc, at, "Y9 TooWide", Some(told.as_str())),
     }
-    let mut message = format!(in alloc; "Y9 TooWide; weighs {weight}, at most 127; ")?;
-    message.push_str("make it two assertions, as S and T, or A or B before the arrow; ")?;
-    message.push_str("or count in a counter")?;
-    Ok(Refusal { at, message })
 }
 
 /// What is told of an assertion that has no program.
@@ -210,23 +234,23 @@ pub fn program_refusal(alloc: Global, at: usize, fault: CompileFault) -> Result<
     refusal_at(alloc, at, message, None)
 }
 
-/// What is told of items whose clock is no variable of one bit.
+/// What is told of items of a text whose clock is no variable of one bit.
 pub fn clock_refusal(
     alloc: Global,
     meant: &Meant<'_>,
+    text: &str,
     file: &File,
     clock: &str,
 ) -> Result<Refusal, AllocError>
     ensures { IfOk result (λ r. r.at ≡ clock_byte (items_of file.now)) }
 {
-    let message = match meant.dump.var(clock) {
+    let at = clock_byte(file);
+    let mut message = match meant.dump.var(clock) {
         None => told_path(alloc, meant, "C1 NoClock", clock)?,
         Some(_) => format!(in alloc; "C2 ClockWidth {clock}; a clock has one bit")?,
     };
-    Ok(Refusal {
-        at: clock_byte(file),
-        message,
-    })
+    push_others(alloc, meant, text, at, &mut message)?;
+    Ok(Refusal { at, message })
 }
 
 /// What is told of a fault of types.

@@ -1,5 +1,6 @@
 //! The names that a text may mean.
 
+use crate::comments::comment_end;
 use crate::meant::Meant;
 use crate::unnamed::Unnamed;
 use diagnostics::nearest;
@@ -101,12 +102,49 @@ pub(crate) fn is_listed(names: &[String], path: &str) -> bool {
     false
 }
 
-/// The name that a path may mean: the nearest one, or else one that ends as it does.
+/// The first name that goes on from a path with so few letters that it may be meant.
+fn begun<'n>(names: &'n [String], path: &str) -> Option<&'n str> {
+    for name in names {
+        let Some(rest) = name.as_str().strip_prefix(path) else {
+            continue;
+        };
+        if rest.len() <= usize::from(most_edits(path)) && !rest.starts_with('.') {
+            return Some(name.as_str());
+        }
+    }
+    None
+}
+
+/// The name that goes on from a path, if no other one is nearer.
+fn nearest_begun<'n>(
+    alloc: Global,
+    names: &'n [String],
+    path: &str,
+) -> Result<Option<&'n str>, AllocError> {
+    let Some(name) = begun(names, path) else {
+        return Ok(None);
+    };
+    let fewer = match name.len().saturating_sub(path.len()) {
+        1 => 0u8,
+        2 => 1u8,
+        _ => return Ok(None),
+    };
+    match nearest(alloc, fewer, path, names)? {
+        None => Ok(Some(name)),
+        Some(_) => Ok(None),
+    }
+}
+
+/// The name that a path may mean: the nearest one, of equally near ones one that begins as it does,
+/// or else one that ends as it does.
 fn name_meant<'n>(
     alloc: Global,
     names: &'n [String],
     path: &str,
 ) -> Result<Option<&'n str>, AllocError> {
+    if let Some(name) = nearest_begun(alloc, names, path)? {
+        return Ok(Some(name));
+    }
     match nearest(alloc, most_edits(path), path, names)? {
         None => Ok(alike(names, path)),
         Some(place) => Ok(names.get(place).map(|name| name.as_str())),
@@ -134,46 +172,46 @@ fn is_unknown(names: &[String], path: &str) -> bool {
     path.contains('.') || alike(names, path).is_some()
 }
 
-/// The byte after the comment that begins at a byte; that byte where none does.
-fn after_comment(text: &str, at: usize) -> usize {
-    let Some(rest) = text.get(at..) else {
-        return at;
-    };
-    let length = if rest.starts_with("//") {
-        rest.find("\n")
-    } else if rest.starts_with("/*") {
-        rest.find("*/")
-    } else {
-        Some(0)
-    };
-    at.saturating_add(length.unwrap_or(rest.len()))
+/// Whether a path is one of some.
+fn is_told(told: &[&str], path: &str) -> bool {
+    for one in told {
+        if *one == path {
+            return true;
+        }
+    }
+    false
 }
 
-/// Adds the other names of an item that stand for nothing, after one that ends at a byte, each with
-/// the name that may be meant.
+/// Adds the other names of an item that stand for nothing, after one that begins at a byte, each
+/// with the name that may be meant.
 pub(crate) fn push_others(
     alloc: Global,
     meant: &Meant<'_>,
     text: &str,
-    end: usize,
+    start: usize,
     message: &mut String,
 ) -> Result<(), AllocError> {
-    let mut told = 0usize;
-    let mut next = end;
-    for at in end..text.len() {
+    let first = path_at(text, start);
+    let mut told = Vec::new(alloc);
+    told.push(first)?;
+    let mut next = start.saturating_add(first.len());
+    for at in start..text.len() {
         if at < next {
             continue;
         }
-        if told == OTHERS || text.as_bytes()[at] == b';' {
+        if told.len() > OTHERS || text.as_bytes()[at] == b';' {
             return Ok(());
         }
-        next = after_comment(text, at);
-        if !begins_word(text, at) || !is_unknown(meant.names, path_at(text, at)) {
+        next = comment_end(text, at);
+        let path = path_at(text, at);
+        if !begins_word(text, at) || is_told(told.as_slice(), path) {
             continue;
         }
-        let other = told_path(alloc, meant, "; and", path_at(text, at))?;
-        message.push_str(other.as_str())?;
-        told = told.saturating_add(1);
+        if is_unknown(meant.names, path) {
+            let other = told_path(alloc, meant, "; and", path)?;
+            message.push_str(other.as_str())?;
+            told.push(path)?;
+        }
     }
     Ok(())
 }

@@ -1,25 +1,14 @@
 //! What to write where a token can't go on, as the text around it says.
 
+use crate::brackets::{open_before, opener_before};
+use crate::item_words::{first_word, item_before};
+
 /// Whether a text stands at a byte.
 fn stands_at(text: &str, at: usize, mark: &str) -> bool {
     match text.get(at..) {
         None => false,
         Some(rest) => rest.starts_with(mark),
     }
-}
-
-/// How many brackets are open before a byte, and not closed, since the item before it ended.
-fn open_before(text: &str, at: usize) -> usize {
-    let mut open = 0usize;
-    for byte in text.as_bytes().iter().take(at) {
-        match *byte {
-            b';' => open = 0,
-            b'(' => open = open.saturating_add(1),
-            b')' => open = open.saturating_sub(1),
-            _ => (),
-        }
-    }
-    open
 }
 
 /// What stands before a byte: the last byte that is no white space, and whether a new line begins
@@ -56,31 +45,17 @@ pub(crate) fn token_hint(text: &str, at: usize) -> Option<&'static str> {
     if is_at_end(text, at, has_feed) && open_before(text, at) > 0 {
         return Some("is a ) missing before it?");
     }
-    if has_feed && last == b')' {
-        return Some("is a ; missing before it?");
+    if stands_at(text, at, ")") && open_before(text, at) == 0 {
+        return Some("there is a ) too many");
     }
-    if text.get(at..).unwrap_or("").trim_start().is_empty() && last == b')' {
+    if last != b')' {
+        return None;
+    }
+    if text.get(at..).unwrap_or("").trim_start().is_empty() {
         return Some("is a ; missing at the end?");
     }
-    None
-}
-
-/// The byte of the innermost bracket that is open before a byte, in the same item.
-fn opener_before(text: &str, at: usize) -> Option<usize> {
-    let front = text.get(..at)?.as_bytes();
-    let mut closed = 0usize;
-    for (place, byte) in front.iter().enumerate().rev() {
-        match *byte {
-            b';' => return None,
-            b')' | b']' => closed = closed.saturating_add(1),
-            b'(' | b'[' => {
-                if closed == 0 {
-                    return Some(place);
-                }
-                closed = closed.saturating_sub(1);
-            }
-            _ => (),
-        }
+    if has_feed {
+        return Some("is a ; missing before it?");
     }
     None
 }
@@ -102,15 +77,6 @@ pub(crate) fn bound_code(text: &str, at: usize) -> &'static str {
         return "P4 of a counter";
     }
     "P4"
-}
-
-/// What stands of an item before a byte.
-fn item_before(text: &str, at: usize) -> &str {
-    let front = text.get(..at).unwrap_or("");
-    match front.rsplit_once(';') {
-        None => front,
-        Some((_, item)) => item,
-    }
 }
 
 /// Whether all bytes may stand in a name, and there are some.
@@ -160,6 +126,88 @@ fn is_lone_name(text: &str, at: usize) -> bool {
     is_name(word.trim_end()) && before.trim_end().ends_with("property")
 }
 
+/// The text without the path with which it ends.
+fn without_path(text: &str) -> &str {
+    for (at, byte) in text.as_bytes().iter().enumerate().rev() {
+        if !byte.is_ascii_alphanumeric() && *byte != b'_' && *byte != b'.' {
+            return text.get(..at.saturating_add(1)).unwrap_or("");
+        }
+    }
+    ""
+}
+
+/// The text without the select with which it ends.
+fn without_select(text: &str) -> &str {
+    if !text.ends_with(']') {
+        return text;
+    }
+    match text.rsplit_once('[') {
+        None => text,
+        Some((front, _)) => front,
+    }
+}
+
+/// Whether `[*]` stands round a byte, and is all of a side that may not match without a clock.
+fn is_whole_side(text: &str, at: usize) -> bool {
+    let Some(start) = at.checked_sub(2) else {
+        return false;
+    };
+    let Some(rest) = text.get(start..).unwrap_or("").strip_prefix("[*]") else {
+        return false;
+    };
+    let front = without_select(text.get(..start).unwrap_or(""));
+    let before = without_path(front).trim_end();
+    let begins = before.ends_with("->") || before.ends_with("=>") || before.ends_with(')');
+    begins && rest.trim_start().starts_with(')')
+}
+
+/// What to write in place of a string at a byte.
+fn string_hint(text: &str, at: usize) -> &'static str {
+    let front = text.get(..at).unwrap_or("").trim_end();
+    if item_before(text, at).find("else").is_some() {
+        return "leave out all from else on: the report has the clock of each failure";
+    }
+    if front.ends_with('(') && item_before(text, at).find('$').is_some() {
+        return "leave the call out: an assertion has no action, and the report has each failure";
+    }
+    "a rule has no strings: write the bytes as a number, as 24'h616263"
+}
+
+/// Whether a word stands first.
+fn begins_with(text: &str, word: &str) -> bool {
+    first_word(text) == word
+}
+
+/// What to write where a bracket, a comma or a string stands at a byte.
+fn sign_hint(text: &str, at: usize) -> Option<&'static str> {
+    if stands_at(text, at, "\"") {
+        return Some(string_hint(text, at));
+    }
+    if is_whole_side(text, at) {
+        return Some("write [*1:20]: what has to hold can't match without a clock");
+    }
+    if stands_at(text, at, "(") && begins_with(item_before(text, at), "sequence") {
+        return Some("a sequence has no arguments: write it out where it is used");
+    }
+    if stands_at(text, at, ";") && item_before(text, at).trim().is_empty() {
+        return Some("leave it out: nothing stands before it");
+    }
+    if stands_at(text, at, ".") && !text.get(..at).unwrap_or("").ends_with(']') {
+        return Some("numbers are whole, and a path has no word of the language");
+    }
+    if !stands_at(text, at, ",") {
+        return None;
+    }
+    if is_in_clock(text, at) {
+        return Some("an assertion has one clock: write @(posedge clk) disable iff (!rst_n) ..");
+    }
+    let opener = opener_before(text, at)?;
+    if text.as_bytes().get(opener) == Some(&b'[') {
+        return Some("write a colon between bounds, as ##[1:5] for ##[1,5]");
+    }
+    None
+}
+
 /// What to write where more than a mark at a byte says what was meant.
 pub(crate) fn mark_hint(text: &str, at: usize) -> Option<&'static str> {
     if is_lone_name(text, at) {
@@ -168,12 +216,36 @@ pub(crate) fn mark_hint(text: &str, at: usize) -> Option<&'static str> {
     if is_dashed_label(text, at) {
         return Some("a label has letters, digits and _, as o_p for o-p");
     }
-    if !stands_at(text, at, ",") {
+    match word_hint(text, at) {
+        None => sign_hint(text, at),
+        Some(hint) => Some(hint),
+    }
+}
+
+/// Whether the brackets of a clock are open before a byte.
+fn is_in_clock(text: &str, at: usize) -> bool {
+    match opener_before(text, at) {
+        None => false,
+        Some(opener) => text.get(..opener).unwrap_or("").trim_end().ends_with('@'),
+    }
+}
+
+/// What to write where a word joins what can't be joined at a byte, or stands too late.
+fn word_hint(text: &str, at: usize) -> Option<&'static str> {
+    if stands_at(text, at, "disable") {
+        return Some("it stands after the clock, as @(posedge clk) disable iff (!rst_n) ..");
+    }
+    if stands_at(text, at, "or ") && is_in_clock(text, at) {
+        return Some("an assertion has one clock: write @(posedge clk) disable iff (!rst_n) ..");
+    }
+    if !holds_arrow(item_before(text, at)) {
         return None;
     }
-    let opener = opener_before(text, at)?;
-    if text.as_bytes().get(opener) == Some(&b'[') {
-        return Some("write a colon between bounds, as ##[1:5] for ##[1,5]");
+    if stands_at(text, at, "and ") {
+        return Some("write an assertion for each side of and: an implication can't be joined");
+    }
+    if stands_at(text, at, "or ") {
+        return Some("write !c ##0 A |-> B for (A |-> B) or c: an implication can't be joined");
     }
     None
 }
@@ -196,4 +268,40 @@ pub(crate) fn not_hint(text: &str, at: usize) -> Option<&'static str> {
         );
     }
     None
+}
+
+/// Whether a word at a byte stands in a path.
+fn is_in_path(text: &str, at: usize, word: &str) -> bool {
+    let front = text.get(..at).unwrap_or("");
+    front.ends_with('.') || stands_at(text, at.saturating_add(word.len()), ".")
+}
+
+/// What to write for a word of the language that stands in a path.
+pub(crate) fn path_hint(text: &str, at: usize, word: &str) -> Option<&'static str> {
+    if is_in_path(text, at, word) {
+        return Some("a path has no word of the language: name the signal by a wire in the bench");
+    }
+    None
+}
+
+/// How many bytes stand first that are digits of a plain number.
+fn count_digits(bytes: &[u8]) -> usize {
+    for (at, byte) in bytes.iter().enumerate() {
+        if !byte.is_ascii_digit() && *byte != b'_' {
+            return at;
+        }
+    }
+    bytes.len()
+}
+
+/// The row of codes that says what is wrong with the number at a byte: that of a plain one, or of
+/// all others.
+pub(crate) fn number_code(text: &str, at: usize) -> &'static str {
+    let bytes = text.get(at..).unwrap_or("").as_bytes();
+    let count = count_digits(bytes);
+    let next = bytes.get(count).copied().unwrap_or(b' ');
+    if count == 0 || next.is_ascii_alphanumeric() || next == b'\'' || next == b'?' {
+        return "L2";
+    }
+    "L2 of a plain number"
 }

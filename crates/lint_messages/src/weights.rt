@@ -1,6 +1,9 @@
 //! What the sides of assertions weigh.
 
-use parser_grammar::{ExprTree, File, ItemTree, Junction, PropertyTree, Range, SequenceTree};
+use parser_grammar::{
+    AssertionTree, ExprTree, File, Implication, ItemTree, Junction, PropertyTree, Range,
+    SequenceTree,
+};
 use std::alloc::{AllocError, Global};
 
 /// How often named sequences are looked at again, so that those that name others are weighed; a
@@ -121,17 +124,40 @@ fn all_weighed<'a>(alloc: Global, file: &File<'a>) -> Result<Vec<Weighed<'a>>, A
     Ok(named)
 }
 
-/// What the heavier side of a property weighs that is over the most, the antecedent first.
-fn heavy_side(named: &[Weighed<'_>], property: &PropertyTree) -> u64 {
+/// A side of a property, what it weighs, and whether it is an antecedent, or follows one by `|->`.
+#[derive(Clone, Copy)]
+struct Side<'a, 't> {
+    sequence: &'a SequenceTree<'t>,
+    weight: u64,
+    leads: bool,
+    follows: bool,
+}
+
+/// The side of a property that is over the most, the antecedent first; else the last one.
+fn heavy_side<'a, 't>(named: &[Weighed<'_>], property: &'a PropertyTree<'t>) -> Side<'a, 't> {
     match property {
-        PropertyTree::Plain(sequence) => weight_of(named, sequence),
+        PropertyTree::Plain(sequence) => Side {
+            sequence: &**sequence,
+            weight: weight_of(named, sequence),
+            leads: false,
+            follows: false,
+        },
         PropertyTree::Implication(_, antecedent, implication, consequent) => {
-            let following = u64::from(*implication == parser_grammar::Implication::NonOverlapped);
-            let led = weight_of(named, antecedent).saturating_add(2 * following);
+            let later = *implication == Implication::NonOverlapped;
+            let led = weight_of(named, antecedent).saturating_add(2 * u64::from(later));
             if led > MOST {
-                led
-            } else {
-                weight_of(named, consequent)
+                return Side {
+                    sequence: &**antecedent,
+                    weight: led,
+                    leads: true,
+                    follows: false,
+                };
+            }
+            Side {
+                sequence: &**consequent,
+                weight: weight_of(named, consequent),
+                leads: false,
+                follows: !later,
             }
         }
     }
@@ -140,16 +166,82 @@ fn heavy_side(named: &[Weighed<'_>], property: &PropertyTree) -> u64 {
 /// The most that a side may weigh.
 const MOST: u64 = 127;
 
-/// What the side weighs that is too wide, of the last assertion that begins up to a byte.
-pub(crate) fn side_weight(alloc: Global, file: &File, at: usize) -> Result<u64, AllocError> {
-    let named = all_weighed(alloc, file)?;
-    let mut weight = 0;
+/// What to write for a consequent that begins after clocks, if it weighs one too many.
+fn later_hint(alloc: Global, side: Side<'_, '_>) -> Result<Option<String>, AllocError> {
+    let SequenceTree::Late(_, range, _) = side.sequence else {
+        return Ok(None);
+    };
+    let low = u64::from(range.low.value);
+    let high = most_of(*range);
+    if !side.follows || side.weight != MOST + 1 || low == 0 {
+        return Ok(None);
+    }
+    let less = low.saturating_sub(1);
+    let most = high.saturating_sub(1);
+    if range.high.is_none() {
+        return Ok(Some(format!(in alloc; "write A |=> ##{less} b for A |-> ##{low} b")?));
+    }
+    Ok(Some(format!(in alloc; "write A |=> ##[{less}:{most}] b for A |-> ##[{low}:{high}] b")?))
+}
+
+/// What to write for another side that weighs too much.
+fn split_hint(side: Side<'_, '_>) -> &'static str {
+    match side.sequence {
+        SequenceTree::Joined(Junction::And, _, _) => {
+            if side.leads {
+                "shorten its ranges, or count in a counter"
+            } else {
+                "make it two assertions, one for each side of and; or count in a counter"
+            }
+        }
+        SequenceTree::Joined(Junction::Or, _, _) => {
+            if side.leads {
+                "make it two assertions, one for each side of or; or count in a counter"
+            } else {
+                "shorten its ranges, or count in a counter"
+            }
+        }
+        _ => "shorten its ranges, or count in a counter",
+    }
+}
+
+/// What is told of a side that weighs that much.
+fn told_side(alloc: Global, side: Side<'_, '_>) -> Result<Option<String>, AllocError> {
+    let weight = side.weight;
+    if weight <= MOST {
+        return Ok(None);
+    }
+    let mut told = format!(in alloc; "weighs {weight}, at most 127; ")?;
+    match later_hint(alloc, side)? {
+        None => told.push_str(split_hint(side))?,
+        Some(hint) => told.push_str(hint.as_str())?,
+    }
+    Ok(Some(told))
+}
+
+/// The last assertion that begins up to a byte.
+fn assertion_at<'a, 't>(file: &'a File<'t>, at: usize) -> Option<&'a AssertionTree<'t>> {
+    let mut found = None;
     for item in &file.items {
         if let ItemTree::Assertion(assertion) = item {
             if assertion.verb.at <= at {
-                weight = heavy_side(named.as_slice(), &assertion.property);
+                found = Some(assertion);
             }
         }
     }
-    Ok(weight)
+    found
+}
+
+/// What is told of the side that is too wide, of the last assertion that begins up to a byte: what
+/// it weighs, as far as that is known, and what to write.
+pub(crate) fn told_weight(
+    alloc: Global,
+    file: &File,
+    at: usize,
+) -> Result<Option<String>, AllocError> {
+    let named = all_weighed(alloc, file)?;
+    match assertion_at(file, at) {
+        None => Ok(None),
+        Some(assertion) => told_side(alloc, heavy_side(named.as_slice(), &assertion.property)),
+    }
 }

@@ -1,8 +1,8 @@
 -- Which notes are told at the tokens of a text.
 use Rattle.std.specs.Prelude.{◌≡◌, ℕ, ◌+◌, List, [], ◌∷◌, ◌++◌, Bool, true, false, ◌&&◌, ◌||◌}
-use Rattle.std.specs.Prelude.{codes}
+use Rattle.std.specs.Prelude.{codes, ◌-◌, ◌==◌, not, length, drop}
 use Rattle.std.specs.Prelude.{Option, Some, None, is_some, take, map, string_bytes, if◌then◌else◌}
-use Rattle.std.specs.List.{list_any}
+use Rattle.std.specs.List.{list_any, suffix_len}
 use Rattle.std.specs.Str.{bytes_eq}
 use Rattle.lexer.specs.declared.token.Token.{Token}
 use Rattle.lint_notes.specs.declared.note.Note.{Note}
@@ -72,14 +72,35 @@ is_disabled_by text path (close ∷ disable ∷ iff ∷ bracket ∷ ts) =
     is (codes "disable") disable && is (codes "iff") iff && is_lone text path (after_sign ts)
 is_disabled_by text path _ = false
 
--- note 5, where tokens begin with `posedge` and a clock that disables the assertion, too
+-- whether a clock stands first that disables the assertion, too
 abbrev pub is_reset_clock : List ℕ → List Token → Bool
 is_reset_clock text [] = false
 is_reset_clock text (c ∷ ts) = is_disabled_by text (path_at text c.at) (after_name text (c ∷ ts))
 
+-- what resets are called
+abbrev pub reset_names : List (List ℕ)
+reset_names =
+    codes "rst" ∷ codes "rst_n" ∷ codes "rst_ni" ∷ codes "rstn" ∷ codes "nrst" ∷ codes "arst"
+    ∷ codes "arst_n" ∷ codes "reset" ∷ codes "reset_n" ∷ codes "resetn" ∷ codes "areset"
+    ∷ codes "aresetn" ∷ []
+
+abbrev pub is_no_dot : ℕ → Bool
+is_no_dot b = not (b == 46)
+
+-- the last word of a path
+abbrev pub last_word : List ℕ → List ℕ
+last_word path = drop (length path - suffix_len is_no_dot path) path
+
+-- whether a clock stands first that is called as resets are
+abbrev pub is_reset_name : List ℕ → List Token → Bool
+is_reset_name text [] = false
+is_reset_name text (c ∷ ts) = list_any (bytes_eq (last_word (path_at text c.at))) reset_names
+
+-- note 5, where tokens begin with `posedge` and such a clock
 abbrev pub has_reset_note : List ℕ → List Token → Bool
 has_reset_note text [] = false
-has_reset_note text (t ∷ ts) = is (codes "posedge") t && is_reset_clock text ts
+has_reset_note text (t ∷ ts) =
+    is (codes "posedge") t && (is_reset_clock text ts || is_reset_name text ts)
 
 abbrev pub first_byte : List Token → ℕ
 first_byte [] = 0

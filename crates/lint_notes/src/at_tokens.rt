@@ -46,8 +46,8 @@ fn push_first(
 }
 
 /// The notes of a text's tokens, in their order: 1 at each select of a name with another range than
-/// `[n:0]`, 3 at each call that looks back at a late signal, and 5 at each clock that disables its
-/// assertion, too.
+/// `[n:0]`, 3 at each call that looks back at a late signal, and 5 at each clock that may be a
+/// reset.
 pub fn token_notes(
     alloc: Global,
     text: &str,

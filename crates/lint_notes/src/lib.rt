@@ -14,7 +14,7 @@
 //! A note has a number, the byte where it stands, and what is told: N1, a select of a name whose
 //! declared range isn't `[n:0]`; N2, a signal that is x or z at sampled clocks; N3, a function that
 //! looks back before a signal's first value; N4, an assertion that no attempt tried; N5, a clock
-//! without edges, or one that disables its assertion; N6, a `~` or a difference that a number
+//! without edges, or one that may be a reset; N6, a `~` or a difference that a number
 //! without a size widens; N7, a port whose width isn't the dump's.
 //!
 //! The definitions: names, selects and brackets among tokens in `specs/Words.antt`; at which tokens

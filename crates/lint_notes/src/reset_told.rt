@@ -1,9 +1,12 @@
-//! Note 5: a clock that disables its assertion.
+//! Note 5: a clock that disables its assertion, or is called as a reset is.
 
-ghost use Rattle.std.specs.Prelude.{◌≡◌, IfOk};
+ghost use Rattle.std.specs.Prelude.{◌≡◌, ◌≤◌, length, map, IfOk};
+ghost use Rattle.std.specs.List.{list_any, suffix_len};
+ghost use Rattle.std.specs.Str.{bytes_eq};
 ghost use Rattle.lint_notes.specs.Words.{path_at, after_name};
 ghost use Rattle.lint_notes.specs.Told.{after_sign, is_closed, is_lone, is_disabled_by};
 ghost use Rattle.lint_notes.specs.Told.{is_reset_clock, has_reset_note, first_byte, IsNoteWhen};
+ghost use Rattle.lint_notes.specs.Told.{is_no_dot, last_word, is_reset_name};
 
 use crate::note::Note;
 use crate::words::{after_name, is, path_at};
@@ -69,7 +72,68 @@ fn is_reset_clock(text: &[u8], tokens: &[Token]) -> bool
     }
 }
 
-/// The note of `posedge` with which tokens begin, where its clock disables the assertion, too.
+/// What resets are called.
+const RESETS: [&str; 12] = [
+    "rst", "rst_n", "rst_ni", "rstn", "nrst", "arst", "arst_n", "reset", "reset_n", "resetn",
+    "areset", "aresetn",
+];
+
+/// How many bytes stand after the last dot.
+fn word_length(path: &[u8]) -> usize
+    ensures count { result ≡ suffix_len is_no_dot path.now }
+    ensures high { result ≤ length path.now }
+{
+    let mut count = 0;
+    for byte in path {
+        if *byte == b'.' {
+            count = 0;
+        } else {
+            count += 1;
+        }
+    }
+    count
+}
+
+/// The last word of a path.
+fn last_word(path: &[u8]) -> &[u8]
+    ensures { result.now ≡ last_word path.now }
+{
+    &path[path.len() - word_length(path)..]
+}
+
+/// Whether a word is one of some.
+fn is_among(words: &[&str], word: &[u8]) -> bool
+    ensures { result ≡ list_any (bytes_eq word.now) (map (λ w. w.now) words.now) }
+{
+    for one in words {
+        if word == one.as_bytes() {
+            return true;
+        }
+    }
+    false
+}
+
+/// Whether a clock stands first that is called as resets are.
+fn is_reset_name(text: &[u8], tokens: &[Token]) -> bool
+    ensures { result ≡ is_reset_name text.now tokens.now }
+{
+    match tokens {
+        [] => false,
+        [clock, ..] => is_among(&RESETS, last_word(path_at(text, clock.at))),
+    }
+}
+
+/// What is told of a clock.
+fn message_of(disables: bool) -> &'static str {
+    if disables {
+        "the clock disables the assertion, too: is it a reset?"
+    } else {
+        "the clock is called as a reset is: is it one?"
+    }
+}
+
+/// The note of `posedge` with which tokens begin, where its clock disables the assertion, too, or
+/// is called as resets are.
 pub(crate) fn reset_note(
     alloc: Global,
     text: &[u8],
@@ -84,15 +148,13 @@ pub(crate) fn reset_note(
     if !is(first, "posedge") {
         return Ok(None);
     }
-    if !is_reset_clock(text, rest) {
+    let disables = is_reset_clock(text, rest);
+    if !disables && !is_reset_name(text, rest) {
         return Ok(None);
     }
     Ok(Some(Note {
         number: 5,
         at: first.at,
-        message: String::from_str(
-            alloc,
-            "the clock disables the assertion, too: is it a reset?",
-        )?,
+        message: String::from_str(alloc, message_of(disables))?,
     }))
 }

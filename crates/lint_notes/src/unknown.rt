@@ -68,7 +68,8 @@ fn fact_of(alloc: Global, path: &str, seen: Seen) -> Result<PathFact, AllocError
         first,
         time,
     } = seen;
-    let mut message = format!(in alloc; "{path} is x or z at {clocks} clocks, ")?;
+    let noun = if clocks == 1 { "clock" } else { "clocks" };
+    let mut message = format!(in alloc; "{path} is x or z at {clocks} {noun}, ")?;
     let place = format!(in alloc; "first at clock {first} (#{time}); x and z are 0")?;
     message.push_str(place.as_str())?;
     Ok(PathFact {

@@ -1,15 +1,22 @@
 -- Items of a text that are refused by themselves, whatever stands beside them.
 use Rattle.std.specs.Prelude.{◌≡◌, ◌+◌, ◌-◌, ℕ, List, [], ◌∷◌, Option, Some, None, Ok}
 use Rattle.std.specs.Prelude.{Result, Err, map, take, drop, codes, Bool, true, false, ◌||◌}
-use Rattle.std.specs.Prelude.{length, nat_lt}
+use Rattle.std.specs.Prelude.{length, nat_lt, not, option_map, string_bytes}
 use Rattle.std.specs.Prelude.{if◌then◌else◌}
 use Rattle.std.specs.List.{list_any}
 use Rattle.std.specs.Str.{bytes_eq}
 use Rattle.lexer.specs.declared.fault.LexFault.{LexFault}
 use Rattle.lexer.specs.declared.token.Token.{Token}
 use Rattle.lexer.specs.Cutting.{Cut, cut_of, tokens_of}
+use Rattle.parser_grammar.specs.Trees.{ItemForm}
+use Rattle.parser.specs.declared.fault.ParseFault.{ParseFault}
+use Rattle.parser.specs.Faults.{IsParseFault}
 use Rattle.vcd_reader.specs.Variables.{Declared}
-use Rattle.lint_refusals.specs.Refused.{IsRefused}
+use Rattle.lint_suites.specs.Suites.{Spells, clock_byte}
+use Rattle.lint_messages.specs.Bytes.{byte_of_parse}
+use Rattle.lint_refusals.specs.Refused.{IsRefused, has_clock}
+use Rattle.lint_refusals.specs.Verbs.{is_verb}
+use Rattle.lint_refusals.specs.declared.front.DumpFront.{DumpFront}
 
 -- whether the next token is a name that is declared
 abbrev pub declares : List ℕ → Bool
@@ -33,24 +40,57 @@ declared_in text = names_cut (tokens_of text)
 abbrev pub part_of : List ℕ → ℕ → ℕ → List ℕ
 part_of text start end = take (end - start) (drop start text)
 
--- A part of a text, which begins at a byte, has none of these names, and is refused at a byte of
--- it.
-pub record IsRefusedPart (vs : List Declared) (names : List (List ℕ)) (part : List ℕ)
-    (start at : ℕ) : Type 0 where
-  pub tokens : List Token
-  pub cut : tokens_of part ≡ Ok (map cut_of tokens)
-  pub apart : list_any (λ t. list_any (bytes_eq t.text.now) names) tokens ≡ false
-  pub byte : ℕ
-  pub inside : nat_lt byte (length part) ≡ true
-  pub refused : IsRefused vs part byte
-  pub is : at ≡ start + byte
+-- whether some token is this word
+abbrev pub has_word : List ℕ → List Token → Bool
+has_word word tokens = list_any (λ t. bytes_eq t.text.now word) tokens
 
--- The same of what stands between two places, with names that are known.
-pub record IsRefusedOf (vs : List Declared) (declared : Option (List (List ℕ))) (text : List ℕ)
-    (start end at : ℕ) : Type 0 where
+-- the word that ends the item of some tokens
+abbrev pub ender : List Token → List ℕ
+ender tokens =
+    if has_word (codes "sequence") tokens then codes "endsequence" else codes ";"
+
+-- Whether the form of an item says, whatever stands beside it, if it is refused: it begins an
+-- assertion, or it isn't ended.
+abbrev pub is_decided : List Token → Bool
+is_decided tokens = list_any is_verb tokens || not (has_word (ender tokens) tokens)
+
+-- the names that are known to be declared
+abbrev pub known_names : DumpFront → Option (List (List ℕ))
+known_names front = option_map (λ names. map string_bytes names.now) front.declared
+
+-- The names that a text declares are known, and none of some tokens is one.
+pub record IsApart (declared : Option (List (List ℕ))) (tokens : List Token) : Type 0 where
   pub names : List (List ℕ)
   pub known : declared ≡ Some names
-  pub part : IsRefusedPart vs names (part_of text start end) start at
+  pub none : list_any (λ t. list_any (bytes_eq t.text.now) names) tokens ≡ false
+
+-- A part of a text is refused at a byte of its own, whatever stands beside it: none of its tokens
+-- is a name that the text declares; or its tokens spell no items, and its form says so; or its
+-- clock is no variable of one bit.
+pub data IsRefusedPart (vs : List Declared) (declared : Option (List (List ℕ)))
+    (part : List ℕ) (byte : ℕ) : Type 0 where
+  apart : (tokens : List Token) → tokens_of part ≡ Ok (map cut_of tokens)
+      → IsApart declared tokens → nat_lt byte (length part) ≡ true → IsRefused vs part byte
+      → IsRefusedPart vs declared part byte
+  misspelt : (fault : ParseFault) (tokens : List Token)
+      → tokens_of part ≡ Ok (map cut_of tokens) → is_decided tokens ≡ true
+      → IsParseFault tokens fault → byte_of_parse fault ≡ Some byte
+      → IsRefusedPart vs declared part byte
+  clockless : (tokens : List Token) (items : List ItemForm) → Spells part tokens items
+      → has_clock vs items ≡ false → byte ≡ clock_byte items
+      → IsRefusedPart vs declared part byte
+
+-- The same of a part that begins at a byte of the text, at a byte of the text.
+pub record IsMovedPart (vs : List Declared) (declared : Option (List (List ℕ)))
+    (part : List ℕ) (start at : ℕ) : Type 0 where
+  pub byte : ℕ
+  pub refused : IsRefusedPart vs declared part byte
+  pub is : at ≡ start + byte
+
+-- The same of what stands between two places.
+abbrev pub IsRefusedOf : List Declared → Option (List (List ℕ)) → List ℕ → ℕ → ℕ → ℕ → Type 0
+IsRefusedOf vs declared text start end at =
+    IsMovedPart vs declared (part_of text start end) start at
 
 -- The same of all names that the text declares.
 abbrev pub IsRefusedAlone : List Declared → List ℕ → ℕ → ℕ → ℕ → Type 0

@@ -2,3 +2,4 @@ pub mod Alone
 pub mod Counted
 pub mod Refused
 pub mod Rests
+pub mod Verbs

@@ -1,8 +1,7 @@
 -- What is left of a text over the variables of a dump.
-use Rattle.std.specs.Prelude.{◌≡◌, ◌≢◌, ◌⊎◌, ℕ, List, Option, Ok, length, map, codes, IsOk, IfSome}
-use Rattle.std.specs.Prelude.{Bool, false, ◌||◌, String, string_bytes}
+use Rattle.std.specs.Prelude.{◌≡◌, ◌≢◌, ◌⊎◌, ℕ, List, Option, Ok, length, map, IsOk, IfSome}
+use Rattle.std.specs.Prelude.{false, String, string_bytes}
 use Rattle.std.specs.List.{list_any}
-use Rattle.std.specs.Str.{bytes_eq}
 use Rattle.std.specs.declared.alloc.Global.{Global}
 use Rattle.lexer.specs.declared.token.Token.{Token}
 use Rattle.lexer.specs.Cutting.{cut_of, tokens_of}
@@ -11,10 +10,7 @@ use Rattle.diagnostics.specs.Linted.{IsTold}
 use Rattle.vcd_reader.specs.Variables.{Declared}
 use Rattle.lint_refusals.specs.Refused.{IsAccepted, IsRefused}
 use Rattle.lint_refusals.specs.Alone.{IsRefusedAlone}
-
--- whether a token begins an assertion, maybe after a label
-abbrev pub is_verb : Token → Bool
-is_verb t = bytes_eq t.text.now (codes "assert") || bytes_eq t.text.now (codes "assume")
+use Rattle.lint_refusals.specs.Verbs.{is_verb}
 
 -- A text that is not the whole one, and has no assertion.
 pub record IsBare (whole text : List ℕ) : Type 0 where

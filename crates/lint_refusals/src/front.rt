@@ -15,7 +15,8 @@ ghost use Rattle.lint_suites.specs.Dumps.{width_named};
 ghost use Rattle.lint_suites.specs.Suites.{Spells, scope_over};
 ghost use Rattle.lint_refusals.specs.Refused.{IsAccepted, IsRefused, is_one_bit};
 ghost use Rattle.lint_refusals.specs.Refused.{head_at, IsUnprogrammed};
-ghost use Rattle.lint_refusals.specs.Rests.{IsBare, is_verb};
+ghost use Rattle.lint_refusals.specs.Rests.{IsBare};
+ghost use Rattle.lint_refusals.specs.Verbs.{is_verb};
 
 use crate::alone::alone_in;
 use crate::programless::first_programless;
@@ -42,7 +43,7 @@ pub(crate) struct DumpFront<'d> {
 }
 
 /// Whether a path names a variable of one bit.
-fn is_clock(dump: &Dump, path: &str) -> bool
+pub(crate) fn is_clock(dump: &Dump, path: &str) -> bool
     ensures { result ≡ is_one_bit (width_named (variables_of dump.now) path.now) }
 {
     match width_in_dump(dump, path) {
@@ -107,7 +108,8 @@ fn suited(
     if is_clock(front.meant.dump, suite.clock()) {
         return compiled(alloc, file, suite);
     }
-    Ok(Some(clock_refusal(alloc, &front.meant, file, suite.clock())?))
+    let refusal = clock_refusal(alloc, &front.meant, text, file, suite.clock())?;
+    Ok(Some(refusal))
 }
 
 /// The refusal of the items that a text spells, if there is one.
@@ -138,7 +140,7 @@ fn wants_an_assertion(fault: ParseFault) -> bool {
 }
 
 /// Whether some token begins an assertion.
-fn has_verb(tokens: &[Token]) -> bool
+pub(crate) fn has_verb(tokens: &[Token]) -> bool
     ensures { result ≡ list_any is_verb tokens.now }
 {
     for token in tokens {
@@ -226,9 +228,6 @@ impl FrontEnd for DumpFront<'_> {
         text: &str,
         span: Span,
     ) -> Result<Option<Refusal>, AllocError> {
-        match self.declared {
-            None => Ok(None),
-            Some(names) => alone_in(alloc, self, names, text, span),
-        }
+        alone_in(alloc, self, text, span)
     }
 }

@@ -1,15 +1,17 @@
 //! All refusals of a text over a dump.
 //!
 //! ```text
-//! let meant = Meant { dump: &dump, names: &names, unnamed: &[], origin };
+//! let (unnamed, turned, knows_ranges) = (&[], &[], false);
+//! let meant = Meant { dump: &dump, names: &names, unnamed, turned, knows_ranges, origin };
 //! let told = lint_over(alloc, &meant, text)?;     // told.linted.refusals, told.items
 //! ```
 //!
 //! The text is cut into tokens, read, typed and compiled as for a report. What is refused is told,
 //! its item is blanked byte for byte, and the rest is looked at again, so that all refusals stand
-//! where the text has them. Before that, each item is looked at by itself, as long as it has no
-//! name that the text declares: what is refused then is refused whatever stands beside it, and is
-//! told at once. So a text of which most items are refused is not read as often as that.
+//! where the text has them. Before that, each item is looked at by itself: its form, its clock, and
+//! its types as long as it has no name that the text declares. What is refused then is refused
+//! whatever stands beside it, and is told at once. So a text of which most items are refused is not
+//! read as often as that, and a clock that is none is no clock of the others.
 //!
 //! `lint_over` promises that each told refusal is one of the text without the items that were
 //! refused before it, or one of its item by itself, at the byte that is told; that a text of which

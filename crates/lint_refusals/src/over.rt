@@ -23,11 +23,12 @@ pub struct Told {
     pub items: usize,
 }
 
-/// Whether a refusal stands in no item: after the last one.
+/// Whether a refusal stands in no item: after the last one, at what is no white space.
 fn is_outside(text: &str, ends: &[usize], refusal: &Refusal) -> bool
     ensures { result ≡ is_outside text.now ends.now refusal.now }
 {
-    item_at(ends, refusal.at) == ends.len() && refusal.at < text.len()
+    let byte = text.as_bytes().get(refusal.at).copied().unwrap_or(b' ');
+    item_at(ends, refusal.at) == ends.len() && !byte.is_ascii_whitespace()
 }
 
 /// How many items are counted.

@@ -20,6 +20,6 @@ returns c =
         tells = subst (λ (n : ℕ). TellsAll origin.parts.now origin.added.now refusals c.in_ok-notes.notes.items n out)
             looked.1
             (subst (λ (ns : List Refusal). TellsAll origin.parts.now origin.added.now refusals ns told.items out)
-            c.as_slice-2.ensures.value c.in_ok-written.ensures);
+            c.as_slice-4.ensures.value c.in_ok-written.ensures);
       },
     )

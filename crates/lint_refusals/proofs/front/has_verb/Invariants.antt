@@ -1,6 +1,6 @@
 use Rattle.std.proofs.Common.{◌≡◌, drop}
 use Rattle.std.specs.List.{list_any}
-use Rattle.lint_refusals.specs.Rests.{is_verb}
+use Rattle.lint_refusals.specs.Verbs.{is_verb}
 use Rattle.lint_refusals.proofs.front.has_verb.Given as goal
 
 -- what the tokens so far leave to the others

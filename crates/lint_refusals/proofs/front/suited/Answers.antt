@@ -46,4 +46,4 @@ returns c =
     let vs = variables_of c.args.front.now.meant.dump.now in
     unclocked c.args.tokens.now (items_of c.args.file.now) c.requires.spells
     (ap (λ (path : List ℕ). is_one_bit (width_named vs path)) (sym (c.clock.ensures ∙ c.requires.says.clock))
-    ∙ sym c.is_clock.ensures ∙ c.if-is_clock.false) c.in_ok-clock_refusal.ensures
+    ∙ sym c.is_clock.ensures ∙ c.if-is_clock.false) c.in_ok-refusal.ensures

@@ -1,4 +1,4 @@
-use Rattle.std.proofs.Common.{◌≡◌, ◌<◌, ℕ, false, true, map, string_bytes}
+use Rattle.std.proofs.Common.{◌≡◌, map, string_bytes}
 use Rattle.std.specs.List.{position_from}
 use Rattle.std.specs.Prelude.{not, drop}
 use Rattle.source_files.specs.Heads.{head_of}
