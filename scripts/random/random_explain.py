@@ -21,7 +21,7 @@ from random_judge import judge, values
 
 draw = drawn.draw
 NAMES = {'signal': 's', 'counter': 'c'}
-DIGITS = set('0123456789abcdef')
+DIGITS = set("0123456789'")
 
 
 def unit(word):
@@ -145,7 +145,7 @@ def cells(line, edges):
 
 
 def shown_text(value, bits):
-    return '%d' % value if bits <= 4 else '%x' % value
+    return '%d' % value if bits <= 4 or value <= 9 else "'h%x" % value
 
 
 def plain(label):

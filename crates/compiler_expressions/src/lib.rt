@@ -11,8 +11,8 @@
 //! them what their operator does. `$past` reads the rows of so many ticks before, and a guard by
 //! slot 0, the constant 1, makes 0 of it where there were fewer ticks. A call that compares with
 //! the tick before has the code of its operand twice, so code can be twice as long for each such
-//! call inside another: a `CodeBuffer` counts and stops at 4,096 instructions, and
-//! `machine_expressions` answers `TooLong` exactly where there would be more.
+//! call inside another: a `CodeBuffer` counts and stops at 4,096 instructions, and answers
+//! `TooLong` exactly where there would be more.
 //!
 //! The definitions: `specs/Codes.antt` (the code of an expression, and what it asks of the stack
 //! and of the history), `specs/Samples.antt` (the code of counters and of a program),

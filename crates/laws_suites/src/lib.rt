@@ -23,7 +23,7 @@
 //! a text with its names written out in `specs/WrittenOut.antt`, its expressions in
 //! `specs/TextTrees.antt`, what the compiler asks in `compiler/specs/Conditions.antt`, what a text
 //! says in `types_suites/specs/Suites.antt`, where its faults stand in
-//! `types/specs/Faults.antt`.
+//! `types_suites/specs/Faults.antt`.
 //!
 //! Not promised: anything of a suite that no text says, or that the depth of what is meant is that
 //! of the text, which can have needless brackets.

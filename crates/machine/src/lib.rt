@@ -1,9 +1,9 @@
 //! The monitor machine: it runs a verified program over rows, clock by clock.
 //!
 //! A clock pushes its row on the history, runs the sample code, opens an attempt, visits what is
-//! live, and settles the attempts. It tests no operand, no jump, no reach into the history, no room
-//! of a pool and no budget, since a program that the verifier accepted never fails such a test; and
-//! it takes no memory, since `Machine::new` took all. Sample code without jumps is decoded once, to
+//! live, and settles the attempts. No test of an operand, a jump, the reach into the history, the
+//! room of a pool or the budget is needed, since a program that the verifier accepted never fails
+//! one; and no memory, since `Machine::new` took all. Sample code without jumps is decoded once, to
 //! steps over places, of which the first hold the row; the ring has it only where the program keeps
 //! a history. Code with a jump runs over a stack of operands. Where nothing is live before a clock,
 //! as at most clocks of most rules, no pool is walked: the clock's own attempt and obligation are
@@ -33,7 +33,8 @@
 //! could fail.
 //!
 //! Not promised: that memory suffices for a machine, that a foreign program means anything, or
-//! which clocks `repeat` passes over: it may run none.
+//! which clocks `repeat` passes over: it may run none. That a clock makes no such test and takes no
+//! memory is seen by reading; the gate counts requests for memory.
 #![tactic(auto)]
 
 mod attempts;

@@ -19,7 +19,7 @@
 //! pool.retire(slot);
 //! ```
 //!
-//! Each takes its memory when it is made, in one block, and none after. A contract sees the list
+//! Each takes its memory when it is made, in one block. A contract sees the list
 //! `places.held` of what each place holds, the rows that were pushed last, and the list of live
 //! records with their slots. A place that was never written is never read. Neither `Places` nor
 //! `Lease` can be dropped, so a caller that forgets to give the block back does not compile.
@@ -29,7 +29,8 @@
 //! `specs/History.antt`, how its rows lie in `specs/Turned.antt`; what a pool is to its users in
 //! `specs/Pooled.antt`, how its nodes are linked in `specs/Walk.antt` and `specs/Lists.antt`.
 //!
-//! Not promised: that memory suffices.
+//! Not promised: that memory suffices. That a call but the maker takes none, and makes no test, is
+//! seen by reading.
 #![tactic(auto)]
 
 mod node;

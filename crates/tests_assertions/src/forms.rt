@@ -1,6 +1,6 @@
 //! A report as JSON and as JUnit's XML. What is wanted was written by a script in Python.
 
-use report_forms::{Provenance, json_report, junit_report};
+use report_forms::{Provenance, Refused, json_report, junit_report};
 use signals::Verdict;
 use std::alloc::{AllocError, Global};
 use std::test::Fail;
@@ -32,7 +32,7 @@ const FROM: Provenance<'static> = Provenance {
 fn a_report_is_told_as_json(rt: HostRuntime) -> Result<(), Fail> {
     let alloc = rt.alloc();
     let report = report_of(alloc)?;
-    let bytes = json_report(alloc, &FROM, &report)?;
+    let bytes = json_report(alloc, &FROM, &[], &report)?;
     let wanted = b"{\"version\":1,\"dump\":\"d.vcd\",\"text\":\"a&b.sva\",\"clocks\":3,\
         \"assertions\":[{\"name\":\"late\",\"counts\":{\"holds\":1,\"vacuous\":0,\"fails\":2,\
         \"disabled\":0,\"open\":0},\"failures\":[{\"start\":0,\"start_time\":5,\"clock\":2,\
@@ -50,7 +50,7 @@ fn a_report_is_told_as_json(rt: HostRuntime) -> Result<(), Fail> {
 fn a_report_is_told_as_xml(rt: HostRuntime) -> Result<(), Fail> {
     let alloc = rt.alloc();
     let report = report_of(alloc)?;
-    let bytes = junit_report(alloc, &FROM, &report)?;
+    let bytes = junit_report(alloc, &FROM, &[], &report)?;
     let wanted = b"<?xml version=\"1.0\" encoding=\"UTF-8\"?>\n<testsuites>\n\
         <testsuite name=\"d.vcd\" tests=\"3\" failures=\"1\" errors=\"0\" skipped=\"1\">\n\
         <properties>\n<property name=\"clocks\" value=\"3\"/>\n</properties>\n\
@@ -67,5 +67,41 @@ fn a_report_is_told_as_xml(rt: HostRuntime) -> Result<(), Fail> {
         <system-out>holds 0 vacuous 1 fails 0 disabled 1 open 0</system-out>\n</testcase>\n\
         </testsuite>\n</testsuites>\n";
     assert!(rt; bytes.as_slice() == wanted.as_slice());
+    Ok(())
+}
+
+/// What is refused of a text, a quote and an angle in it.
+const REFUSED: [Refused<'static>; 2] = [
+    Refused {
+        place: "a&b.sva:4:7",
+        reason: "Y1 UnknownName t.x",
+    },
+    Refused {
+        place: "a&b.sva:9:1",
+        reason: "L1 BadCharacter; leave out \"<\"",
+    },
+];
+
+#[test]
+fn refusals_are_told(rt: HostRuntime) -> Result<(), Fail> {
+    let alloc = rt.alloc();
+    let report = Report::new(0, Vec::new(alloc));
+    let json = json_report(alloc, &FROM, &REFUSED, &report)?;
+    let wanted = b"{\"version\":1,\"dump\":\"d.vcd\",\"text\":\"a&b.sva\",\"clocks\":0,\
+        \"assertions\":[],\"total\":{\"holds\":0,\"vacuous\":0,\"fails\":0,\"disabled\":0,\
+        \"open\":0},\"refused\":[{\"place\":\"a&b.sva:4:7\",\"reason\":\"Y1 UnknownName t.x\"},\
+        {\"place\":\"a&b.sva:9:1\",\"reason\":\"L1 BadCharacter; leave out \\\"<\\\"\"}]}";
+    assert!(rt; json.as_slice() == wanted.as_slice());
+    let junit = junit_report(alloc, &FROM, &REFUSED, &report)?;
+    let wanted = b"<?xml version=\"1.0\" encoding=\"UTF-8\"?>\n<testsuites>\n\
+        <testsuite name=\"d.vcd\" tests=\"0\" failures=\"0\" errors=\"0\" skipped=\"0\">\n\
+        <properties>\n<property name=\"clocks\" value=\"0\"/>\n</properties>\n</testsuite>\n\
+        <testsuite name=\"refused\" tests=\"2\" failures=\"0\" errors=\"2\" skipped=\"0\">\n\
+        <testcase name=\"a&amp;b.sva:4:7\" classname=\"a&amp;b.sva\">\n\
+        <error type=\"refused\" message=\"Y1 UnknownName t.x\"/>\n</testcase>\n\
+        <testcase name=\"a&amp;b.sva:9:1\" classname=\"a&amp;b.sva\">\n\
+        <error type=\"refused\" message=\"L1 BadCharacter; leave out &quot;&lt;&quot;\"/>\n\
+        </testcase>\n</testsuite>\n</testsuites>\n";
+    assert!(rt; junit.as_slice() == wanted.as_slice());
     Ok(())
 }

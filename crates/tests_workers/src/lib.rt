@@ -9,8 +9,8 @@
 //! assert!(rt; report.as_str() == "svamon 1\nclocks 1\nmonitor r holds 0 ..");
 //! ```
 //!
-//! `rt test` in this crate proves the tests and runs them; `src/told.rt` makes lines of reports and
-//! faults. The definitions that the contract of a run cites stand in `workers`, in `specs/`.
+//! `rt test` in this crate proves the tests and runs them; `src/answers.rt` makes lines of reports
+//! and faults. The definitions that the contract of a run cites stand in `workers`, in `specs/`.
 //!
 //! Not promised: that these are all reports that matter. More, by other means, are in the tables of
 //! the programs `answers_reports` and `answers_workers_core`; this crate has no public functions.
