@@ -1,7 +1,7 @@
 -- What a clause sees of rows in memory, and of what fills them.
 use Rattle.std.specs.Prelude.{ℕ, List, [], ◌∷◌, ◌++◌, map}
 use Rattle.axi4_rules.specs.declared.row.Row.{Row}
-use Rattle.axi4_rules.specs.declared.filling.Filling.{Filling}
+use Rattle.axi4_rules.specs.declared.row_values.Filling.{Filling}
 use Rattle.axi4_rules.specs.declared.form.Form.{Form}
 use Rattle.axi4_rules.specs.declared.form.Form.TheVariants.{Rule, Always, Counter}
 use Rattle.axi4_rules.specs.Rules as rules

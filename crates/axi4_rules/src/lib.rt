@@ -36,7 +36,7 @@ mod case;
 mod channels;
 mod draft;
 mod fault;
-mod filling;
+mod row_values;
 mod form;
 mod lines;
 mod lone_rows;

@@ -8,7 +8,7 @@ ghost use Rattle.axi4_rules.specs.Rows.{fills};
 ghost use Rattle.axi4_rules.specs.Wholes.{Adds};
 
 use crate::blocks::{push_ids, push_rows};
-use crate::filling::Filling;
+use crate::row_values::Filling;
 use crate::form::Form;
 use crate::lone_rows::{READ_ID_ROW, READS_ROW, WRITE_ID_ROW, WRITES_ROW};
 use crate::mode::Mode;

@@ -10,7 +10,7 @@ ghost use Rattle.axi4_rules.specs.Rows.{fills, filled_texts};
 ghost use Rattle.axi4_rules.specs.Views.{Appends};
 
 use crate::case::Case;
-use crate::filling::Filling;
+use crate::row_values::Filling;
 use crate::text::fields;
 use std::alloc::{AllocError, Global};
 

@@ -8,7 +8,7 @@ use Rattle.verdicts.specs.declared.write.ReportFault.TheVariants as reports
 use Rattle.verdicts.specs.Lines.{line}
 use Rattle.verdicts.specs.Shown.{data_of}
 use Rattle.explained_reports.specs.declared.failed_attempt.FailedAttempt.{FailedAttempt}
-use Rattle.explained_reports.specs.declared.wanted.Wanted.{Wanted}
+use Rattle.explained_reports.specs.declared.selection.Wanted.{Wanted}
 use Rattle.explained_reports.specs.ExplainedText.{IsExplainedText}
 use Rattle.report_forms.specs.Provenances.{ProvenanceData}
 use Rattle.cli_faults.specs.declared.fault.Fault.{Fault}

@@ -3,7 +3,7 @@ use Rattle.std.proofs.Common.{◌≡◌, ℕ, List, length, string_bytes, sym, s
 use Rattle.vcd_reader.specs.Dump.{Contents}
 use Rattle.verdicts.specs.Shown.{data_of}
 use Rattle.explained_reports.specs.declared.failed_attempt.FailedAttempt.{FailedAttempt}
-use Rattle.explained_reports.specs.declared.wanted.Wanted.{Wanted}
+use Rattle.explained_reports.specs.declared.selection.Wanted.{Wanted}
 use Rattle.explained_reports.specs.ExplainedText.{IsExplainedText}
 use Rattle.report_forms.specs.Provenances.{ProvenanceData}
 use Rattle.report_waves.specs.Views.{names_in, unit_in}

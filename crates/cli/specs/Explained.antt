@@ -19,7 +19,7 @@ use Rattle.report_forms.specs.Provenances.{ProvenanceData}
 use Rattle.judged_reports.specs.Reported.{Reports, rows_of}
 use Rattle.explained_reports.specs.declared.explanation.Explanation.{Explanation}
 use Rattle.explained_reports.specs.declared.failed_attempt.FailedAttempt.{FailedAttempt}
-use Rattle.explained_reports.specs.declared.wanted.Wanted.{Wanted}
+use Rattle.explained_reports.specs.declared.selection.Wanted.{Wanted}
 use Rattle.explained_reports.specs.Explained.{AreExplained}
 use Rattle.explained_reports.specs.ExplainedText.{IsExplainedText}
 use Rattle.explained_reports.specs.Told.{IsToldOf}

@@ -4,7 +4,7 @@ use Rattle.vcd_reader.specs.Dump.{Contents}
 use Rattle.verdicts.specs.Lines.{ReportData}
 use Rattle.report_forms.specs.Provenances.{ProvenanceData}
 use Rattle.explained_reports.specs.declared.failed_attempt.FailedAttempt.{FailedAttempt}
-use Rattle.explained_reports.specs.declared.wanted.Wanted.{Wanted}
+use Rattle.explained_reports.specs.declared.selection.Wanted.{Wanted}
 use Rattle.explained_reports.specs.ExplainedText.{IsExplainedText}
 use Rattle.report_waves.specs.Views.{names_in, unit_in}
 use Rattle.report_waves.specs.Saves.{IsSave}

@@ -5,7 +5,7 @@ use Rattle.std.proofs.Math.Seq.{drop-cons}
 use Rattle.std.proofs.lemmas.List.{drop_all}
 use Rattle.verdicts.specs.declared.line.Line.{Line}
 use Rattle.explained_reports.specs.declared.choices.Choice.{Choice}
-use Rattle.explained_reports.specs.declared.wanted.Wanted.{Wanted}
+use Rattle.explained_reports.specs.declared.selection.Wanted.{Wanted}
 use Rattle.explained_reports.specs.Chosen.{chosen_in, chosen_from}
 
 -- one more line

@@ -28,7 +28,7 @@ use Rattle.verdicts.specs.declared.line.Line.{Line}
 use Rattle.verdicts.specs.Lines.{LineData, line}
 use Rattle.verdicts.specs.Tallies.{fails_at, failing_at, failing_in, failing_of, end_of}
 use Rattle.explained_reports.specs.declared.choices.Choice.{Choice}
-use Rattle.explained_reports.specs.declared.wanted.Wanted.{Wanted}
+use Rattle.explained_reports.specs.declared.selection.Wanted.{Wanted}
 use Rattle.explained_reports.specs.Chosen.{is_named, begins_at, choice_at, chosen_in, chosen_from}
 use Rattle.explained_reports.specs.Failed.{HasFailed, IsOfFailed}
 use Rattle.explained_reports.specs.Explained.{IsExplained}

@@ -6,7 +6,7 @@ use Rattle.std.specs.Str.{bytes_eq}
 use Rattle.verdicts.specs.declared.line.Failure.{Failure}
 use Rattle.verdicts.specs.declared.line.Line.{Line}
 use Rattle.explained_reports.specs.declared.choices.Choice.{Choice}
-use Rattle.explained_reports.specs.declared.wanted.Wanted.{Wanted}
+use Rattle.explained_reports.specs.declared.selection.Wanted.{Wanted}
 
 -- the one name that is asked for, or any
 abbrev pub is_among_names : Option (List ℕ) → List ℕ → Bool

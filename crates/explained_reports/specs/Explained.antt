@@ -12,7 +12,7 @@ use Rattle.explaining.specs.Shown.{IsSheet}
 use Rattle.verdicts.specs.declared.line.Failure.{Failure}
 use Rattle.verdicts.specs.declared.line.Line.{Line}
 use Rattle.explained_reports.specs.declared.choices.Choice.{Choice}
-use Rattle.explained_reports.specs.declared.wanted.Wanted.{Wanted}
+use Rattle.explained_reports.specs.declared.selection.Wanted.{Wanted}
 use Rattle.explained_reports.specs.declared.explanation.Explanation.{Explanation}
 use Rattle.explained_reports.specs.declared.explanation.Reason.{Reason}
 use Rattle.explained_reports.specs.Arrows.{arrow_of}

@@ -3,7 +3,7 @@
 ghost use Rattle.std.specs.Prelude.{◌≡◌, ◌++◌, IfOk, OnOk, filter, map, take};
 ghost use Rattle.explained_reports.specs.Chosen.{begins_at, choice_at, chosen_in, chosen_from};
 
-use crate::wanted::Wanted;
+use crate::selection::Wanted;
 use std::alloc::{AllocError, Global};
 use verdicts::{Failure, Line};
 

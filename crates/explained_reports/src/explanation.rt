@@ -15,7 +15,7 @@ ghost use Rattle.explained_reports.specs.Failed.{HasFailed, IsOfFailed};
 
 use crate::arrow::{Arrow, arrow_of};
 use crate::choices::{Choice, choices_of};
-use crate::wanted::Wanted;
+use crate::selection::Wanted;
 use assertions::{Assertion, Suite};
 use explaining::{Attempt, Read, Sheet, sheet_of};
 use expressions::Rows;

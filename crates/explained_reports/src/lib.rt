@@ -28,11 +28,11 @@ mod choices;
 mod explanation;
 mod failed_attempt;
 mod text;
-mod wanted;
+mod selection;
 
 pub use arrow::Arrow;
 pub use choices::Choice;
 pub use explanation::{Explanation, Judged, Reason, explain};
 pub use failed_attempt::{FailedAttempt, Standing, told_of};
 pub use text::explained_text;
-pub use wanted::Wanted;
+pub use selection::Wanted;

@@ -33,7 +33,7 @@ mod assembling;
 mod comparing;
 mod converting;
 mod functions;
-mod known;
+mod dump_signal;
 mod lowering;
 mod measures;
 mod paths;
@@ -45,7 +45,7 @@ mod selects;
 mod term;
 mod terms;
 
-pub use known::{Known, known_signal};
+pub use dump_signal::{DumpSignal, known_signal};
 pub use paths::{is_free_word, push_path};
 pub use reason::Reason;
 pub use refused::Refused;

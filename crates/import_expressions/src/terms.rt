@@ -1,6 +1,6 @@
 //! The terms of an assertion's values.
 
-use crate::known::{Known, known_signal};
+use crate::dump_signal::{DumpSignal, known_signal};
 use crate::paths::{check_path, path_text, push_path};
 use crate::plan::Asked;
 use crate::reason::Reason;
@@ -23,7 +23,7 @@ pub struct Terms<'p, 't> {
     pub(crate) parts: &'p Parts<'t>,
     /// What stands before a path that begins with another word.
     pub(crate) scope: Option<&'p [u8]>,
-    pub(crate) widths: &'p [Known<'p>],
+    pub(crate) widths: &'p [DumpSignal<'p>],
     pub(crate) made: Vec<Term<'t>>,
     pub(crate) listed: Vec<TermId>,
     pub(crate) gates: Vec<Gate>,
@@ -46,7 +46,7 @@ impl<'p, 't> Terms<'p, 't> {
         alloc: Global,
         parts: &'p Parts<'t>,
         scope: Option<&'p [u8]>,
-        widths: &'p [Known<'p>],
+        widths: &'p [DumpSignal<'p>],
     ) -> Terms<'p, 't> {
         Terms {
             alloc,
@@ -130,7 +130,7 @@ impl<'p, 't> Terms<'p, 't> {
     }
 
     /// What is known of a signal, if something is.
-    pub(crate) fn known(&self, path: Path<'t>) -> Result<Option<Known<'p>>, Reason> {
+    pub(crate) fn known(&self, path: Path<'t>) -> Result<Option<DumpSignal<'p>>, Reason> {
         let text = path_text(self.alloc, path, self.scope)?;
         Ok(known_signal(self.widths, text.as_slice()))
     }

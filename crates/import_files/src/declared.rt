@@ -3,7 +3,7 @@
 use crate::outcome::{Cause, Remark};
 use crate::reading::Reading;
 use import_elaboration::{Parts, Shape, Type, Value, ValueId, Variable};
-use import_expressions::{Known, known_signal, push_path};
+use import_expressions::{DumpSignal, known_signal, push_path};
 use import_scopes::NoteKind;
 use std::alloc::{AllocError, Global};
 
@@ -13,7 +13,7 @@ fn signal_in<'w>(
     parts: &Parts<'_>,
     reading: &Reading<'w>,
     variable: &Variable<'_>,
-) -> Result<Option<Known<'w>>, AllocError> {
+) -> Result<Option<DumpSignal<'w>>, AllocError> {
     let Some(node) = parts.values.get(variable.value.0) else {
         return Ok(None);
     };
@@ -57,7 +57,7 @@ fn is_selected(parts: &Parts<'_>, value: ValueId) -> bool {
 fn range_cause(
     own: Type,
     range: (u32, u32),
-    known: Option<Known<'_>>,
+    known: Option<DumpSignal<'_>>,
 ) -> Option<(&'static str, &'static str)> {
     let counted = range == (own.width.saturating_sub(1), 0);
     let told = match known {

@@ -1,6 +1,6 @@
 //! What a dump says of its signals.
 
-use import_spelling::Known;
+use import_spelling::DumpSignal;
 use std::alloc::{AllocError, Global};
 use vcd_declarations::Header;
 
@@ -92,10 +92,13 @@ pub fn signals_of(alloc: Global, bytes: &[u8]) -> Result<Signals, AllocError> {
 }
 
 /// The signals as who spells expressions asks for them, in the order of their paths.
-pub fn known_of<'a>(alloc: Global, signals: &'a Signals) -> Result<Vec<Known<'a>>, AllocError> {
+pub fn known_of<'a>(
+    alloc: Global,
+    signals: &'a Signals,
+) -> Result<Vec<DumpSignal<'a>>, AllocError> {
     let mut all = Vec::new(alloc);
     for (path, bits) in signals.paths.iter().zip(signals.bits.iter()) {
-        all.push(Known {
+        all.push(DumpSignal {
             path: path.as_str().as_bytes(),
             width: bits.width,
             range: bits.range,

@@ -55,7 +55,7 @@ mod vacuity;
 
 pub use dump_signals::{Bits, Signals, known_of, signals_of};
 pub use fault::ImportFault;
-pub use import_spelling::Known;
+pub use import_spelling::DumpSignal;
 pub use messages::{messages_of, unread_line};
 pub use outcome::{Cause, Fate, Half, Imported, Marks, Missing, Outcome, Remark};
 pub use outcomes::imported;

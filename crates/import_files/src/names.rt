@@ -4,7 +4,7 @@ use crate::outcome::{Cause, Missing};
 use crate::reading::Reading;
 use diagnostics::nearest;
 use import_elaboration::{Parts, Value};
-use import_expressions::{Known, known_signal, push_path};
+use import_expressions::{DumpSignal, known_signal, push_path};
 use std::alloc::{AllocError, Global};
 
 /// How many characters of a name may be wrong.
@@ -48,7 +48,7 @@ fn lost_scope(alloc: Global, reading: &Reading<'_>) -> Result<Option<String>, Al
 }
 
 /// Whether no rule can name a signal: it has no bits, or more than 128.
-fn is_unnameable(known: Option<Known<'_>>) -> bool {
+fn is_unnameable(known: Option<DumpSignal<'_>>) -> bool {
     match known {
         Some(known) => known.width == 0 || known.width > 128,
         None => false,

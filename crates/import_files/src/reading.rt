@@ -1,6 +1,6 @@
 //! How files are read.
 
-use import_spelling::Known;
+use import_spelling::DumpSignal;
 
 /// How files are read, and what is known of the signals that they name.
 #[derive(Clone, Copy)]
@@ -12,7 +12,7 @@ pub struct Reading<'w> {
     /// The clock whose assertions are written; that of the first one where none is given.
     pub clock: Option<&'w [u8]>,
     /// The signals of a dump, in the order of their whole paths; none where no dump is given.
-    pub widths: &'w [Known<'w>],
+    pub widths: &'w [DumpSignal<'w>],
     /// The paths of these, in any order.
     pub names: &'w [String],
     /// Whether an assertion of two properties that is too heavy is written as two.

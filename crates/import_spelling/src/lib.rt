@@ -27,5 +27,5 @@ mod spelling;
 mod writer;
 mod writing;
 
-pub use import_expressions::{Known, Reason, Refused};
+pub use import_expressions::{DumpSignal, Reason, Refused};
 pub use spelling::Spelling;

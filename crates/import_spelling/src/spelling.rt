@@ -1,7 +1,7 @@
 //! What is spelled.
 
 use import_elaboration::Parts;
-use import_expressions::{Known, Terms};
+use import_expressions::{DumpSignal, Terms};
 use std::alloc::Global;
 
 /// Spells the expressions and assertions of an opening, one after another.
@@ -23,7 +23,7 @@ impl<'p, 't> Spelling<'p, 't> {
         alloc: Global,
         parts: &'p Parts<'t>,
         scope: Option<&'p [u8]>,
-        widths: &'p [Known<'p>],
+        widths: &'p [DumpSignal<'p>],
     ) -> Spelling<'p, 't> {
         Spelling {
             alloc,

@@ -5,7 +5,7 @@ use Rattle.parser_grammar.specs.declared.bound.Bound.{Bound}
 use Rattle.parser_grammar.specs.declared.bound.Range.{Range}
 use Rattle.parser_grammar.specs.declared.bound.Select.{Select}
 use Rattle.parser_grammar.specs.declared.terminal.Terminal.{Terminal}
-use Rattle.parser_grammar.specs.Terminals.{is_name, is_word, is, is_first_match}
+use Rattle.parser_grammar.specs.Terminals.{is_name, is_word, is, is_first_match_word}
 use Rattle.parser_grammar.specs.Bounds.{index, bound_within}
 use Rattle.parser_grammar.specs.Operators.{infix_of, implication_of}
 use Rattle.parser_grammar.specs.Marks.{mark, precedence}
@@ -187,7 +187,7 @@ module _ (lies : ℕ → ℕ × ℕ) where
 
   property-moved : {d : ℕ} {p : PropertyForm} {ts rest : Tokens} → IsProperty d p ts rest
       → IsProperty d (moved_property lies p) (moved_all ts) (moved_all rest)
-  unfolding implication_of is is_first_match
+  unfolding implication_of is is_first_match_word
   property-moved (is_plain s) = is_plain (sequence-moved s)
   property-moved (is_implication h a c) = is_implication h (sequence-moved a) (sequence-moved c)
   property-moved (is_first w o a r h c) = is_first w o (sequence-moved a) r h (sequence-moved c)

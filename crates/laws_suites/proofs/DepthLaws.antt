@@ -32,7 +32,7 @@ use Rattle.types_names.specs.declared.operator.Unary.{Unary}
 use Rattle.types_names.specs.declared.operator.Unary.TheVariants as unaries
 use Rattle.types_names.specs.Scopes.{Scope, meaning, path_text}
 use Rattle.types_names.specs.Columns.{column_of}
-use Rattle.types_names.specs.Width.{binary_of, unary_of, call_of, ticks_of}
+use Rattle.types_names.specs.Width.{binary_of, unary_of, call_of, ticks_before}
 use Rattle.types_expressions.specs.Meanings.{binary_term, unary_term, call_term, IsReference, Means, Chains, Joins}
 use Rattle.types_expressions.specs.Meanings.{JoinsMore}
 use Rattle.compiler_expressions.specs.Laws.{EachPart}
@@ -210,7 +210,7 @@ bound-most : (most : ℕ) (t : Token) (b : Bound) → bound_within 1 most t ≡ 
 unfolding bound_within
 bound-most most t b h = kind-most most t.at t.kind b h
 
-ticks-most : {n : Option Bound} {ts rest : List Token} → IsTicks n ts rest → ticks_of n ≤ 64
+ticks-most : {n : Option Bound} {ts rest : List Token} → IsTicks n ts rest → ticks_before n ≤ 64
 ticks-most one_tick = omega arith
 ticks-most (some_ticks {n = n} {b = b} k h) = bound-most 64 n b h
 
@@ -305,8 +305,8 @@ module _ (s : Scope) (columns : List (List ℕ)) where
         (joined-more d a b (joined-first d a (spells-open first a is.1)) (spells-open second b is.2.1)) e is.2.2
     operand-fits (in_brackets {d = d} m inner c) low e is = in-round 0 d e (spells-open inner e is)
     operand-fits (is_past {d = d} {ticks = ticks} m o inner n c) low e is =
-        fits-as 0 (suc d) e (terms.past is.0 (ticks_of ticks)) is.2
-        (past-fits d (ticks_of ticks) is.0 (ticks-most n) (spells-open inner is.0 is.1))
+        fits-as 0 (suc d) e (terms.past is.0 (ticks_before ticks)) is.2
+        (past-fits d (ticks_before ticks) is.0 (ticks-most n) (spells-open inner is.0 is.1))
     operand-fits (is_call {d = d} {g = g} m o inner c) low e is =
         fits-as 0 (suc d) e (call_term (call_of g) is.0) is.2 (call-fits g d is.0 (spells-open inner is.0 is.1))
     operand-fits (is_unary {d = d} {op = op} m inner) low e is =

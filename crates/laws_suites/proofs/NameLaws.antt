@@ -30,7 +30,7 @@ use Rattle.types_names.specs.declared.operator.Call.TheVariants as calls
 use Rattle.types_names.specs.Scopes.{Scope, path_text, meaning, meaning_by, look_up}
 use Rattle.types_names.specs.Scopes.{owns_from, width_in}
 use Rattle.types_names.specs.Columns.{column_of}
-use Rattle.types_names.specs.Width.{binary_of, unary_of, call_of, ticks_of}
+use Rattle.types_names.specs.Width.{binary_of, unary_of, call_of, ticks_before}
 use Rattle.types_expressions.specs.Meanings.{binary_term, unary_term, call_term, IsName, IsNameOf}
 use Rattle.types_expressions.specs.Meanings.{IsReference, Means, Chains, Joins, JoinsMore}
 use Rattle.types_suites.specs.Texts.{counters_of}
@@ -208,7 +208,7 @@ module _ (s : Scope) (cs : List (List ℕ)) where
       means_named (concatenation t d parts) e h =
           joins_named h.0 parts e (means_named d h.0 h.1) h.2
       means_named (past t d n) e h =
-          moved (terms.past h.0 (ticks_of n)) e h.2 (tt, means_named d h.0 h.1)
+          moved (terms.past h.0 (ticks_before n)) e h.2 (tt, means_named d h.0 h.1)
       means_named (call f t d) e h =
           moved (call_term (call_of f) h.0) e h.2
           (call_named (call_of f) h.0 (means_named d h.0 h.1))

@@ -25,7 +25,7 @@ use Rattle.types_names.specs.declared.operator.Call.{Call}
 use Rattle.types_names.specs.declared.operator.Call.TheVariants as calls
 use Rattle.types_names.specs.Scopes.{Scope, path_text, meaning}
 use Rattle.types_names.specs.Columns.{column_of}
-use Rattle.types_names.specs.Width.{binary_of, unary_of, call_of, ticks_of}
+use Rattle.types_names.specs.Width.{binary_of, unary_of, call_of, ticks_before}
 use Rattle.types_expressions.specs.Meanings.{binary_term, unary_term, call_term, IsNameOf, IsReference}
 use Rattle.types_expressions.specs.Meanings.{Means, Chains, Joins, JoinsMore}
 use Rattle.compiler_expressions.specs.Laws.{EachPart, IsNoChange, size}

@@ -54,7 +54,7 @@ use Rattle.compiler.proofs.ListLaws.{some-one}
 use Rattle.laws_compiler.specs.Laws.{AreSuiteRows, picked_row}
 use Rattle.laws_compiler.proofs.Samples as made
 use Rattle.laws_compiler.proofs.Decides as decides
-use Rattle.workers_core.specs.States.{MonitorState, BatchState, place}
+use Rattle.workers_core.specs.States.{MonitorState, BatchState, monitor_clock}
 use Rattle.workers_core.specs.Jobs.{sampled}
 use Rattle.workers_core.specs.Values.{CoreValue, rows_over}
 use Rattle.workers_core.specs.Following.{FollowsMachine}
@@ -211,9 +211,9 @@ as-meant v c follows number p is suite a of rows read verdict_at are =
       live = λ m at here.
           let one : run.monitor ≡ m = some-one run.monitor m (sym run.at ∙ at) in
           let program : m.program ≡ p = ap (λ (x : MonitorState). x.program) (sym one) ∙ run.is in
-          live-is suite a p of rows read.fit accepted verdict_at are (place m) m.state here
-          (ap (λ (rs : List (List ℕ)). clocks p (opening p) (take (place m) rs)) (sym own)
-          ∙ ap (λ (x : ProgramData). clocks x (opening x) (take (place m) (rows_over v.job c x)))
+          live-is suite a p of rows read.fit accepted verdict_at are (monitor_clock m) m.state here
+          (ap (λ (rs : List (List ℕ)). clocks p (opening p) (take (monitor_clock m) rs)) (sym own)
+          ∙ ap (λ (x : ProgramData). clocks x (opening x) (take (monitor_clock m) (rows_over v.job c x)))
           (sym program)
           ∙ follows.monitors number m at);
     }

@@ -9,7 +9,7 @@ use Rattle.workers_core.specs.States.{
   MonitorState,
   BatchState,
   Setting,
-  place,
+  monitor_clock,
   monitor_moved,
   monitor_cleared,
   batch,
@@ -18,8 +18,8 @@ use Rattle.laws_workers.specs.Rounds.{IsWaiting, further}
 
 -- it runs from one clock to the other
 pub record Goes (g : Setting) (a b k : ℕ) (m : MonitorState) : Type 0 where
-  pub now : place m ≡ a
-  pub to : place (further g k m) ≡ b
+  pub now : monitor_clock m ≡ a
+  pub to : monitor_clock (further g k m) ≡ b
 
 module _ (g : Setting) (a b k : ℕ) (m : MonitorState) (h : IsWaiting g a m) (all : a + k ≡ b)
     (inside : b ≤ g.clocks) where
@@ -39,7 +39,7 @@ module _ (g : Setting) (a b k : ℕ) (m : MonitorState) (h : IsWaiting g a m) (a
       }
 
   -- the rows that it runs over
-  over-is : rows_between rows (place m) (place m + k) ≡ rows_between rows a b
+  over-is : rows_between rows (monitor_clock m) (monitor_clock m + k) ≡ rows_between rows a b
   over-is =
       ap (λ (n : ℕ). rows_between rows n (n + k)) h.now ∙ ap (λ (n : ℕ). rows_between rows a n) all
 
@@ -48,7 +48,7 @@ module _ (g : Setting) (a b k : ℕ) (m : MonitorState) (h : IsWaiting g a m) (a
       ap (λ (over : List (List ℕ)). monitor_moved m (run_from m.program m.state over)) over-is
       ∙ ap (monitor_moved m) ran.ran
 
-  new-now : place new ≡ b
+  new-now : monitor_clock new ≡ b
   new-now =
       let long : length (rows_between rows a b) ≡ b - a =
       length-between rows a b (omega (arith, all)) (omega (arith, inside, h.rows)) in
@@ -59,7 +59,7 @@ module _ (g : Setting) (a b k : ℕ) (m : MonitorState) (h : IsWaiting g a m) (a
       come-to m.program rows a b m.state ran.outcome.state ran.outcome.decided h.state ran.ran
 
   pub goes : Goes g a b k m
-  goes = record { now = h.now; to = ap place further-is ∙ new-now }
+  goes = record { now = h.now; to = ap monitor_clock further-is ∙ new-now }
 
   new-waits : IsWaiting g b (monitor_cleared new)
   new-waits =
@@ -84,7 +84,7 @@ module _ (g : Setting) (a b k : ℕ) (m : MonitorState) (h : IsWaiting g a m) (a
   batch-is i =
       let here = m.decided ++ ran.outcome.decided in
       ap (batch i) further-is
-      ∙ ap (λ (n : ℕ). told i n (place new) here) h.since
+      ∙ ap (λ (n : ℕ). told i n (monitor_clock new) here) h.since
       ∙ ap (λ (n : ℕ). told i a n here) new-now
       ∙ ap (λ (ds : List Decided). told i a b (ds ++ ran.outcome.decided)) h.told
       ∙ ap (told i a b) (sym (ap decided_in come.ran))

@@ -5,7 +5,7 @@ use Rattle.std.specs.Prelude.{slice_get, ◌&&◌, ◌==◌, nat_lt, option_and_
 use Rattle.std.specs.List.{list_all, range_with_len}
 use Rattle.std.proofs.lemmas.List.{length-map, length-replicate}
 use Rattle.workers_core.specs.declared.step.Step.TheVariants as steps
-use Rattle.workers_core.specs.States.{CoreState, WorkerState, MonitorState, Setting, place, is_at, is_idle}
+use Rattle.workers_core.specs.States.{CoreState, WorkerState, MonitorState, Setting, monitor_clock, is_at, is_idle}
 use Rattle.workers_core.specs.States.{is_free, monitor_cleared, put_done, emptied, next_slide, next_gather}
 use Rattle.laws_workers.specs.Steps.{state_after, turns, working_steps, round_steps, owned_by, owned_lists}
 use Rattle.laws_workers.specs.Rounds.{IsWaiting, IsAtRest, AreOwners, with_done, next_end, next_clocks}
@@ -29,8 +29,8 @@ all-at : (g : Setting) (t : ℕ) (ms : List MonitorState)
     → list_all (is_at t) ms ≡ true
 all-at g t [] h = refl
 all-at g t (m ∷ ms) h =
-    let here : place m ≡ t = (h 0 m refl).now in
-    let one : (place m == t) ≡ true = grind (arith, here) in
+    let here : monitor_clock m ≡ t = (h 0 m refl).now in
+    let one : (monitor_clock m == t) ≡ true = grind (arith, here) in
     ap (λ (b : Bool). b && list_all (is_at t) ms) one ∙ all-at g t ms (λ i x is. h (suc i) x is)
 
 module _ (g : Setting) (n : ℕ) (owners : List ℕ) (s : CoreState) (h : IsAtRest g n s)

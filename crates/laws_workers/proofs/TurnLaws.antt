@@ -13,7 +13,7 @@ use Rattle.workers_core.specs.States.{
   MonitorState,
   BatchState,
   Setting,
-  place,
+  monitor_clock,
   is_free_one,
   is_below,
   hand_of,
@@ -138,7 +138,7 @@ module _ (g : Setting) (a b k n v low : ℕ) (before : List MonitorState) (m : M
 
   claims : next_claim start v ≡ Some held_one
   claims =
-      let less : nat_lt (place m) b ≡ true = grind (arith, h.now, some) in
+      let less : nat_lt (monitor_clock m) b ≡ true = grind (arith, h.now, some) in
       claimed start v low waiting holding refl (ap is_free_one there)
       (ap (is_below b) here ∙ less)
       (ap (λ (w : Option WorkerState).

@@ -18,7 +18,7 @@ use Rattle.assertions.specs.Reads.{Reads}
 use Rattle.laws_automata.specs.Laws.{fallen, open_starts, starts_of}
 use Rattle.compiler.specs.Programs.{IsProgramOf}
 use Rattle.laws_compiler.specs.Laws.{AreSuiteRows}
-use Rattle.workers_core.specs.States.{MonitorState, BatchState, place}
+use Rattle.workers_core.specs.States.{MonitorState, BatchState, monitor_clock}
 use Rattle.workers_core.specs.Values.{CoreValue}
 
 -- the verdict of each attempt of an assertion over these rows: c is the tick at which it begins
@@ -38,7 +38,7 @@ pub record PublishesVerdicts (v : CoreValue) (number count : ℕ) (verdict : ℕ
   pub batches : (n : ℕ) (b : BatchState) → slice_get v.state.board n ≡ Some b →
       b.monitor ≡ number → b.decided ≡ fallen_between verdict count b.first b.end
   pub live : (m : MonitorState) → slice_get v.state.monitors number ≡ Some m →
-      place m ≡ count → starts_of m.state.standing.attempts ≡ open_starts verdict count
+      monitor_clock m ≡ count → starts_of m.state.standing.attempts ≡ open_starts verdict count
 
 -- The path of the signal names a variable, of which the rows have at this place what is sampled at
 -- each tick of the clock.

@@ -7,7 +7,7 @@ use Rattle.machine_definition.specs.Outcomes.{done}
 use Rattle.machine_definition.specs.Machine.{opening, clocks}
 use Rattle.machine_decisions.specs.Batches.{batch_of}
 use Rattle.workers_core.specs.States.{MonitorState, WorkerState, BatchState, CoreState, Setting}
-use Rattle.workers_core.specs.States.{place, advanced, monitor_cleared, batch}
+use Rattle.workers_core.specs.States.{monitor_clock, advanced, monitor_cleared, batch}
 use Rattle.laws_workers.specs.Steps.{owned_lists}
 
 -- The monitor stands at this clock with nothing to publish. Its program is accepted by the
@@ -16,7 +16,7 @@ use Rattle.laws_workers.specs.Steps.{owned_lists}
 pub record IsWaiting (g : Setting) (clock : ℕ) (m : MonitorState) : Type 0 where
   pub accepted : IsAccepted m.program
   pub rows : length (g.rows m.program) ≡ g.clocks
-  pub now : place m ≡ clock
+  pub now : monitor_clock m ≡ clock
   pub since : m.since ≡ clock
   pub told : m.decided ≡ []
   pub state : clocks m.program (opening m.program) (take clock (g.rows m.program))

@@ -11,10 +11,10 @@ use Rattle.lexer.specs.declared.scan.Next.{Next}
 use Rattle.lexer.specs.declared.scan.Next.TheVariants.{Gap, Lexeme, Unclosed, Stray}
 use Rattle.lexer.specs.declared.fault.LexFault.{LexFault}
 use Rattle.lexer.specs.declared.fault.LexFault.TheVariants.{BadCharacter, BadNumber, UnclosedComment, Memory}
-use Rattle.lexer.specs.Lexemes.{shape_of, or_shorter, longest_from, longest}
-use Rattle.lexer.specs.Runs.{run}
+use Rattle.lexer.specs.Lexemes.{shape_of, or_shorter, longest_from, longest_lexeme}
+use Rattle.lexer.specs.Runs.{run_length}
 use Rattle.lexer.specs.Cutting.{Cut, kind_of, is_space, stays_on_line, begins_with, comment_end, comment_gap}
-use Rattle.lexer.specs.Cutting.{next_lexeme, next, with_cut, with_token, cut_after, cuts, tokens_of}
+use Rattle.lexer.specs.Cutting.{next_lexeme, next_token, with_cut, with_token, cut_after, cuts, tokens_of}
 use Rattle.lexer.specs.Covering.{EndsLine, BeginsWith, HasNoClose, HasFirstClose, IsGap, white, to_line_end, to_close}
 use Rattle.lexer.specs.Covering.{shape_of_text, IsLongest, HasNoToken, HasNoGap, IsCut, at_end, over_gap, over_token}
 use Rattle.lexer.specs.Covering.{IsFaulty, behind_gap, behind_token, bad_character, bad_number, unclosed, IsLexFault}
@@ -37,13 +37,13 @@ pair-not a b c [] h w = w
 pair-not a b c (d ∷ bs) h w = let k = rw (eq-eqb c a w.0, eq-eqb d b w.1) at h in cc
 
 -- lines
-run-take : (p : ℕ → Bool) (bs : List ℕ) → list_all p (take (run p bs) bs) ≡ true
-unfolding run
+run-take : (p : ℕ → Bool) (bs : List ℕ) → list_all p (take (run_length p bs) bs) ≡ true
+unfolding run_length
 run-take p [] = refl
 run-take p (b ∷ bs) = elim (tells (p b)) [ inl h ↦ rw (h, h) (run-take p bs) | inr h ↦ rw h refl ]
 
-run-ends : (bs : List ℕ) → EndsLine (drop (run stays_on_line bs) bs)
-unfolding run
+run-ends : (bs : List ℕ) → EndsLine (drop (run_length stays_on_line bs) bs)
+unfolding run_length
 run-ends [] = tt
 run-ends (b ∷ bs) =
     elim (tells (eqb b 10)) [
@@ -210,18 +210,19 @@ IsNext bytes (Lexeme n s) = HasNoGap bytes × IsLongest bytes n s
 IsNext bytes Unclosed = BeginsWith 47 42 bytes × HasNoClose (drop 2 bytes)
 IsNext bytes Stray = (0 < length bytes) × HasNoGap bytes × HasNoToken bytes
 
-next-line : (b : ℕ) (bs : List ℕ) → BeginsWith 47 47 (b ∷ bs) → IsNext (b ∷ bs) (Gap (suc (run stays_on_line bs)))
-unfolding run
+next-line : (b : ℕ) (bs : List ℕ) → BeginsWith 47 47 (b ∷ bs)
+    → IsNext (b ∷ bs) (Gap (suc (run_length stays_on_line bs)))
+unfolding run_length
 next-line b [] w = absurd w
 next-line b (c ∷ bs) w =
-    let second : run stays_on_line (c ∷ bs) ≡ suc (run stays_on_line bs) = rw w.1 refl in
-    let front : (b ∷ c ∷ take (run stays_on_line bs) bs) ≡ (47 ∷ 47 ∷ take (run stays_on_line bs) bs) =
-    ap (λ (x : ℕ). x ∷ c ∷ take (run stays_on_line bs) bs) w.0
-    ∙ ap (λ (x : ℕ). 47 ∷ x ∷ take (run stays_on_line bs) bs) w.1 in
+    let second : run_length stays_on_line (c ∷ bs) ≡ suc (run_length stays_on_line bs) = rw w.1 refl in
+    let front : (b ∷ c ∷ take (run_length stays_on_line bs) bs) ≡ (47 ∷ 47 ∷ take (run_length stays_on_line bs) bs) =
+    ap (λ (x : ℕ). x ∷ c ∷ take (run_length stays_on_line bs) bs) w.0
+    ∙ ap (λ (x : ℕ). 47 ∷ x ∷ take (run_length stays_on_line bs) bs) w.1 in
     subst (λ (n : ℕ). IsNext (b ∷ c ∷ bs) (Gap (suc n))) (sym second) (
       omega arith,
       omega (arith, run-le stays_on_line bs),
-      subst (λ (xs : List ℕ). IsGap xs (drop (run stays_on_line bs) bs)) (sym front)
+      subst (λ (xs : List ℕ). IsGap xs (drop (run_length stays_on_line bs) bs)) (sym front)
           (to_line_end (run-take stays_on_line bs) (run-ends bs)),
     )
 
@@ -245,8 +246,8 @@ next-comment b (c ∷ bs) w = by_end (comment_end bs) refl
     by_end None e = (w, comment-open bs e)
     by_end (Some n) e = comment-gap b c n bs w.0 w.1 (comment-closes bs n e)
 
-next-found : (b : ℕ) (bs : List ℕ) → HasNoGap (b ∷ bs) → IsNext (b ∷ bs) (next_lexeme (longest b bs))
-unfolding longest
+next-found : (b : ℕ) (bs : List ℕ) → HasNoGap (b ∷ bs) → IsNext (b ∷ bs) (next_lexeme (longest_lexeme b bs))
+unfolding longest_lexeme
 next-found b bs apart = by_token (longest_from b bs (length bs)) refl
   where
     by_token : (o : Option (ℕ × Shape)) → longest_from b bs (length bs) ≡ o → IsNext (b ∷ bs) (next_lexeme o)
@@ -266,8 +267,8 @@ no_gap b bs h k l = record {
   no_space = λ c cs e. let same : b ≡ c = cc in subst (λ (x : ℕ). is_space x ≡ false) same h;
 }
 
-pub next-is : (b : ℕ) (bs : List ℕ) → IsNext (b ∷ bs) (next b bs)
-unfolding next
+pub next-is : (b : ℕ) (bs : List ℕ) → IsNext (b ∷ bs) (next_token b bs)
+unfolding next_token
 next-is b bs =
     elim (tells (is_space b)) [
       | inl h ↦ rw h (omega arith, omega arith, white h)
@@ -326,7 +327,7 @@ cuts-answer zero at [] le = at_end
 cuts-answer (suc turns) at [] le = at_end
 cuts-answer zero at (b ∷ bs) le = absurd (omega arith)
 cuts-answer (suc turns) at (b ∷ bs) le =
-    answer-after at (b ∷ bs) (next b bs) (λ n. cuts turns (at + n) (drop n (b ∷ bs))) (next-is b bs)
+    answer-after at (b ∷ bs) (next_token b bs) (λ n. cuts turns (at + n) (drop n (b ∷ bs))) (next-is b bs)
     (λ n some inside. cuts-answer turns (at + n) (drop n (b ∷ bs)) (omega (arith, length-drop n (b ∷ bs))))
 
 answer : (bytes : List ℕ) → IsAnswer 0 bytes (tokens_of bytes)

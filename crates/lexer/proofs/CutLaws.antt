@@ -10,10 +10,10 @@ use Rattle.lexer.specs.declared.token.Token.{Token}
 use Rattle.lexer.specs.declared.scan.Next.{Next}
 use Rattle.lexer.specs.declared.scan.Next.TheVariants.{Gap, Lexeme, Unclosed, Stray}
 use Rattle.lexer.specs.declared.fault.LexFault.{LexFault}
-use Rattle.lexer.specs.Lexemes.{longest}
-use Rattle.lexer.specs.Runs.{run}
+use Rattle.lexer.specs.Lexemes.{longest_lexeme}
+use Rattle.lexer.specs.Runs.{run_length}
 use Rattle.lexer.specs.Cutting.{Cut, cut_of, is_space, stays_on_line, begins_with, comment_end, comment_gap}
-use Rattle.lexer.specs.Cutting.{next_lexeme, next, with_cut, with_token, kind_of, end_at, cut_after, cuts}
+use Rattle.lexer.specs.Cutting.{next_lexeme, next_token, with_cut, with_token, kind_of, end_at, cut_after, cuts}
 
 order : (a b : ℕ) → (a < b) ⊎ (b ≤ a)
 order zero zero = inr (omega arith)
@@ -108,7 +108,7 @@ cuts-end (suc turns) at bs e = rw e refl
 
 -- one turn
 pub cuts-turn : (turns at : ℕ) (bytes : List ℕ) (x : Next) → at < length bytes → length (drop at bytes) ≤ turns
-    → x ≡ next (get_or bytes at 0) (drop (at + 1) bytes)
+    → x ≡ next_token (get_or bytes at 0) (drop (at + 1) bytes)
     → cuts turns at (drop at bytes)
     ≡ cut_after x at (drop at bytes) (λ n. cuts (turns - 1) (at + n) (drop (at + n) bytes))
 unfolding cuts
@@ -134,32 +134,32 @@ cuts-turn (suc turns) at bytes x lt le e =
 
 -- what comes next
 module _ (bytes : List ℕ) (at : ℕ) where
-  pub next-space : true ≡ is_space (get_or bytes at 0) → next (get_or bytes at 0) (drop (at + 1) bytes) ≡ Gap 1
-  unfolding next
+  pub next-space : true ≡ is_space (get_or bytes at 0) → next_token (get_or bytes at 0) (drop (at + 1) bytes) ≡ Gap 1
+  unfolding next_token
   next-space h = rw (← h) refl
 
   abbrev pair : ℕ → Bool
   pair c = eqb (get_or bytes at 0) 47 && begins_with c (drop (at + 1) bytes)
 
   module _ (h : false ≡ is_space (get_or bytes at 0)) where
-    pub next-line : true ≡ pair 47 → next (get_or bytes at 0) (drop (at + 1) bytes)
-        ≡ Gap (suc (run stays_on_line (drop (at + 1) bytes)))
-    unfolding next
+    pub next-line : true ≡ pair 47 → next_token (get_or bytes at 0) (drop (at + 1) bytes)
+        ≡ Gap (suc (run_length stays_on_line (drop (at + 1) bytes)))
+    unfolding next_token
     next-line k = rw (← h, ← k) refl
 
     module _ (no_line : false ≡ pair 47) where
-      pub next-comment : true ≡ pair 42 → next (get_or bytes at 0) (drop (at + 1) bytes)
+      pub next-comment : true ≡ pair 42 → next_token (get_or bytes at 0) (drop (at + 1) bytes)
           ≡ comment_gap (comment_end (drop (at + 2) bytes))
-      unfolding next
+      unfolding next_token
       next-comment k =
           let two : at + 1 + 1 ≡ at + 2 = omega arith in
           rw (← h, ← no_line, ← k)
           (ap (λ (bs : List ℕ). comment_gap (comment_end bs))
           (drop-drop bytes (at + 1) 1 ∙ ap (λ (i : ℕ). drop i bytes) two))
 
-      pub next-token : false ≡ pair 42 → next (get_or bytes at 0) (drop (at + 1) bytes)
-          ≡ next_lexeme (longest (get_or bytes at 0) (drop (at + 1) bytes))
-      unfolding next
+      pub next-token : false ≡ pair 42 → next_token (get_or bytes at 0) (drop (at + 1) bytes)
+          ≡ next_lexeme (longest_lexeme (get_or bytes at 0) (drop (at + 1) bytes))
+      unfolding next_token
       next-token k = rw (← h, ← no_line, ← k) refl
 
 pub ruleset cutting = (comment-none, next-space, begins_with-is)

@@ -11,40 +11,42 @@ use Rattle.lexer.specs.declared.piece.Shape.{Shape}
 use Rattle.lexer.specs.declared.piece.Shape.TheVariants as shape
 use Rattle.lexer.specs.Lexemes.{is_digit, is_letter, is_word_part, is_system_part, is_digit_part, is_based_digit}
 use Rattle.lexer.specs.Lexemes.{is_based_part, base_of, digits_tail, base_tail, size_tail, symbol_of, symbol_shape}
-use Rattle.lexer.specs.Lexemes.{one_symbol, two_symbol, three_symbol, when, shape_of, or_shorter, longest_from, longest}
+use Rattle.lexer.specs.Lexemes.{one_symbol, two_symbol, three_symbol, when, shape_of, or_shorter, longest_from}
+use Rattle.lexer.specs.Lexemes.{longest_lexeme}
 use Rattle.lexer.specs.declared.token.Base.{Base}
-use Rattle.lexer.specs.Runs.{run, digits_len, base_len, with_quote, size_len}
+use Rattle.lexer.specs.Runs.{run_length, digits_len, base_len, with_quote, size_len}
 
 pub tells : (b : Bool) → (b ≡ true) ⊎ (b ≡ false)
 tells true = inl refl
 tells false = inr refl
 
-passes : (p : ℕ → Bool) (b : ℕ) (bs : List ℕ) (x : Bool) → p b ≡ x → run p (b ∷ bs) ≡ cond x (suc (run p bs)) 0
-unfolding run
+passes : (p : ℕ → Bool) (b : ℕ) (bs : List ℕ) (x : Bool) → p b ≡ x
+    → run_length p (b ∷ bs) ≡ cond x (suc (run_length p bs)) 0
+unfolding run_length
 passes p b bs x e = rw e refl
 
 pub run-step : (p : ℕ → Bool) (bytes : List ℕ) (i : ℕ) → i < length bytes → p (get_or bytes i 0) ≡ true
-    → run p (drop i bytes) ≡ suc (run p (drop (i + 1) bytes))
-unfolding run
+    → run_length p (drop i bytes) ≡ suc (run_length p (drop (i + 1) bytes))
+unfolding run_length
 run-step p bytes i lt h = rw (drop-cons bytes i 0 lt, h, add-one) refl
 
 pub run-stop : (p : ℕ → Bool) (bytes : List ℕ) (i : ℕ) → i < length bytes → p (get_or bytes i 0) ≡ false
-    → run p (drop i bytes) ≡ 0
-unfolding run
+    → run_length p (drop i bytes) ≡ 0
+unfolding run_length
 run-stop p bytes i lt h = rw (drop-cons bytes i 0 lt, h) refl
 
-pub run-none : (p : ℕ → Bool) (bs : List ℕ) → bs ≡ [] → run p bs ≡ 0
-unfolding run
+pub run-none : (p : ℕ → Bool) (bs : List ℕ) → bs ≡ [] → run_length p bs ≡ 0
+unfolding run_length
 run-none p bs e = rw e refl
 
-pub run-le : (p : ℕ → Bool) (bs : List ℕ) → run p bs ≤ length bs
-unfolding run
+pub run-le : (p : ℕ → Bool) (bs : List ℕ) → run_length p bs ≤ length bs
+unfolding run_length
 run-le p [] = omega arith
 run-le p (b ∷ bs) = elim (tells (p b)) [ inl h ↦ rw h (omega (arith, run-le p bs)) | inr h ↦ rw h (omega arith) ]
 
 -- whether all of the first j pass is whether the run is that long
-all-take : (p : ℕ → Bool) (bs : List ℕ) (j : ℕ) → j ≤ length bs → list_all p (take j bs) ≡ leb j (run p bs)
-all-take p bs zero h = sym (le-leb 0 (run p bs) (omega arith))
+all-take : (p : ℕ → Bool) (bs : List ℕ) (j : ℕ) → j ≤ length bs → list_all p (take j bs) ≡ leb j (run_length p bs)
+all-take p bs zero h = sym (le-leb 0 (run_length p bs) (omega arith))
 all-take p [] (suc j) h = absurd (omega arith)
 all-take p (b ∷ bs) (suc j) h =
     elim (tells (p b)) [
@@ -59,23 +61,24 @@ order (suc a) (suc b) = elim (order a b) [ inl h ↦ inl (omega arith) | inr h �
 
 module _ (b : ℕ) (bs : List ℕ) (p : ℕ → Bool) (s : Shape)
     (kind : (ts : List ℕ) → shape_of b ts ≡ when (list_all p ts) s) where
-  longest_from-run : (n : ℕ) → n ≤ length bs → run p bs ≤ n → longest_from b bs n ≡ Some (suc (run p bs), s)
+  longest_from-run : (n : ℕ) → n ≤ length bs → run_length p bs ≤ n
+      → longest_from b bs n ≡ Some (suc (run_length p bs), s)
   unfolding longest_from
   longest_from-run zero le h =
-      let none : run p bs ≡ 0 = omega arith in
+      let none : run_length p bs ≡ 0 = omega arith in
       rw (kind []) (ap (λ (n : ℕ). Some (suc n, s)) (sym none))
   longest_from-run (suc n) le h =
-      elim (order (suc n) (run p bs)) [
+      elim (order (suc n) (run_length p bs)) [
         | inl up ↦
-            let whole : run p bs ≡ suc n = omega arith in
-            rw (kind (take (suc n) bs), all-take p bs (suc n) le, le-leb (suc n) (run p bs) up)
+            let whole : run_length p bs ≡ suc n = omega arith in
+            rw (kind (take (suc n) bs), all-take p bs (suc n) le, le-leb (suc n) (run_length p bs) up)
             (ap (λ (m : ℕ). Some (suc m, s)) (sym whole))
-        | inr down ↦ rw (kind (take (suc n) bs), all-take p bs (suc n) le, lt-leb (suc n) (run p bs) down)
+        | inr down ↦ rw (kind (take (suc n) bs), all-take p bs (suc n) le, lt-leb (suc n) (run_length p bs) down)
             (longest_from-run n (omega arith) (omega arith))
       ]
 
-  pub longest-run : longest b bs ≡ Some (suc (run p bs), s)
-  unfolding longest
+  pub longest-run : longest_lexeme b bs ≡ Some (suc (run_length p bs), s)
+  unfolding longest_lexeme
   longest-run = longest_from-run (length bs) (omega arith) (run-le p bs)
 
 word : (b : ℕ) → is_letter b ≡ true → (ts : List ℕ) → shape_of b ts ≡ when (list_all is_word_part ts) shape.Word
@@ -83,7 +86,7 @@ unfolding shape_of
 word b h ts = rw h refl
 
 pub longest-word : (b : ℕ) (bs : List ℕ) → is_letter b ≡ true
-    → longest b bs ≡ Some (suc (run is_word_part bs), shape.Word)
+    → longest_lexeme b bs ≡ Some (suc (run_length is_word_part bs), shape.Word)
 longest-word b bs h = longest-run b bs is_word_part shape.Word (word b h)
 
 system : (b : ℕ) → is_letter b ≡ false → eqb b 36 ≡ true → (ts : List ℕ)
@@ -92,7 +95,7 @@ unfolding shape_of
 system b h k ts = rw (h, k) refl
 
 pub longest-system : (b : ℕ) (bs : List ℕ) → is_letter b ≡ false → eqb b 36 ≡ true
-    → longest b bs ≡ Some (suc (run is_system_part bs), shape.System)
+    → longest_lexeme b bs ≡ Some (suc (run_length is_system_part bs), shape.System)
 longest-system b bs h k = longest-run b bs is_system_part shape.System (system b h k)
 
 -- The longest that is something, if that many bytes are, and more are nothing.
@@ -114,8 +117,8 @@ module _ (b : ℕ) (bs : List ℕ) (m : ℕ) (past : (n : ℕ) → m < n → n �
             rw here (ap (λ (k : ℕ). Some (suc k, s)) (sym whole))
       ]
 
-  pub longest-at : (s : Shape) → shape_of b (take m bs) ≡ Some s → m ≤ length bs → longest b bs ≡ Some (suc m, s)
-  unfolding longest
+  pub longest-at : (s : Shape) → shape_of b (take m bs) ≡ Some s → m ≤ length bs → longest_lexeme b bs ≡ Some (suc m, s)
+  unfolding longest_lexeme
   longest-at s is le = longest_from-at s is (length bs) (omega arith) le
 
 longest_from-none : (b : ℕ) (bs : List ℕ) → ((n : ℕ) → n ≤ length bs → shape_of b (take n bs) ≡ None) → (n : ℕ)
@@ -125,16 +128,18 @@ longest_from-none b bs none zero le = rw (none 0 (omega arith)) refl
 longest_from-none b bs none (suc n) le = rw (none (suc n) le) (longest_from-none b bs none n (omega arith))
 
 pub longest-none : (b : ℕ) (bs : List ℕ) → ((n : ℕ) → n ≤ length bs → shape_of b (take n bs) ≡ None)
-    → longest b bs ≡ None
-unfolding longest
+    → longest_lexeme b bs ≡ None
+unfolding longest_lexeme
 longest-none b bs none = longest_from-none b bs none (length bs) (omega arith)
 
 -- numbers, from the back: digits of a base
-list_all-past : (p : ℕ → Bool) (bs : List ℕ) (n : ℕ) → run p bs < n → n ≤ length bs → list_all p (take n bs) ≡ false
-list_all-past p bs n h le = all-take p bs n le ∙ lt-leb n (run p bs) h
+list_all-past : (p : ℕ → Bool) (bs : List ℕ) (n : ℕ) → run_length p bs < n → n ≤ length bs
+    → list_all p (take n bs) ≡ false
+list_all-past p bs n h le = all-take p bs n le ∙ lt-leb n (run_length p bs) h
 
-list_all-here : (p : ℕ → Bool) (bs : List ℕ) → list_all p (take (run p bs) bs) ≡ true
-list_all-here p bs = all-take p bs (run p bs) (run-le p bs) ∙ le-leb (run p bs) (run p bs) (omega arith)
+list_all-here : (p : ℕ → Bool) (bs : List ℕ) → list_all p (take (run_length p bs) bs) ≡ true
+list_all-here p bs =
+    all-take p bs (run_length p bs) (run-le p bs) ∙ le-leb (run_length p bs) (run_length p bs) (omega arith)
 
 digits_len-le : (o : Option Base) (bs : List ℕ) → digits_len o bs ≤ suc (length bs)
 digits_len-le None bs = omega arith
@@ -156,7 +161,7 @@ digits_tail-past (Some base) (b ∷ bs) n h le =
     ]
   where
     digits_past : (base : Base) (b : ℕ) (bs : List ℕ) (n : ℕ) → is_based_digit base b ≡ true
-        → suc (suc (run (is_based_part base) bs)) ≤ n → n ≤ suc (length bs)
+        → suc (suc (run_length (is_based_part base) bs)) ≤ n → n ≤ suc (length bs)
         → digits_tail (Some base) (take n (b ∷ bs)) ≡ false
     digits_past base b bs zero e h le = absurd (omega arith)
     digits_past base b bs (suc n) e h le = rw e (list_all-past (is_based_part base) bs n (omega arith) (omega arith))
@@ -177,10 +182,10 @@ digits_tail-here (Some base) (b ∷ bs) n h =
     ]
   where
     digits : (base : Base) (b : ℕ) (bs : List ℕ) (n : ℕ) → is_based_digit base b ≡ true
-        → suc (suc (run (is_based_part base) bs)) ≡ suc n → digits_tail (Some base) (take n (b ∷ bs)) ≡ true
+        → suc (suc (run_length (is_based_part base) bs)) ≡ suc n → digits_tail (Some base) (take n (b ∷ bs)) ≡ true
     digits base b bs zero e h = absurd (omega arith)
     digits base b bs (suc n) e h =
-        let same : run (is_based_part base) bs ≡ n = omega arith in
+        let same : run_length (is_based_part base) bs ≡ n = omega arith in
         rw e (subst (λ (k : ℕ). list_all (is_based_part base) (take k bs) ≡ true) same
         (list_all-here (is_based_part base) bs))
 
@@ -207,14 +212,14 @@ base_tail-here [] n h = absurd (omega arith)
 base_tail-here (b ∷ bs) n h = digits_tail-here (base_of b) bs n h
 
 pub longest-quoted : (b : ℕ) (bs : List ℕ) (n : ℕ) → b ≡ 39 → base_len bs ≡ suc n
-    → longest b bs ≡ Some (suc (suc n), shape.Number)
+    → longest_lexeme b bs ≡ Some (suc (suc n), shape.Number)
 unfolding shape_of
 longest-quoted b bs n e h =
     rw e (longest-at 39 bs (suc n)
     (λ m lt le. rw (base_tail-past bs m (omega arith) le) refl) shape.Number (rw (base_tail-here bs n h) refl)
     (omega (arith, base_len-le bs)))
 
-pub longest-quote_alone : (b : ℕ) (bs : List ℕ) → b ≡ 39 → base_len bs ≡ 0 → longest b bs ≡ None
+pub longest-quote_alone : (b : ℕ) (bs : List ℕ) → b ≡ 39 → base_len bs ≡ 0 → longest_lexeme b bs ≡ None
 unfolding shape_of
 longest-quote_alone b bs e h = rw e (longest-none 39 bs (λ n le. alone n le))
   where
@@ -279,7 +284,7 @@ size_tail-here (b ∷ bs) =
     quoted (suc n) b bs e h q = rw (h, q) (base_tail-here bs n e)
 
 pub longest-number : (b : ℕ) (bs : List ℕ) → is_letter b ≡ false → eqb b 36 ≡ false → is_digit b ≡ true
-    → longest b bs ≡ Some (suc (size_len bs), shape.Number)
+    → longest_lexeme b bs ≡ Some (suc (size_len bs), shape.Number)
 unfolding shape_of
 longest-number b bs h k d =
     longest-at b bs (size_len bs) (λ n lt le. numbered (take n bs) false (size_tail-past bs n lt le)) shape.Number
@@ -293,8 +298,9 @@ abbrev pub quote_len : List ℕ → ℕ
 quote_len [] = 0
 quote_len (b ∷ bs) = cond (eqb b 39) (with_quote (base_len bs)) 0
 
-pub size_len-run : (bs : List ℕ) → size_len bs ≡ run is_digit_part bs + quote_len (drop (run is_digit_part bs) bs)
-unfolding size_len run
+pub size_len-run : (bs : List ℕ)
+    → size_len bs ≡ run_length is_digit_part bs + quote_len (drop (run_length is_digit_part bs) bs)
+unfolding size_len run_length
 size_len-run [] = refl
 size_len-run (b ∷ bs) =
     elim (tells (is_digit_part b)) [
@@ -317,20 +323,20 @@ module _ (b : ℕ) (kind : (ts : List ℕ) → shape_of b ts ≡ symbol_of b ts)
   longest-at_two c d (e ∷ more) (suc n) le =
       rw (kind (c ∷ d ∷ e ∷ take n more)) (longest-at_two c d (e ∷ more) n (omega arith))
 
-  pub longest-three : (c d : ℕ) (more : List ℕ) → longest b (c ∷ d ∷ more)
+  pub longest-three : (c d : ℕ) (more : List ℕ) → longest_lexeme b (c ∷ d ∷ more)
       ≡ or_shorter (symbol_shape (three_symbol b c d)) 3
       (or_shorter (symbol_shape (two_symbol b c)) 2 (or_shorter (symbol_shape (one_symbol b)) 1 None))
-  unfolding longest longest_from
+  unfolding longest_lexeme longest_from
   longest-three c d more =
       longest-at_two c d more (length more) (omega arith) ∙ rw (kind (c ∷ d ∷ []), kind (c ∷ []), kind []) refl
 
-  pub longest-two : (c : ℕ) → longest b (c ∷ []) ≡ or_shorter (symbol_shape (two_symbol b c)) 2
+  pub longest-two : (c : ℕ) → longest_lexeme b (c ∷ []) ≡ or_shorter (symbol_shape (two_symbol b c)) 2
       (or_shorter (symbol_shape (one_symbol b)) 1 None)
-  unfolding longest longest_from
+  unfolding longest_lexeme longest_from
   longest-two c = rw (kind (c ∷ []), kind []) refl
 
-  pub longest-one : longest b [] ≡ or_shorter (symbol_shape (one_symbol b)) 1 None
-  unfolding longest longest_from
+  pub longest-one : longest_lexeme b [] ≡ or_shorter (symbol_shape (one_symbol b)) 1 None
+  unfolding longest_lexeme longest_from
   longest-one = rw (kind []) refl
 
 module _ (bytes : List ℕ) (at : ℕ) (h : is_letter (get_or bytes at 0) ≡ false) (k : get_or bytes at 0 ≡ 36 → ⊥)
@@ -338,27 +344,27 @@ module _ (bytes : List ℕ) (at : ℕ) (h : is_letter (get_or bytes at 0) ≡ fa
   kind : (ts : List ℕ) → shape_of (get_or bytes at 0) ts ≡ symbol_of (get_or bytes at 0) ts
   kind ts = shape-symbol (get_or bytes at 0) ts h (ne_eqb _ _ k) d (ne_eqb _ _ q)
 
-  pub symbol-one : at < length bytes → length bytes - at ≡ 1 → longest (get_or bytes at 0) (drop (at + 1) bytes)
+  pub symbol-one : at < length bytes → length bytes - at ≡ 1 → longest_lexeme (get_or bytes at 0) (drop (at + 1) bytes)
       ≡ or_shorter (symbol_shape (one_symbol (get_or bytes at 0))) 1 None
   symbol-one lt e =
       let nil : drop (at + 1) bytes ≡ [] = drop_of_length-le bytes (omega arith) in
-      ap (longest (get_or bytes at 0)) nil ∙ longest-one (get_or bytes at 0) kind
+      ap (longest_lexeme (get_or bytes at 0)) nil ∙ longest-one (get_or bytes at 0) kind
 
   behind : (i : ℕ) → i < length bytes → drop i bytes ≡ get_or bytes i 0 ∷ drop (i + 1) bytes
   behind i lt = rw add-one (drop-cons bytes i 0 lt)
 
   pub symbol-two : at < length bytes → length bytes - at ≡ 2
-      → longest (get_or bytes at 0) (drop (at + 1) bytes)
+      → longest_lexeme (get_or bytes at 0) (drop (at + 1) bytes)
       ≡ or_shorter (symbol_shape (two_symbol (get_or bytes at 0) (get_or bytes (at + 1) 0))) 2
       (or_shorter (symbol_shape (one_symbol (get_or bytes at 0))) 1 None)
   symbol-two lt e =
       let nil : drop (at + 1 + 1) bytes ≡ [] = drop_of_length-le bytes (omega arith) in
-      ap (longest (get_or bytes at 0)) (behind (at + 1) (omega arith)
+      ap (longest_lexeme (get_or bytes at 0)) (behind (at + 1) (omega arith)
       ∙ ap (λ (r : List ℕ). get_or bytes (at + 1) 0 ∷ r) nil)
       ∙ longest-two (get_or bytes at 0) kind (get_or bytes (at + 1) 0)
 
   pub symbol-three : at < length bytes → (length bytes - at ≡ 1 → ⊥) → (length bytes - at ≡ 2 → ⊥)
-      → longest (get_or bytes at 0) (drop (at + 1) bytes)
+      → longest_lexeme (get_or bytes at 0) (drop (at + 1) bytes)
       ≡ or_shorter (symbol_shape (three_symbol (get_or bytes at 0) (get_or bytes (at + 1) 0) (get_or bytes (at + 2) 0)))
       3 (or_shorter (symbol_shape (two_symbol (get_or bytes at 0) (get_or bytes (at + 1) 0))) 2
       (or_shorter (symbol_shape (one_symbol (get_or bytes at 0))) 1 None))
@@ -366,7 +372,7 @@ module _ (bytes : List ℕ) (at : ℕ) (h : is_letter (get_or bytes at 0) ≡ fa
       let two : at + 1 + 1 ≡ at + 2 = omega arith in
       let second : drop (at + 1 + 1) bytes ≡ get_or bytes (at + 2) 0 ∷ drop (at + 2 + 1) bytes =
       ap (λ (i : ℕ). drop i bytes) two ∙ behind (at + 2) (omega arith) in
-      ap (longest (get_or bytes at 0)) (behind (at + 1) (omega arith)
+      ap (longest_lexeme (get_or bytes at 0)) (behind (at + 1) (omega arith)
       ∙ ap (λ (r : List ℕ). get_or bytes (at + 1) 0 ∷ r) second)
       ∙ longest-three (get_or bytes at 0) kind (get_or bytes (at + 1) 0) (get_or bytes (at + 2) 0)
       (drop (at + 2 + 1) bytes)

@@ -6,8 +6,8 @@ use Rattle.std.proofs.Math.ListN.{drop_of_length-le}
 use Rattle.std.proofs.lemmas.Bool.{eq-eqb, ne_eqb}
 use Rattle.lexer.specs.declared.token.Base.{Base}
 use Rattle.lexer.specs.declared.piece.Shape.TheVariants as shape
-use Rattle.lexer.specs.Lexemes.{is_digit_part, is_based_digit, is_based_part, base_of, longest}
-use Rattle.lexer.specs.Runs.{run, digits_len, base_len, with_quote, size_len}
+use Rattle.lexer.specs.Lexemes.{is_digit_part, is_based_digit, is_based_part, base_of, longest_lexeme}
+use Rattle.lexer.specs.Runs.{run_length, digits_len, base_len, with_quote, size_len}
 use Rattle.lexer.proofs.LongestLaws.{quote_len, size_len-run, longest-quoted}
 use Rattle.lexer.proofs.CutLaws.{drop-drop}
 
@@ -40,14 +40,14 @@ module _ (bytes : List ℕ) (i : ℕ) where
       base_len-no_digit lt' h = by_base (Some base) e ∙ ap (digits_len (Some base)) (second lt') ∙ rw (← h) refl
 
       pub base_len-digits : i + 1 < length bytes → true ≡ is_based_digit base (get_or bytes (i + 1) 0)
-          → base_len (drop i bytes) ≡ suc (suc (run (is_based_part base) (drop (i + 1 + 1) bytes)))
+          → base_len (drop i bytes) ≡ suc (suc (run_length (is_based_part base) (drop (i + 1 + 1) bytes)))
       base_len-digits lt' h = by_base (Some base) e ∙ ap (digits_len (Some base)) (second lt') ∙ rw (← h) refl
 
-module _ (bytes : List ℕ) (start q : ℕ) (at : q ≡ start + run is_digit_part (drop start bytes)) where
-  by_quote : size_len (drop start bytes) ≡ run is_digit_part (drop start bytes) + quote_len (drop q bytes)
+module _ (bytes : List ℕ) (start q : ℕ) (at : q ≡ start + run_length is_digit_part (drop start bytes)) where
+  by_quote : size_len (drop start bytes) ≡ run_length is_digit_part (drop start bytes) + quote_len (drop q bytes)
   by_quote =
-      size_len-run (drop start bytes) ∙ ap (λ (r : List ℕ). run is_digit_part (drop start bytes) + quote_len r)
-      (drop-drop bytes start (run is_digit_part (drop start bytes)) ∙ ap (λ (i : ℕ). drop i bytes) (sym at))
+      size_len-run (drop start bytes) ∙ ap (λ (r : List ℕ). run_length is_digit_part (drop start bytes) + quote_len r)
+      (drop-drop bytes start (run_length is_digit_part (drop start bytes)) ∙ ap (λ (i : ℕ). drop i bytes) (sym at))
 
   pub size_len-end : q ≡ length bytes → q ≡ start + size_len (drop start bytes)
   size_len-end e =
@@ -71,6 +71,7 @@ pub with_quote-suc : (n : ℕ) → 0 < n → with_quote n ≡ suc n
 with_quote-suc zero h = absurd (omega arith)
 with_quote-suc (suc n) h = refl
 
-pub quoted-some : (b n : ℕ) (bs : List ℕ) → b ≡ 39 → base_len bs ≡ n → 0 < n → longest b bs ≡ Some (suc n, shape.Number)
+pub quoted-some : (b n : ℕ) (bs : List ℕ) → b ≡ 39 → base_len bs ≡ n → 0 < n
+    → longest_lexeme b bs ≡ Some (suc n, shape.Number)
 quoted-some b zero bs e h some = absurd (omega arith)
 quoted-some b (suc n) bs e h some = longest-quoted b bs n e h

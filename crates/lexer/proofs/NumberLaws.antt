@@ -10,7 +10,7 @@ use Rattle.std.proofs.lemmas.Nat.{and_mask}
 use Rattle.std.proofs.lemmas.Nat.Bits.{ones_shr}
 use Rattle.std.proofs.Math.Nat.{mul-le-mul_left}
 use Rattle.lexer.specs.Lexemes.{is_digit_part, base_of}
-use Rattle.lexer.specs.Runs.{run}
+use Rattle.lexer.specs.Runs.{run_length}
 use Rattle.lexer.specs.Numbers.{digit_value, value_from, if_fits, value_within, if_size, size_before, plain_number}
 use Rattle.lexer.specs.Numbers.{number_in_base, number_by, number_of}
 use Rattle.lexer.proofs.LongestLaws.{order}
@@ -140,7 +140,7 @@ pub tail-whole : (n : ℕ) (text : List ℕ) → take (length text - n) (drop n 
 tail-whole n text = ap (λ (k : ℕ). take k (drop n text)) (sym (length-drop n text)) ∙ take-length (drop n text)
 
 -- numbers, by where their digits stop
-module _ (text : List ℕ) (q : ℕ) (at : q ≡ run is_digit_part text) where
+module _ (text : List ℕ) (q : ℕ) (at : q ≡ run_length is_digit_part text) where
   by_quote : number_of text ≡ number_by (take q text) (drop q text)
   unfolding number_of
   by_quote = rw (← at) refl

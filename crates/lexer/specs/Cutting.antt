@@ -13,9 +13,9 @@ use Rattle.lexer.specs.declared.scan.Next.TheVariants.{Gap, Lexeme, Unclosed, St
 use Rattle.lexer.specs.declared.fault.LexFault.{LexFault}
 use Rattle.lexer.specs.declared.fault.LexFault.TheVariants.{BadCharacter, BadNumber}
 use Rattle.lexer.specs.declared.fault.LexFault.TheVariants.{UnclosedComment, Memory}
-use Rattle.lexer.specs.Lexemes.{longest}
+use Rattle.lexer.specs.Lexemes.{longest_lexeme}
 use Rattle.lexer.specs.Numbers.{number_of}
-use Rattle.lexer.specs.Runs.{run}
+use Rattle.lexer.specs.Runs.{run_length}
 
 -- a token's text as bytes, the byte at which it begins, and what it is
 pub record Cut : Type 0 where
@@ -63,12 +63,12 @@ next_lexeme None = Stray
 next_lexeme (Some r) = Lexeme r.0 r.1
 
 -- what comes next, where the byte b stands, and after it bs
-unfoldable pub next : ℕ → List ℕ → Next
-next b bs =
+unfoldable pub next_token : ℕ → List ℕ → Next
+next_token b bs =
     if is_space b then Gap 1
-    else (if (b == 47) && begins_with 47 bs then Gap (suc (run stays_on_line bs))
+    else (if (b == 47) && begins_with 47 bs then Gap (suc (run_length stays_on_line bs))
     else (if (b == 47) && begins_with 42 bs then comment_gap (comment_end (drop 1 bs))
-    else next_lexeme (longest b bs)))
+    else next_lexeme (longest_lexeme b bs)))
 
 abbrev pub with_cut : Cut → Result (List Cut) LexFault → Result (List Cut) LexFault
 with_cut c (Ok cs) = Ok (c ∷ cs)
@@ -105,7 +105,7 @@ unfoldable pub cuts : ℕ → ℕ → List ℕ → Result (List Cut) LexFault
 cuts turns at [] = Ok (end_at at ∷ [])
 cuts zero at (b ∷ bs) = Err Memory
 cuts (suc turns) at (b ∷ bs) =
-    cut_after (next b bs) at (b ∷ bs) (λ n. cuts turns (at + n) (drop n (b ∷ bs)))
+    cut_after (next_token b bs) at (b ∷ bs) (λ n. cuts turns (at + n) (drop n (b ∷ bs)))
 
 unfoldable pub tokens_of : List ℕ → Result (List Cut) LexFault
 tokens_of bytes = cuts (length bytes) 0 bytes

@@ -177,5 +177,5 @@ longest_from b bs zero = or_shorter (shape_of b []) 1 None
 longest_from b bs (suc n) =
     or_shorter (shape_of b (take (suc n) bs)) (suc (suc n)) (longest_from b bs n)
 
-unfoldable pub longest : ℕ → List ℕ → Option (ℕ × Shape)
-longest b bs = longest_from b bs (length bs)
+unfoldable pub longest_lexeme : ℕ → List ℕ → Option (ℕ × Shape)
+longest_lexeme b bs = longest_from b bs (length bs)

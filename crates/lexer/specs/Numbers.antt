@@ -7,7 +7,7 @@ use Rattle.lexer.specs.declared.token.Base.{Base}
 use Rattle.lexer.specs.declared.token.Base.TheVariants.{Binary, Octal, Decimal, Hexadecimal}
 use Rattle.lexer.specs.declared.token.Number.{Number}
 use Rattle.lexer.specs.Lexemes.{is_digit, is_digit_part, base_of}
-use Rattle.lexer.specs.Runs.{run}
+use Rattle.lexer.specs.Runs.{run_length}
 
 abbrev pub width_or : Option ℕ → ℕ
 width_or None = 32
@@ -80,4 +80,6 @@ number_by size (quote ∷ b ∷ digits) =
 
 -- None where the number is an L2: a digit without a value, too large a value or size, no digit.
 unfoldable pub number_of : List ℕ → Option Number
-number_of text = number_by (take (run is_digit_part text) text) (drop (run is_digit_part text) text)
+number_of text =
+    number_by (take (run_length is_digit_part text) text)
+    (drop (run_length is_digit_part text) text)

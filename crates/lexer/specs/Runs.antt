@@ -7,9 +7,9 @@ use Rattle.lexer.specs.declared.piece.Part.TheVariants as part
 use Rattle.lexer.specs.Lexemes.{is_word_part, is_system_part, is_digit_part, is_based_digit}
 use Rattle.lexer.specs.Lexemes.{is_based_part, base_of}
 
-unfoldable pub run : (ℕ → Bool) → List ℕ → ℕ
-run p [] = 0
-run p (b ∷ bs) = if p b then suc (run p bs) else 0
+unfoldable pub run_length : (ℕ → Bool) → List ℕ → ℕ
+run_length p [] = 0
+run_length p (b ∷ bs) = if p b then suc (run_length p bs) else 0
 
 abbrev pub is_part : Part → ℕ → Bool
 is_part part.Word b = is_word_part b
@@ -22,7 +22,7 @@ abbrev pub digits_len : Option Base → List ℕ → ℕ
 digits_len None bs = 0
 digits_len (Some base) [] = 1
 digits_len (Some base) (b ∷ bs) =
-    if is_based_digit base b then suc (suc (run (is_based_part base) bs)) else 1
+    if is_based_digit base b then suc (suc (run_length (is_based_part base) bs)) else 1
 
 -- and after its quote
 unfoldable pub base_len : List ℕ → ℕ

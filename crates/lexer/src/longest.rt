@@ -7,9 +7,9 @@ ghost use Rattle.lexer.specs.Lexemes.{is_digit, is_letter, is_word_part, is_syst
 ghost use Rattle.lexer.specs.Lexemes.{is_digit_part, is_based_digit, is_based_part};
 ghost use Rattle.lexer.specs.Lexemes.{is_valued_digit, is_unknown_digit, base_of, one_symbol};
 ghost use Rattle.lexer.specs.Lexemes.{two_symbol, three_symbol, symbol_of, symbol_shape};
-ghost use Rattle.lexer.specs.Lexemes.{or_shorter, longest};
+ghost use Rattle.lexer.specs.Lexemes.{or_shorter, longest_lexeme};
 ghost use Rattle.std.specs.Bool.{OnTrue};
-ghost use Rattle.lexer.specs.Runs.{run, is_part, base_len, size_len};
+ghost use Rattle.lexer.specs.Runs.{run_length, is_part, base_len, size_len};
 
 use crate::piece::{Part, Shape};
 use crate::token::{Base, Symbol};
@@ -189,7 +189,7 @@ pub(crate) fn run_end(bytes: &[u8], start: usize, part: Part) -> usize
     requires { start ≤ length bytes.now }
     ensures high { result ≤ length bytes.now }
     ensures ascii { start < result → slice_index bytes.now (result - 1) < 128 }
-    ensures run { result ≡ start + run (is_part part) (drop start bytes.now) }
+    ensures run { result ≡ start + run_length (is_part part) (drop start bytes.now) }
 {
     let mut at = start;
     while at < bytes.len() && is_part(part, bytes[at]) {
@@ -288,7 +288,7 @@ fn symbol_at(bytes: &[u8], at: usize) -> Option<(usize, Shape)>
     ensures within { IfSome result (λ r. (0 < r.0) × (at + r.0 ≤ length bytes.now)) }
     ensures ascii { IfSome result (λ r. (slice_index bytes.now at < 128)
         × (slice_index bytes.now (at + r.0 - 1) < 128)) }
-    ensures value { result ≡ longest (slice_index bytes.now at) (drop (at + 1) bytes.now) }
+    ensures value { result ≡ longest_lexeme (slice_index bytes.now at) (drop (at + 1) bytes.now) }
 {
     if bytes.len() - at == 1 {
         return up_to_one(bytes[at]);
@@ -306,7 +306,7 @@ fn quoted_at(bytes: &[u8], at: usize) -> Option<(usize, Shape)>
     ensures within { IfSome result (λ r. (0 < r.0) × (at + r.0 ≤ length bytes.now)) }
     ensures ascii { IfSome result (λ r. (slice_index bytes.now at < 128)
         × (slice_index bytes.now (at + r.0 - 1) < 128)) }
-    ensures value { result ≡ longest (slice_index bytes.now at) (drop (at + 1) bytes.now) }
+    ensures value { result ≡ longest_lexeme (slice_index bytes.now at) (drop (at + 1) bytes.now) }
 {
     let end = base_end(bytes, at + 1);
     if end == at + 1 {
@@ -321,7 +321,7 @@ pub(crate) fn token_at(bytes: &[u8], at: usize) -> Option<(usize, Shape)>
     ensures within { IfSome result (λ r. (0 < r.0) × (at + r.0 ≤ length bytes.now)) }
     ensures ascii { IfSome result (λ r. (slice_index bytes.now at < 128)
         × (slice_index bytes.now (at + r.0 - 1) < 128)) }
-    ensures value { result ≡ longest (slice_index bytes.now at) (drop (at + 1) bytes.now) }
+    ensures value { result ≡ longest_lexeme (slice_index bytes.now at) (drop (at + 1) bytes.now) }
 {
     let first = bytes[at];
     if is_letter(first) {

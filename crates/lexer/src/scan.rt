@@ -5,9 +5,10 @@ ghost use Rattle.std.specs.Prelude.{◌≡◌, ℕ, ◌+◌, ◌-◌, ◌<◌, �
 ghost use Rattle.std.specs.Prelude.{Some, None, Option, MatchOption, IfSome, IfOk, IfErr, ◌==◌};
 ghost use Rattle.std.specs.Prelude.{◌&&◌, true, false};
 ghost use Rattle.std.specs.Bool.{OnTrue};
-ghost use Rattle.lexer.specs.Runs.{run};
+ghost use Rattle.lexer.specs.Runs.{run_length};
 ghost use Rattle.lexer.specs.Covering.{IsCut, IsLexFault};
-ghost use Rattle.lexer.specs.Cutting.{is_space, stays_on_line, begins_with, comment_end, next};
+ghost use Rattle.lexer.specs.Cutting.{is_space, stays_on_line, begins_with, comment_end};
+ghost use Rattle.lexer.specs.Cutting.{next_token};
 ghost use Rattle.lexer.specs.Cutting.{cut_of, kind_of, tokens_of, GivesCuts, StaysInside};
 
 use crate::fault::LexFault;
@@ -52,7 +53,7 @@ fn is_pair(bytes: &[u8], at: usize, first: u8, second: u8) -> bool
 fn line_end(bytes: &[u8], start: usize) -> usize
     requires { start ≤ length bytes.now }
     ensures high { result ≤ length bytes.now }
-    ensures run { result ≡ start + run stays_on_line (drop start bytes.now) }
+    ensures run { result ≡ start + run_length stays_on_line (drop start bytes.now) }
 {
     let mut at = start;
     while at < bytes.len() && bytes[at] != b'\n' {
@@ -81,7 +82,7 @@ fn close_of(bytes: &[u8], start: usize) -> Option<usize>
 fn next_at(bytes: &[u8], at: usize) -> Next
     requires { at < length bytes.now }
     ensures inside { StaysInside bytes.now at result }
-    ensures value { result ≡ next (slice_index bytes.now at) (drop (at + 1) bytes.now) }
+    ensures value { result ≡ next_token (slice_index bytes.now at) (drop (at + 1) bytes.now) }
 {
     let first = bytes[at];
     if is_space(first) {

@@ -15,7 +15,7 @@
 //!
 //! A message begins with the fault's code and its name. What may be meant by a name that is not
 //! known, and where it is not, stands in `src/paths.rt`; why a real or an event can't be named in
-//! `src/unnamed.rt`; what could stand where a token can't go on in `src/wanted.rt`, and what to
+//! `src/unnamed.rt`; what could stand where a token can't go on in `src/expected.rt`, and what to
 //! write there in `src/token_hints.rt`, by an item's first word in `src/item_words.rt`, and for
 //! words of the language in `diagnostics`; what a side weighs in `src/weights.rt`; where the first
 //! of two equal names stands in `src/doubles.rt`; which bits a select asks for in
@@ -37,7 +37,7 @@ mod paths;
 mod selects;
 mod token_hints;
 mod unnamed;
-mod wanted;
+mod expected;
 mod weights;
 
 pub use meant::Meant;

@@ -12,7 +12,7 @@ use crate::meant::Meant;
 use crate::paths::{is_listed, path_at, push_others, told_path};
 use crate::selects::told_select;
 use crate::token_hints::{bound_code, mark_hint, not_hint, number_code, path_hint, token_hint};
-use crate::wanted::wanted_at;
+use crate::expected::wanted_at;
 use crate::weights::told_weight;
 use compiler::CompileFault;
 use diagnostics::{CODES, MARKS, Refusal, SIGNS, WORDS, hint_at, hint_beside};

@@ -10,12 +10,11 @@ use Rattle.verifier.specs.Limits.{path_sum}
 use Rattle.machine_definition.specs.Outcomes.{Ran, done, trapped, and_then}
 use Rattle.machine_definition.specs.Blocks.{Visit, visit}
 use Rattle.machine_definition.specs.Clocks.{Attempt, Visits, visited, visit_attempts}
-use Rattle.machine_definition.specs.Bounds.{RisesBetween}
+use Rattle.machine_definition.specs.Bounds.{RisesBetween, began, IsRunning}
 use Rattle.machine_definition.proofs.Outcomes.{Meets-at}
 use Rattle.machine_definition.proofs.Rises.{Rises-within}
 use Rattle.machine_definition.proofs.Typing.{IsSection}
 use Rattle.machine_definition.proofs.Visits.{Visited, visit-meets}
-use Rattle.machine_definition.proofs.Parts.{began, IsRunning}
 use Rattle.verifier.proofs.LifeLaws.{start_life-most}
 use Rattle.machine_memory.specs.Pooled.{Pooled, pooled, slot_after}
 use Rattle.machine_memory.specs.Walk.{WalkIsAt, left_at}

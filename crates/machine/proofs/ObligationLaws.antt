@@ -12,11 +12,10 @@ use Rattle.verifier.specs.Limits.{path_sum}
 use Rattle.machine_definition.specs.Outcomes.{Ran, done, trapped, and_then}
 use Rattle.machine_definition.specs.Blocks.{Visit, visit}
 use Rattle.machine_definition.specs.Clocks.{Obligation, Fate, visit_obligations, staying, is_ended, is_broken}
-use Rattle.machine_definition.specs.Bounds.{RisesBetween}
+use Rattle.machine_definition.specs.Bounds.{RisesBetween, since, IsOwed}
 use Rattle.machine_definition.proofs.Outcomes.{Meets-at}
 use Rattle.machine_definition.proofs.Typing.{IsSection}
 use Rattle.machine_definition.proofs.Visits.{Visited, visit-meets}
-use Rattle.machine_definition.proofs.Parts.{since, IsOwed}
 use Rattle.machine_memory.specs.Pooled.{Pooled, pooled, slot_after}
 use Rattle.machine_memory.specs.Walk.{WalkIsAt, left_at}
 use Rattle.machine_attempts.specs.declared.fates.Fates.{Fates}

@@ -39,13 +39,13 @@
 
 mod attempts;
 mod bases;
-mod few;
+mod at_most_one;
 mod live;
 mod machine;
 mod memory;
 mod obligations;
 mod outcomes;
-mod own;
+mod own_attempt;
 mod progress;
 mod repeats;
 mod row;

@@ -19,13 +19,13 @@ ghost use Rattle.machine.specs.Again.{IsLittle};
 
 use crate::attempts::{disable_attempts, settle_attempts, visit_attempts};
 use crate::bases::Bases;
-use crate::few::{
+use crate::at_most_one::{
     Few, Little, is_attempt_later, is_obligation_later, move_attempt, move_obligation,
     only_attempt, only_obligation,
 };
 use crate::obligations::{drop_obligations, visit_obligations};
 use crate::outcomes::{Outcomes, Told, number_of};
-use crate::own::{
+use crate::own_attempt::{
     disable_own_attempt, own_attempt, settle_own_attempt, visit_own_attempt, visit_own_obligation,
 };
 use crate::repeats::verdict_at;

@@ -15,25 +15,14 @@ use Rattle.machine_definition.specs.Clocks.{visit_obligations, is_ended, staying
 use Rattle.machine_definition.specs.Clocks.{some_open, Settlement, settle, settle_all, disable_all}
 use Rattle.machine_definition.specs.Clocks.{opened}
 use Rattle.machine_definition.specs.Bounds.{EachIn, IsAlive, RisesBetween, IsAwaiting, IsAttempt}
-use Rattle.machine_definition.specs.Bounds.{IsObligation}
+use Rattle.machine_definition.specs.Bounds.{IsObligation, began, since, IsRunning, IsOwed}
 use Rattle.machine_definition.proofs.Outcomes.{Meets-and_then, Meets-costs_one}
 use Rattle.machine_definition.proofs.Blocks.{EachIn-or}
 use Rattle.machine_definition.proofs.Visits.{Visited, visit-meets}
 use Rattle.machine_definition.proofs.Rises.{Rises-within, Rises-low}
 
-abbrev pub began : Attempt → ℕ
-began a = a.start
-
-abbrev pub since : Obligation → ℕ
-since o = o.tick
-
 abbrev pub since_fate : Fate → ℕ
 since_fate f = f.tick
-
--- An attempt before its visit, at clock now, and after it, at now + 1.
-pub record IsRunning (p : ProgramData) (now : ℕ) (a : Attempt) : Type 0 where
-  pub positions : EachIn (IsAlive p.antecedent a.start now) a.positions
-  pub awaited : EachIn (λ k. k < start_life p.antecedent) a.awaited
 
 module _ (p : ProgramData) (now : ℕ) where
   awaits-more : (start set : ℕ) (b : Bool) → start ≤ now → (b ≡ true → now < start + start_life p.antecedent)
@@ -82,10 +71,7 @@ module _ (p : ProgramData) (now : ℕ) where
         ap suc seen.2,
       ))))
 
--- An obligation before its visit, and after it.
-pub record IsOwed (p : ProgramData) (now : ℕ) (o : Obligation) : Type 0 where
-  pub positions : EachIn (IsAlive p.consequent o.tick now) o.positions
-
+-- An obligation after its visit.
 pub record IsFated (p : ProgramData) (now : ℕ) (f : Fate) : Type 0 where
   pub positions : EachIn (IsAlive p.consequent f.tick (now + 1)) f.positions
 

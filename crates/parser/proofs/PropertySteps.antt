@@ -6,7 +6,7 @@ use Rattle.parser_grammar.specs.declared.operator.Implication.{Implication}
 use Rattle.parser_grammar.specs.declared.terminal.Terminal.TheVariants.{OpenRound, CloseRound}
 use Rattle.parser_grammar.specs.Operators.{implication_of}
 use Rattle.parser_grammar.specs.Trees.{SequenceForm, PropertyForm, plain, implication}
-use Rattle.parser_grammar.specs.Terminals.{is_first_match}
+use Rattle.parser_grammar.specs.Terminals.{is_first_match_word}
 use Rattle.parser_grammar.specs.Readers.{◌>>=◌, Reader, refuse, lead, expect, pick}
 use Rattle.parser_grammar.specs.ReadSequences.{whole, regroup, sequence_behind, implication_behind, regroup_property}
 use Rattle.parser_grammar.specs.ReadSequences.{property_with, properties, property, sequences, first_behind}
@@ -22,7 +22,7 @@ inner-zero : (d : ℕ) → d ≡ 0 → properties d ≡ refuse
 unfolding properties
 inner-zero d h = rw h refl
 
-opened-by : (d : ℕ) (ts : List Token) (o : Token) (us : List Token) → lead is_first_match ts ≡ None
+opened-by : (d : ℕ) (ts : List Token) (o : Token) (us : List Token) → lead is_first_match_word ts ≡ None
     → expect OpenRound ts ≡ Some (o, us)
     → property d ts ≡ (properties d us >>= λ p. expect CloseRound p.1 >>= λ r. regroup_property d p.0 r.1)
 unfolding property property_with
@@ -32,7 +32,7 @@ opened-by d ts o us n h = rw (n, h) refl
 abbrev closed : ℕ → Option (PropertyForm × List Token) → Option (PropertyForm × List Token)
 closed d o = o >>= λ p. expect CloseRound p.1 >>= λ r. regroup_property d p.0 r.1
 
-opened : (d : ℕ) (ts : List Token) (o : Token) (us : List Token) (k : ℕ) → lead is_first_match ts ≡ None
+opened : (d : ℕ) (ts : List Token) (o : Token) (us : List Token) (k : ℕ) → lead is_first_match_word ts ≡ None
     → expect OpenRound ts ≡ Some (o, us)
     → d ≡ k + 1 → property d ts ≡ closed d (property k us)
 opened d ts o us k n h depth =
@@ -101,44 +101,46 @@ pub regroup-implication : (d : ℕ) (w : Option Token) (a : SequenceForm) (i : I
 unfolding regroup_property
 regroup-implication d w a i c ts = refl
 
-pub property-plain-fails : (d : ℕ) (ts : List Token) (x : Stop) → lead is_first_match ts ≡ None
+pub property-plain-fails : (d : ℕ) (ts : List Token) (x : Stop) → lead is_first_match_word ts ≡ None
     → expect OpenRound ts ≡ None → Fails x (whole d ts)
     → Fails x (property d ts)
 unfolding property property_with
 property-plain-fails d ts x n h f = failing x _ _ (λ none. rw (n, h, none) refl) f
 
-pub property-plain-tail : (d : ℕ) (ts : List Token) (s : SequenceForm) (us : List Token) → lead is_first_match ts ≡ None
+pub property-plain-tail : (d : ℕ) (ts : List Token) (s : SequenceForm) (us : List Token)
+    → lead is_first_match_word ts ≡ None
     → expect OpenRound ts ≡ None → whole d ts ≡ Some (s, us) → property d ts ≡ implication_behind d s us
 unfolding property property_with
 property-plain-tail d ts s us n h k = rw (n, h, k) refl
 
-pub property-deep : (d : ℕ) (ts : List Token) (o : Token) (us : List Token) (x : Stop) → lead is_first_match ts ≡ None
+pub property-deep : (d : ℕ) (ts : List Token) (o : Token) (us : List Token) (x : Stop)
+    → lead is_first_match_word ts ≡ None
     → expect OpenRound ts ≡ Some (o, us) → d ≡ 0 → Fails x (property d ts)
 unfolding property property_with
 property-deep d ts o us x n h z = none-fails x _ (rw (n, h, inner-zero d z) refl)
 
 pub property-fail1 : (d : ℕ) (ts : List Token) (o : Token) (us : List Token) (k : ℕ) (x : Stop)
-    → lead is_first_match ts ≡ None → expect OpenRound ts ≡ Some (o, us) → d ≡ k + 1
+    → lead is_first_match_word ts ≡ None → expect OpenRound ts ≡ Some (o, us) → d ≡ k + 1
     → Fails x (property k us) → Fails x (property d ts)
 property-fail1 d ts o us k x n h depth f =
     failing x _ _ (λ none. opened d ts o us k n h depth ∙ behind-none d (property k us) none) f
 
 pub property-fail2 : (d : ℕ) (ts : List Token) (o : Token) (us : List Token) (k : ℕ) (p : PropertyForm)
-    (vs : List Token) (x : Stop) → lead is_first_match ts ≡ None → expect OpenRound ts ≡ Some (o, us) → d ≡ k + 1
+    (vs : List Token) (x : Stop) → lead is_first_match_word ts ≡ None → expect OpenRound ts ≡ Some (o, us) → d ≡ k + 1
     → property k us ≡ Some (p, vs)
     → Fails x (expect CloseRound vs) → Fails x (property d ts)
 property-fail2 d ts o us k p vs x n h depth h2 f =
     failing x _ _ (λ none. opened d ts o us k n h depth ∙ behind-unclosed d (property k us) p vs h2 none) f
 
 pub property-tail : (d : ℕ) (ts : List Token) (o : Token) (us : List Token) (k : ℕ) (p : PropertyForm) (vs : List Token)
-    (c : Token) (ws : List Token) → lead is_first_match ts ≡ None → expect OpenRound ts ≡ Some (o, us) → d ≡ k + 1
+    (c : Token) (ws : List Token) → lead is_first_match_word ts ≡ None → expect OpenRound ts ≡ Some (o, us) → d ≡ k + 1
     → property k us ≡ Some (p, vs)
     → expect CloseRound vs ≡ Some (c, ws) → property d ts ≡ regroup_property d p ws
 property-tail d ts o us k p vs c ws n h depth h2 h3 =
     opened d ts o us k n h depth ∙ behind-closed d (property k us) p vs c ws h2 h3
 
 -- after the word of a first match
-pub property-led : (d : ℕ) (ts : List Token) (w : Token) (us : List Token) → lead is_first_match ts ≡ Some (w, us)
+pub property-led : (d : ℕ) (ts : List Token) (w : Token) (us : List Token) → lead is_first_match_word ts ≡ Some (w, us)
     → property d ts ≡ first_behind d w us
 unfolding property property_with
 property-led d ts w us h = rw (h) refl

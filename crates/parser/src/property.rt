@@ -3,7 +3,7 @@
 ghost use Rattle.std.specs.Prelude.{◌≡◌, ◌<◌, ◌≤◌, ◌+◌, ℕ, length, None, Some};
 ghost use Rattle.std.specs.Prelude.{MatchOption, IfSome, IfOk};
 ghost use Rattle.parser_grammar.specs.Operators.{implication_of};
-ghost use Rattle.parser_grammar.specs.Terminals.{is_first_match};
+ghost use Rattle.parser_grammar.specs.Terminals.{is_first_match_word};
 ghost use Rattle.parser_grammar.specs.Readers.{lead, pick};
 ghost use Rattle.parser_grammar.specs.ReadSequences.{implication_behind, regroup_property};
 ghost use Rattle.parser_grammar.specs.ReadSequences.{property};
@@ -15,7 +15,7 @@ use crate::read::read;
 use lexer::Token;
 use parser_expressions::{Read, Stop, accept, byte_at, deeper, expect, first};
 use parser_grammar::{
-    Implication, PropertyTree, SequenceTree, Terminal, implication_of, is_first_match,
+    Implication, PropertyTree, SequenceTree, Terminal, implication_of, is_first_match_word,
 };
 use parser_sequences::{finish_sequence, read_sequence, regroup};
 use std::alloc::Global;
@@ -86,14 +86,14 @@ fn regroup_property<'t, 'a>(
 /// The word `first_match`, if it stands first.
 #[tactic(auto, using(crate::proofs::PropertySteps::for_first_word))]
 fn accept_first_match<'t, 'a>(tokens: &'t [Token<'a>]) -> Option<(Token<'a>, &'t [Token<'a>])>
-    ensures word { MatchOption result (lead is_first_match tokens.now
-        ≡ None) (λ r. lead is_first_match tokens.now ≡ Some (r.0, r.1.now)) }
+    ensures word { MatchOption result (lead is_first_match_word tokens.now
+        ≡ None) (λ r. lead is_first_match_word tokens.now ≡ Some (r.0, r.1.now)) }
     ensures shorter { IfSome result (λ r. length r.1.now < length tokens.now) }
 {
     let Some((token, rest)) = first(tokens) else {
         return None;
     };
-    if is_first_match(token) {
+    if is_first_match_word(token) {
         return Some((token, rest));
     }
     None

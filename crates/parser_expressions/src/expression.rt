@@ -29,7 +29,7 @@ use crate::read::{
 use crate::stop::Stop;
 use lexer::Token;
 use parser_grammar::{
-    Bound, ExprTree, Function, Index, Infix, Mark, Path, Prefix, Select, Terminal, mark_of,
+    Bound, CHOICE, ExprTree, Function, Index, Infix, Mark, Path, Prefix, Select, Terminal, mark_of,
 };
 use std::alloc::Global;
 
@@ -365,7 +365,7 @@ pub fn finish_expression<'t, 'a>(
     ensures shorter { IfOk result (λ r. length r.1.now ≤ length tokens.now) }
 {
     let (condition, rest) = read!(read_climb(alloc, tokens, left, depth, 9));
-    let Some((question, arms)) = operator(rest, 10) else {
+    let Some((question, arms)) = operator(rest, CHOICE) else {
         return Ok((condition, rest));
     };
     let inner = read!(deeper(depth, question));

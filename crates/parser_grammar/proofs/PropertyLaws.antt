@@ -8,7 +8,7 @@ use Rattle.parser_grammar.specs.declared.terminal.Terminal.{Terminal}
 use Rattle.parser_grammar.specs.declared.terminal.Terminal.TheVariants.{OpenRound, CloseRound, Delay, Overlapped}
 use Rattle.parser_grammar.specs.declared.terminal.Terminal.TheVariants.{Following}
 use Rattle.parser_grammar.specs.declared.terminal.Terminal.TheVariants.{ForeignWord}
-use Rattle.parser_grammar.specs.Terminals.{terminal, is, is_first_match}
+use Rattle.parser_grammar.specs.Terminals.{terminal, is, is_first_match_word}
 use Rattle.parser_grammar.specs.Marks.{mark, precedence_of_terminal, precedence, next_precedence}
 use Rattle.parser_grammar.specs.Operators.{implication_of_terminal, implication_of}
 use Rattle.parser_grammar.specs.Trees.{Tree, SequenceForm, boolean, repeated, late, delayed, throughout, joined}
@@ -123,8 +123,8 @@ grouped d t ts s rest o h =
     }))))
 
 -- no sequence begins with the word of a first match
-foreign : (t : Token) → is_first_match t ≡ true → terminal t ≡ ForeignWord
-unfolding is_first_match
+foreign : (t : Token) → is_first_match_word t ≡ true → terminal t ≡ ForeignWord
+unfolding is_first_match_word
 foreign t h = is-true ForeignWord t (and_parts (is ForeignWord t) _ h).0
 
 foreign-none : (d : ℕ) (t : Token) (ts : List Token) → terminal t ≡ ForeignWord → whole d (t ∷ ts) ≡ None
@@ -133,21 +133,23 @@ foreign-none d t ts h =
     rw (expect-not Delay t ts (λ e. absurd cc), expect-not OpenRound t ts (λ e. absurd cc), h) refl
 
 unled_by : (d : ℕ) (ts : List Token) (p : SequenceForm × List Token) → whole d ts ≡ Some p
-    → (o : Option (Token × List Token)) → lead is_first_match ts ≡ o → lead is_first_match ts ≡ None
+    → (o : Option (Token × List Token)) → lead is_first_match_word ts ≡ o → lead is_first_match_word ts ≡ None
 unled_by d ts p h None e = e
 unled_by d ts p h (Some q) e =
-    let x = lead-some is_first_match ts q e in
+    let x = lead-some is_first_match_word ts q e in
     let none : whole d ts ≡ None = ap (whole d) x.parts ∙ foreign-none d q.0 q.1 (foreign q.0 x.passes) in
     absurd cc
 
-unled : (d : ℕ) (ts : List Token) (p : SequenceForm × List Token) → whole d ts ≡ Some p → lead is_first_match ts ≡ None
-unled d ts p h = unled_by d ts p h (lead is_first_match ts) refl
+unled : (d : ℕ) (ts : List Token) (p : SequenceForm × List Token) → whole d ts ≡ Some p
+    → lead is_first_match_word ts ≡ None
+unled d ts p h = unled_by d ts p h (lead is_first_match_word ts) refl
 
 -- nor does anything else
-pub unled-other : (t : Token) (ts : List Token) → (terminal t ≡ ForeignWord → ⊥) → lead is_first_match (t ∷ ts) ≡ None
-unled-other t ts other = lead-false is_first_match t ts (false_from_ne_true _ (λ h. other (foreign t h)))
+pub unled-other : (t : Token) (ts : List Token) → (terminal t ≡ ForeignWord → ⊥)
+    → lead is_first_match_word (t ∷ ts) ≡ None
+unled-other t ts other = lead-false is_first_match_word t ts (false_from_ne_true _ (λ h. other (foreign t h)))
 
-unled-open : (t : Token) (ts : List Token) → terminal t ≡ OpenRound → lead is_first_match (t ∷ ts) ≡ None
+unled-open : (t : Token) (ts : List Token) → terminal t ≡ OpenRound → lead is_first_match_word (t ∷ ts) ≡ None
 unled-open t ts o = unled-other t ts (λ e. absurd cc)
 
 abbrev GoesOn : ℕ → Type 0
@@ -228,14 +230,14 @@ regroup-stays d (plain s) ts h =
 regroup-stays d (implication w a i c) ts h = refl
 
 first-read : (d : ℕ) (word left right t : Token) (i : Implication) (a c : SequenceForm) (ts us rest : List Token)
-    → is_first_match word ≡ true → terminal left ≡ OpenRound
+    → is_first_match_word word ≡ true → terminal left ≡ OpenRound
     → (sequences (suc d)).whole ts ≡ Some (a, right ∷ t ∷ us) → terminal right ≡ CloseRound
     → implication_of t ≡ Some i → whole (suc d) us ≡ Some (c, rest)
     → property (suc d) (word ∷ left ∷ ts) ≡ Some (implication (Some word) a i c, rest)
 unfolding property property_with first_behind
 first-read d word left right t i a c ts us rest is o h r k w =
     rw (
-      lead-true is_first_match word (left ∷ ts) is,
+      lead-true is_first_match_word word (left ∷ ts) is,
       expect-is OpenRound left ts o,
       h,
       expect-is CloseRound right (t ∷ us) r,
@@ -364,7 +366,7 @@ property_by-sound d inner ts p (Some q) l h =
 
 -- what stood after the word, step by step
 first_at : (d : ℕ) (word left right t : Token) (i : Implication) (a c : SequenceForm) (ts rs vs us ws rest : List Token)
-    → is_first_match word ≡ true → ts ≡ left ∷ rs → terminal left ≡ OpenRound
+    → is_first_match_word word ≡ true → ts ≡ left ∷ rs → terminal left ≡ OpenRound
     → (sequences d).whole rs ≡ Some (a, vs) → vs ≡ right ∷ us → terminal right ≡ CloseRound → us ≡ t ∷ ws
     → implication_of t ≡ Some i → whole d ws ≡ Some (c, rest)
     → IsProperty d (implication (Some word) a i c) (word ∷ ts) rest
@@ -377,7 +379,7 @@ first_at (suc d) word left right t i a c ts rs vs us ws rest is left_is o h righ
     (is_first is o (subst (λ (xs : List Token). IsSequence d a rs xs) parts inner) r k
     (whole-sound (suc d) ws (c, rest) w))
 
-first-sound : (d : ℕ) (word : Token) (ts : List Token) (p : PropertyForm × List Token) → is_first_match word ≡ true
+first-sound : (d : ℕ) (word : Token) (ts : List Token) (p : PropertyForm × List Token) → is_first_match_word word ≡ true
     → first_behind d word ts ≡ Some p → IsProperty d p.0 (word ∷ ts) p.1
 unfolding first_behind
 first-sound d word ts p is h =
@@ -400,16 +402,17 @@ first-sound d word ts p is h =
     z.parts z.picked c_is))))))
 
 property_from-sound : (d : ℕ) → IsSoundInside d
-    → (ts : List Token) (p : PropertyForm × List Token) (o : Option (Token × List Token)) → lead is_first_match ts ≡ o
+    → (ts : List Token) (p : PropertyForm × List Token) (o : Option (Token × List Token))
+    → lead is_first_match_word ts ≡ o
     → property_from d (properties d) o ts ≡ Some p → IsProperty d p.0 ts p.1
 property_from-sound d inner ts p None l h = property_by-sound d inner ts p (expect OpenRound ts) refl h
 property_from-sound d inner ts p (Some q) l h =
-    let x = lead-some is_first_match ts q l in
+    let x = lead-some is_first_match_word ts q l in
     subst (λ (us : List Token). IsProperty d p.0 us p.1) (sym x.parts) (first-sound d q.0 q.1 p x.passes h)
 
 property_with-sound : (d : ℕ) → IsSoundInside d → Reads (property d) (λ p ts rest. IsProperty d p ts rest)
 unfolding property property_with
-property_with-sound d inner ts p h = property_from-sound d inner ts p (lead is_first_match ts) refl h
+property_with-sound d inner ts p h = property_from-sound d inner ts p (lead is_first_match_word ts) refl h
 
 inside-zero : IsSoundInside zero
 unfolding properties

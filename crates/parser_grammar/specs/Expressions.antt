@@ -19,7 +19,7 @@ use Rattle.parser_grammar.specs.declared.terminal.Terminal.TheVariants.{Colon, D
 use Rattle.parser_grammar.specs.Terminals.{terminal, is_name, is_word}
 use Rattle.parser_grammar.specs.Bounds.{index, bound_within}
 use Rattle.parser_grammar.specs.Operators.{infix_of, infix_level}
-use Rattle.parser_grammar.specs.Marks.{mark, precedence}
+use Rattle.parser_grammar.specs.Marks.{mark, precedence, choice_level}
 use Rattle.parser_grammar.specs.Trees.{Tree, number, path, concatenation, past, call, unary, chain}
 use Rattle.parser_grammar.specs.Trees.{choice}
 use Rattle.parser_grammar.specs.Trees.{Links, end, link, Parts, no_part, part}
@@ -111,6 +111,6 @@ mutual
     is_operand : {d : ℕ} {e : Tree} {ts rest : List Token}
         → Operand d 9 e ts rest → Spells d e ts rest
     is_choice : {d : ℕ} {t colon : Token} {c a b : Tree} {ts us vs rest : List Token}
-        → precedence t ≡ 10 → terminal colon ≡ Colon → Operand (suc d) 9 c ts (t ∷ us)
+        → precedence t ≡ choice_level → terminal colon ≡ Colon → Operand (suc d) 9 c ts (t ∷ us)
         → Spells d a us (colon ∷ vs) → Spells d b vs rest
         → Spells (suc d) (choice c a b) ts rest

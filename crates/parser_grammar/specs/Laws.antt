@@ -1,7 +1,7 @@
 -- Laws that show that reading from the left finds exactly what the grammar's rules say.
 use Rattle.std.specs.Prelude.{◌≡◌, ℕ, ◌<◌, List, Some}
 use Rattle.lexer.specs.declared.token.Token.{Token}
-use Rattle.parser_grammar.specs.Marks.{next_precedence}
+use Rattle.parser_grammar.specs.Marks.{next_precedence, choice_level, or_level, implication_level}
 use Rattle.parser_grammar.specs.Trees.{Tree, SequenceForm, PropertyForm, ItemForm}
 use Rattle.parser_grammar.specs.Expressions.{Spells}
 use Rattle.parser_grammar.specs.Sequences.{IsSequence, IsProperty}
@@ -28,7 +28,7 @@ TokensSpellOneFile =
 -- The tokens that an expression spells are read as it, where no operator of expressions follows.
 abbrev pub SpelledExpressionsAreRead : Type 0
 SpelledExpressionsAreRead =
-    (d : ℕ) (e : Tree) (ts rest : List Token) → 10 < next_precedence rest
+    (d : ℕ) (e : Tree) (ts rest : List Token) → choice_level < next_precedence rest
     → Spells d e ts rest → expression d ts ≡ Some (e, rest)
 
 -- What is read as an expression spells the tokens that were read.
@@ -40,13 +40,13 @@ ReadExpressionsAreSpelled =
 -- Tokens spell at most one expression, where no operator of expressions follows.
 abbrev pub TokensSpellOneExpression : Type 0
 TokensSpellOneExpression =
-    (d : ℕ) (e f : Tree) (ts rest : List Token) → 10 < next_precedence rest
+    (d : ℕ) (e f : Tree) (ts rest : List Token) → choice_level < next_precedence rest
     → Spells d e ts rest → Spells d f ts rest → e ≡ f
 
 -- The tokens that a sequence spells are read as it, where no operator of sequences follows.
 abbrev pub SpelledSequencesAreRead : Type 0
 SpelledSequencesAreRead =
-    (d : ℕ) (s : SequenceForm) (ts rest : List Token) → 16 < next_precedence rest
+    (d : ℕ) (s : SequenceForm) (ts rest : List Token) → or_level < next_precedence rest
     → IsSequence d s ts rest → whole d ts ≡ Some (s, rest)
 
 -- What is read as a sequence spells the tokens that were read.
@@ -58,7 +58,7 @@ ReadSequencesAreSpelled =
 -- The tokens that a property spells are read as it, where no operator of properties follows.
 abbrev pub SpelledPropertiesAreRead : Type 0
 SpelledPropertiesAreRead =
-    (d : ℕ) (p : PropertyForm) (ts rest : List Token) → 17 < next_precedence rest
+    (d : ℕ) (p : PropertyForm) (ts rest : List Token) → implication_level < next_precedence rest
     → IsProperty d p ts rest → property d ts ≡ Some (p, rest)
 
 -- What is read as a property spells the tokens that were read.

@@ -57,13 +57,46 @@ mark_of_terminal _ k = Other
 unfoldable pub mark : Token → Mark
 mark t = mark_of_terminal (terminal t) t.kind
 
--- How loosely a token joins what stands before it to what follows: 1 to 9 are the levels of the
--- left operators, from the tightest, 10 is ?, 11 throughout, 12 [*, 13 ##, 14 intersect, 15 and, 16
--- or,
--- 17 the implications. 0 goes on with a path, 100 with nothing.
+-- How loosely a token joins what stands before it to what follows, from the tightest. After what
+-- goes on with a path come the levels of the left operators, which are 1 to 9.
+abbrev pub path_level : ℕ
+path_level = 0
+
+-- ?
+abbrev pub choice_level : ℕ
+choice_level = 10
+
+abbrev pub throughout_level : ℕ
+throughout_level = 11
+
+-- [*
+abbrev pub repeat_level : ℕ
+repeat_level = 12
+
+-- ##
+abbrev pub delay_level : ℕ
+delay_level = 13
+
+abbrev pub intersect_level : ℕ
+intersect_level = 14
+
+abbrev pub and_level : ℕ
+and_level = 15
+
+abbrev pub or_level : ℕ
+or_level = 16
+
+-- |-> and |=>
+abbrev pub implication_level : ℕ
+implication_level = 17
+
+-- it joins nothing
+abbrev pub no_level : ℕ
+no_level = 100
+
 abbrev pub precedence_of_other : Kind → ℕ
-precedence_of_other (kind.Symbol symbol.Question) = 10
-precedence_of_other _ = 100
+precedence_of_other (kind.Symbol symbol.Question) = choice_level
+precedence_of_other _ = no_level
 
 abbrev pub precedence_by : Option Infix → Kind → ℕ
 precedence_by None k = precedence_of_other k
@@ -73,18 +106,18 @@ abbrev pub precedence_of_operator : Kind → ℕ
 precedence_of_operator k = precedence_by (infix_of_kind k) k
 
 abbrev pub precedence_of_terminal : Terminal → Kind → ℕ
-precedence_of_terminal terminals.Dot k = 0
-precedence_of_terminal terminals.OpenSquare k = 0
+precedence_of_terminal terminals.Dot k = path_level
+precedence_of_terminal terminals.OpenSquare k = path_level
 precedence_of_terminal terminals.Operator k = precedence_of_operator k
-precedence_of_terminal terminals.Throughout k = 11
-precedence_of_terminal terminals.OpenRepeat k = 12
-precedence_of_terminal terminals.Delay k = 13
-precedence_of_terminal terminals.Intersect k = 14
-precedence_of_terminal terminals.And k = 15
-precedence_of_terminal terminals.Or k = 16
-precedence_of_terminal terminals.Overlapped k = 17
-precedence_of_terminal terminals.Following k = 17
-precedence_of_terminal _ k = 100
+precedence_of_terminal terminals.Throughout k = throughout_level
+precedence_of_terminal terminals.OpenRepeat k = repeat_level
+precedence_of_terminal terminals.Delay k = delay_level
+precedence_of_terminal terminals.Intersect k = intersect_level
+precedence_of_terminal terminals.And k = and_level
+precedence_of_terminal terminals.Or k = or_level
+precedence_of_terminal terminals.Overlapped k = implication_level
+precedence_of_terminal terminals.Following k = implication_level
+precedence_of_terminal _ k = no_level
 
 unfoldable pub precedence : Token → ℕ
 precedence t = precedence_of_terminal (terminal t) t.kind
@@ -95,5 +128,5 @@ has_precedence k t = precedence t == k
 
 -- that of the first token
 abbrev pub next_precedence : List Token → ℕ
-next_precedence [] = 100
+next_precedence [] = no_level
 next_precedence (t ∷ ts) = precedence t

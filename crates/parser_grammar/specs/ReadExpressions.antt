@@ -15,7 +15,7 @@ use Rattle.parser_grammar.specs.declared.terminal.Terminal.TheVariants.{Colon, D
 use Rattle.parser_grammar.specs.Terminals.{is, is_name, is_word}
 use Rattle.parser_grammar.specs.Bounds.{index, bound_within}
 use Rattle.parser_grammar.specs.Operators.{infix_of, is_infix}
-use Rattle.parser_grammar.specs.Marks.{mark, has_precedence}
+use Rattle.parser_grammar.specs.Marks.{mark, has_precedence, choice_level}
 use Rattle.parser_grammar.specs.Trees.{Tree, number, path, concatenation, past, call, unary, chain}
 use Rattle.parser_grammar.specs.Trees.{choice}
 use Rattle.parser_grammar.specs.Trees.{Links, end, link, Parts, no_part, part}
@@ -135,7 +135,7 @@ choice_by inner (Some t) c ts =
 
 -- after a condition, if it is one
 unfoldable pub choice_with : Reader Tree → Tree → Reader Tree
-choice_with inner c ts = choice_by inner (lead (has_precedence 10) ts) c ts
+choice_with inner c ts = choice_by inner (lead (has_precedence choice_level) ts) c ts
 
 -- the rest of an expression after its first operand
 abbrev pub finish_with : Inner → Reader Tree → Tree → Reader Tree

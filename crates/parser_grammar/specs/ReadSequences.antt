@@ -12,7 +12,7 @@ use Rattle.parser_grammar.specs.declared.terminal.Terminal.TheVariants.{Colon}
 use Rattle.parser_grammar.specs.declared.terminal.Terminal.TheVariants.{Delay, Throughout}
 use Rattle.parser_grammar.specs.declared.terminal.Terminal.TheVariants.{Intersect, And}
 use Rattle.parser_grammar.specs.declared.terminal.Terminal.TheVariants.{Or}
-use Rattle.parser_grammar.specs.Terminals.{is, is_first_match}
+use Rattle.parser_grammar.specs.Terminals.{is, is_first_match_word}
 use Rattle.parser_grammar.specs.Bounds.{bound_within}
 use Rattle.parser_grammar.specs.Operators.{implication_of}
 use Rattle.parser_grammar.specs.Trees.{Tree, SequenceForm, boolean, repeated, late, delayed}
@@ -222,7 +222,7 @@ property_from d inner (Some w) ts = first_behind d w.0 w.1
 
 -- prop, where the property in brackets is read by the reader
 unfoldable pub property_with : ℕ → Reader PropertyForm → Reader PropertyForm
-property_with d inner ts = property_from d inner (lead is_first_match ts) ts
+property_with d inner ts = property_from d inner (lead is_first_match_word ts) ts
 
 -- prop, where so many brackets may open
 unfoldable pub properties : ℕ → Reader PropertyForm

@@ -13,7 +13,7 @@ use Rattle.parser_grammar.specs.declared.terminal.Terminal.TheVariants.{Colon}
 use Rattle.parser_grammar.specs.declared.terminal.Terminal.TheVariants.{Delay, Throughout}
 use Rattle.parser_grammar.specs.declared.terminal.Terminal.TheVariants.{Intersect, And}
 use Rattle.parser_grammar.specs.declared.terminal.Terminal.TheVariants.{Or}
-use Rattle.parser_grammar.specs.Terminals.{terminal, is_first_match}
+use Rattle.parser_grammar.specs.Terminals.{terminal, is_first_match_word}
 use Rattle.parser_grammar.specs.Bounds.{bound_within}
 use Rattle.parser_grammar.specs.Operators.{implication_of}
 use Rattle.parser_grammar.specs.Trees.{Tree, SequenceForm, boolean, repeated, late, delayed}
@@ -160,7 +160,7 @@ pub data IsProperty : ℕ → PropertyForm → List Token → List Token → Typ
       → IsProperty d (implication None a i c) ts rest
   is_first : {d : ℕ} {word left right t : Token} {i : Implication} {a c : SequenceForm}
       {ts us rest : List Token}
-      → is_first_match word ≡ true → terminal left ≡ OpenRound
+      → is_first_match_word word ≡ true → terminal left ≡ OpenRound
       → IsSequence d a ts (right ∷ t ∷ us) → terminal right ≡ CloseRound
       → implication_of t ≡ Some i → IsSequence (suc d) c us rest
       → IsProperty (suc d) (implication (Some word) a i c) (word ∷ left ∷ ts) rest

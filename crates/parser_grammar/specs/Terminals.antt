@@ -196,5 +196,5 @@ unfoldable pub is : Terminal → Token → Bool
 is wanted t = terminal_number wanted == terminal_number (terminal t)
 
 -- the word round an antecedent, of which only the first match counts
-unfoldable pub is_first_match : Token → Bool
-is_first_match t = is ForeignWord t && bytes_eq t.text.now (codes "first_match")
+unfoldable pub is_first_match_word : Token → Bool
+is_first_match_word t = is ForeignWord t && bytes_eq t.text.now (codes "first_match")

@@ -14,7 +14,7 @@
 //!
 //! ```text
 //! let terminal = terminal_of(token);       // Terminal::Sequence, Terminal::Name, ..
-//! let dot = is(Terminal::Dot, token);      // is_name, is_word, is_first_match ask for words
+//! let dot = is(Terminal::Dot, token);      // is_name, is_word, is_first_match_word ask for words
 //! let mark = mark_of(token);               // how it may begin a primary: Mark::Name, ..
 //! let operator = infix_of(token);          // the left operator that it is, or none
 //! let sign = implication_of(token);        // Implication::Overlapped for |->, or none
@@ -55,6 +55,6 @@ pub use item::{
 pub use laws::grammar_law;
 pub use mark::{Function, Mark, mark_of};
 pub use operator::{Implication, Infix, Junction, Prefix, implication_of, infix_of};
-pub use precedence::precedence_of;
+pub use precedence::{CHOICE, precedence_of};
 pub use sequence::SequenceTree;
-pub use terminal::{Terminal, is, is_first_match, is_name, is_word, terminal_of};
+pub use terminal::{Terminal, is, is_first_match_word, is_name, is_word, terminal_of};

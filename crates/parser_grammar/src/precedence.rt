@@ -8,12 +8,38 @@ use crate::operator::infix_of_kind;
 use crate::terminal::{Terminal, terminal_of};
 use lexer::{Kind, Symbol, Token};
 
+/// The precedence of what goes on with a path. The levels of the left operators are 1 to 9.
+const PATH: usize = 0;
+
+/// The precedence of `?`.
+pub const CHOICE: usize = 10;
+
+const THROUGHOUT: usize = 11;
+
+/// The precedence of `[*`.
+const REPEAT: usize = 12;
+
+/// The precedence of `##`.
+const DELAY: usize = 13;
+
+const INTERSECT: usize = 14;
+
+const AND: usize = 15;
+
+const OR: usize = 16;
+
+/// The precedence of `|->` and `|=>`.
+const IMPLICATION: usize = 17;
+
+/// The precedence of what joins nothing.
+const NONE: usize = 100;
+
 fn precedence_of_other(kind: Kind) -> usize
     ensures { result ≡ precedence_of_other kind }
 {
     match kind {
-        Kind::Symbol(Symbol::Question) => 10,
-        _ => 100,
+        Kind::Symbol(Symbol::Question) => CHOICE,
+        _ => NONE,
     }
 }
 
@@ -30,22 +56,21 @@ fn precedence_of_terminal(terminal: Terminal, kind: Kind) -> usize
     ensures { result ≡ precedence_of_terminal terminal kind }
 {
     match terminal {
-        Terminal::Dot | Terminal::OpenSquare => 0,
+        Terminal::Dot | Terminal::OpenSquare => PATH,
         Terminal::Operator => precedence_of_operator(kind),
-        Terminal::Throughout => 11,
-        Terminal::OpenRepeat => 12,
-        Terminal::Delay => 13,
-        Terminal::Intersect => 14,
-        Terminal::And => 15,
-        Terminal::Or => 16,
-        Terminal::Overlapped | Terminal::Following => 17,
-        _ => 100,
+        Terminal::Throughout => THROUGHOUT,
+        Terminal::OpenRepeat => REPEAT,
+        Terminal::Delay => DELAY,
+        Terminal::Intersect => INTERSECT,
+        Terminal::And => AND,
+        Terminal::Or => OR,
+        Terminal::Overlapped | Terminal::Following => IMPLICATION,
+        _ => NONE,
     }
 }
 
-/// 1 to 9 are the levels of the left operators, from the tightest; 10 is `?`, 11 `throughout`, 12
-/// `[*`, 13 `##`, 14 `intersect`, 15 `and`, 16 `or`, 17 the implications. 0 goes on with a path,
-/// 100 with nothing.
+/// How loosely a token joins: 1 to 9 are the levels of the left operators, from the tightest. 0
+/// goes on with a path; `?` and the operators of sequences and properties are looser.
 #[tactic(auto, unfolding(crate::specs::Marks::precedence))]
 pub fn precedence_of(token: Token) -> usize
     ensures { result ≡ precedence token.entry }

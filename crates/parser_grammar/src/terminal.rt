@@ -8,7 +8,7 @@ ghost use Rattle.parser_grammar.specs.declared.terminal.Terminal.{Terminal};
 ghost use Rattle.parser_grammar.specs.Terminals.{is_foreign, foreign_word};
 ghost use Rattle.parser_grammar.specs.Terminals.{word_terminal, system_terminal};
 ghost use Rattle.parser_grammar.specs.Terminals.{symbol_terminal, terminal, is, is_name, is_word};
-ghost use Rattle.parser_grammar.specs.Terminals.{is_first_match};
+ghost use Rattle.parser_grammar.specs.Terminals.{is_first_match_word};
 
 use lexer::{Kind, Symbol, Token};
 
@@ -239,9 +239,9 @@ pub fn is(wanted: Terminal, token: Token) -> bool
 }
 
 /// Whether the token is the word `first_match`, as round an antecedent.
-#[tactic(auto, unfolding(crate::specs::Terminals::is_first_match))]
-pub fn is_first_match(token: Token) -> bool
-    ensures { result ≡ is_first_match token.entry }
+#[tactic(auto, unfolding(crate::specs::Terminals::is_first_match_word))]
+pub fn is_first_match_word(token: Token) -> bool
+    ensures { result ≡ is_first_match_word token.entry }
 {
     is(Terminal::ForeignWord, token) && token.text == "first_match"
 }

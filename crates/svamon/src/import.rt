@@ -5,7 +5,8 @@ use cli::Fault;
 use cli_shell::{Sources, open, print_bytes, read_sources, shown_lines, shown_status};
 use cli_words::TeamFiles;
 use import_files::{
-    ImportFault, Imported, Known, Reading, Signals, imported, known_of, messages_of, signals_of,
+    DumpSignal, ImportFault, Imported, Reading, Signals, imported, known_of, messages_of,
+    signals_of,
     status_of, text_of, unread_line,
 };
 use source_files::Part;
@@ -39,7 +40,7 @@ fn bytes_of(option: &Option<String>) -> Option<&[u8]> {
 /// How the files are read.
 fn reading_of<'a>(
     team: &'a TeamFiles,
-    widths: &'a [Known<'a>],
+    widths: &'a [DumpSignal<'a>],
     names: &'a [String],
 ) -> Reading<'a> {
     Reading {

@@ -1,7 +1,7 @@
 //! Types of arguments, local variables and signals (IEEE 1800-2017, 6.11, 6.24.1, 10.7, 11.8 and
 //! 16.8.1). What is wanted was worked out by hand.
 
-use import_expressions::Known;
+use import_expressions::DumpSignal;
 use import_files::{ImportFault, Reading, imported, messages_of, text_of};
 use source_files::Part;
 use std::alloc::{AllocError, Global};
@@ -20,7 +20,7 @@ const SIGNALS: [(&[u8], u32); 8] = [
 ];
 
 /// What is known of these.
-fn known(alloc: Global) -> Result<Vec<Known<'static>>, AllocError> {
+fn known(alloc: Global) -> Result<Vec<DumpSignal<'static>>, AllocError> {
     let mut all = Vec::new(alloc);
     for (path, width) in SIGNALS.iter() {
         let range = if *width == 1 {
@@ -28,7 +28,7 @@ fn known(alloc: Global) -> Result<Vec<Known<'static>>, AllocError> {
         } else {
             Some((width.saturating_sub(1), 0))
         };
-        all.push(Known {
+        all.push(DumpSignal {
             path: *path,
             width: *width,
             range,

@@ -5,25 +5,25 @@ use import_readback::says_rewriting;
 use import_rewriting::Rewriting;
 use import_scopes::File;
 use import_semantics::{Condition, Sequence};
-use import_spelling::{Known, Spelling};
+use import_spelling::{DumpSignal, Spelling};
 use import_tokens::{Expansions, Macros, TokenFault};
 use std::alloc::{AllocError, Global};
 use std::process::Abort;
 use std::test::Fail;
 
 /// The signals whose widths are known, where they are.
-const WIDTHS: [Known<'static>; 3] = [
-    Known {
+const WIDTHS: [DumpSignal<'static>; 3] = [
+    DumpSignal {
         path: b"tb.a",
         width: 1,
         range: None,
     },
-    Known {
+    DumpSignal {
         path: b"tb.v",
         width: 8,
         range: None,
     },
-    Known {
+    DumpSignal {
         path: b"tb.w",
         width: 3,
         range: None,
@@ -81,7 +81,7 @@ fn text_with<'t>(
     parts: &Parts<'t>,
     opened: &Opened<'t>,
     scope: Option<&[u8]>,
-    widths: &[Known],
+    widths: &[DumpSignal],
 ) -> Result<Vec<u8>, AllocError> {
     let part = parts.parts.get(opened.body.0).map(|node| node.part);
     let mut spelling = Spelling::new(alloc, parts, scope, widths);

@@ -24,7 +24,7 @@ use Rattle.types_names.specs.declared.operator.Unary.TheVariants as unaries
 use Rattle.types_names.specs.declared.operator.Call.{Call}
 use Rattle.types_names.specs.declared.operator.Call.TheVariants as calls
 use Rattle.types_names.specs.Scopes.{Scope, path_text, meaning}
-use Rattle.types_names.specs.Width.{binary_of, unary_of, call_of, ticks_of}
+use Rattle.types_names.specs.Width.{binary_of, unary_of, call_of, ticks_before}
 use Rattle.types_names.specs.Columns.{column_of}
 use Rattle.types_expressions.specs.Meanings.{binary_term, unary_term, call_term, IsName, IsNameOf, IsReference, Means}
 use Rattle.types_expressions.specs.Meanings.{Chains, Joins, JoinsMore}
@@ -179,8 +179,8 @@ module _ (x : Samples) where
       one-meaning (path words sel) e f m n = same-read (meaning s words) (column_of cs (path_text words)) sel e f m n
       one-meaning (concatenation t d parts) e f m n = one-join parts m.0 n.0 e f (one-meaning d m.0 n.0 m.1 n.1) m.2 n.2
       one-meaning (past t d p) e f m n =
-          same-by e f (terms.past m.0 (ticks_of p)) (terms.past n.0 (ticks_of p)) m.2 n.2
-          (same-past (ticks_of p) m.0 n.0 (one-meaning d m.0 n.0 m.1 n.1))
+          same-by e f (terms.past m.0 (ticks_before p)) (terms.past n.0 (ticks_before p)) m.2 n.2
+          (same-past (ticks_before p) m.0 n.0 (one-meaning d m.0 n.0 m.1 n.1))
       one-meaning (call g t d) e f m n =
           same-by e f (call_term (call_of g) m.0) (call_term (call_of g) n.0) m.2 n.2
           (same-called (call_of g) m.0 n.0 (one-meaning d m.0 n.0 m.1 n.1))

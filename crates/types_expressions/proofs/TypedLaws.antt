@@ -27,7 +27,7 @@ use Rattle.types_names.specs.declared.own.Meaning.TheVariants.{Signal, Own as De
 use Rattle.types_names.specs.declared.own.Sought.{Sought}
 use Rattle.types_names.specs.declared.own.Sought.TheVariants.{Unknown, Wide, OutOfRange}
 use Rattle.types_names.specs.Scopes.{Scope, path_text, first_byte, meaning, bits_of}
-use Rattle.types_names.specs.Width.{binary_of, unary_of, call_of, literal_width, literal_value, ticks_of}
+use Rattle.types_names.specs.Width.{binary_of, unary_of, call_of, literal_width, literal_value, ticks_before}
 use Rattle.types_names.specs.Width.{high_of, low_of, own_width, parts_width}
 use Rattle.types_names.specs.Faults.{unless, has_bits, path_faults, wide_faults, faults, link_faults, part_faults}
 use Rattle.types_names.specs.Faults.{IsSound}
@@ -210,7 +210,7 @@ module _ (s : Scope) (cs : List (List ℕ)) where
   means-concatenation x t d parts a e is m h = subst (λ (y : Tree). Means s cs y e) (sym is) (a, m, h)
 
   pub means-past : (x : Tree) (t : Token) (d : Tree) (n : Option Bound) (a e : Term) → x ≡ past t d n → Means s cs d a
-      → e ≡ terms.past a (ticks_of n) → Means s cs x e
+      → e ≡ terms.past a (ticks_before n) → Means s cs x e
   unfolding Means
   means-past x t d n a e is m h = subst (λ (y : Tree). Means s cs y e) (sym is) (a, m, h)
 

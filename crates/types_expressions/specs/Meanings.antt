@@ -25,7 +25,7 @@ use Rattle.types_names.specs.declared.operator.Call.TheVariants as calls
 use Rattle.types_names.specs.Scopes.{Scope, path_text, meaning}
 use Rattle.types_names.specs.Width.{binary_of, unary_of, call_of, literal_width}
 use Rattle.types_names.specs.Width.{literal_value}
-use Rattle.types_names.specs.Width.{high_of, low_of, ticks_of}
+use Rattle.types_names.specs.Width.{high_of, low_of, ticks_before}
 use Rattle.types_names.specs.Columns.{column_of}
 
 -- an operator with its operands
@@ -93,7 +93,7 @@ unfoldable mutual
   Means s columns (concatenation t d parts) e =
       (a : Term) × Means s columns d a × Joins s columns a parts e
   Means s columns (past t d n) e =
-      (a : Term) × Means s columns d a × (e ≡ terms.past a (ticks_of n))
+      (a : Term) × Means s columns d a × (e ≡ terms.past a (ticks_before n))
   Means s columns (call f t d) e = (a : Term) × Means s columns d a × (e ≡ call_term (call_of f) a)
   Means s columns (unary op t d) e =
       (a : Term) × Means s columns d a × (e ≡ unary_term (unary_of op) a)

@@ -9,7 +9,7 @@ ghost use Rattle.expressions.specs.Expressions.{term_of};
 ghost use Rattle.types_names.specs.declared.own.Sought.{Sought};
 ghost use Rattle.types_names.specs.Scopes.{path_text, first_byte, meaning, bits_of};
 ghost use Rattle.types_names.specs.Scopes.{is_narrow};
-ghost use Rattle.types_names.specs.Width.{ticks_of, parts_width, high_of, low_of};
+ghost use Rattle.types_names.specs.Width.{ticks_before, parts_width, high_of, low_of};
 ghost use Rattle.types_names.specs.Faults.{IsSound, has_bits, path_faults, link_faults};
 ghost use Rattle.types_names.specs.Faults.{part_faults};
 ghost use Rattle.types_names.specs.Columns.{HasColumns, column_of, is_listed, all_listed};
@@ -93,8 +93,8 @@ fn choice(
 }
 
 /// The ticks of `$past`.
-fn ticks_of(ticks: Option<Bound>) -> u8
-    ensures { result ≡ ticks_of ticks }
+fn ticks_before(ticks: Option<Bound>) -> u8
+    ensures { result ≡ ticks_before ticks }
 {
     match ticks {
         Some(ticks) => ticks.value,
@@ -223,7 +223,7 @@ pub fn typed_expression(
         }
         ExprTree::Past(_, operand, ticks) => {
             let operand = typed_expression(alloc, scope, columns, operand)?;
-            operand.past(alloc, ticks_of(*ticks))
+            operand.past(alloc, ticks_before(*ticks))
         }
         ExprTree::Call(function, _, operand) => {
             let operand = typed_expression(alloc, scope, columns, operand)?;

@@ -89,9 +89,9 @@ abbrev pub low_of : Select → ℕ
 low_of x = low_or x.high.value x.low
 
 -- ticks of $past
-abbrev pub ticks_of : Option Bound → ℕ
-ticks_of None = 1
-ticks_of (Some n) = n.value
+abbrev pub ticks_before : Option Bound → ℕ
+ticks_before None = 1
+ticks_before (Some n) = n.value
 
 -- A path that can't be read counts as one bit, as does a select whose high bit is below its low one
 -- (1 + what is left of high - low, at least 0). A select counts as it is written, also where its

@@ -2,7 +2,7 @@
 use Rattle.std.proofs.Common.{◌≡◌, ℕ, suc, Bool, true, false, not, cond, List, [], ◌∷◌, ◌++◌, map, take, drop}
 use Rattle.std.proofs.Common.{◌-◌, length, refl, sym, ap, ◌∙◌, append_assoc, arith}
 use Rattle.std.proofs.lemmas.List.{append_cancel_right, take-append-drop, take_all, length-drop}
-use Rattle.vcd_reader.specs.Tokens.{DumpToken, is_separator, goes_on, with_byte, tokens}
+use Rattle.vcd_reader.specs.Tokens.{DumpToken, is_separator, token_goes_on, with_byte, tokens}
 use Rattle.vcd_declarations.specs.Sections.{texts}
 
 -- a slice to the end
@@ -35,13 +35,13 @@ pub texts-from : (at : ℕ) (bs : List ℕ) → text_list (tokens at bs) ≡ tex
 unfolding texts tokens
 texts-from at [] = refl
 texts-from at (b ∷ bs) =
-    one-more (is_separator b) (goes_on bs) b at (tokens (suc at) bs) (texts bs) (texts-from (suc at) bs)
-    ∙ sym (one-more (is_separator b) (goes_on bs) b 0 (tokens 1 bs) (texts bs) (texts-from 1 bs))
+    one-more (is_separator b) (token_goes_on bs) b at (tokens (suc at) bs) (texts bs) (texts-from (suc at) bs)
+    ∙ sym (one-more (is_separator b) (token_goes_on bs) b 0 (tokens 1 bs) (texts bs) (texts-from 1 bs))
 
 texts-cons : (b : ℕ) (bs : List ℕ) → texts (b ∷ bs)
-    ≡ cond (is_separator b) (texts bs) (cond (goes_on bs) (with_front b (texts bs)) ((b ∷ []) ∷ texts bs))
+    ≡ cond (is_separator b) (texts bs) (cond (token_goes_on bs) (with_front b (texts bs)) ((b ∷ []) ∷ texts bs))
 unfolding texts tokens
-texts-cons b bs = one-more (is_separator b) (goes_on bs) b 0 (tokens 1 bs) (texts bs) (texts-from 1 bs)
+texts-cons b bs = one-more (is_separator b) (token_goes_on bs) b 0 (tokens 1 bs) (texts bs) (texts-from 1 bs)
 
 pub texts-nil : texts [] ≡ []
 unfolding texts tokens
@@ -75,11 +75,11 @@ begins-if true g b ts h f = absurd cc
 begins-if false true b ts h f = begins-front b ts (f refl)
 begins-if false false b ts h f = record { first = b ∷ []; later = ts; parts = refl }
 
-begins-texts : (bs : List ℕ) → goes_on bs ≡ true → Begins (texts bs)
+begins-texts : (bs : List ℕ) → token_goes_on bs ≡ true → Begins (texts bs)
 begins-texts [] h = absurd cc
 begins-texts (b ∷ bs) h =
     rw (texts-cons b bs)
-    (begins-if (is_separator b) (goes_on bs) b (texts bs) h (λ g. begins-texts bs g))
+    (begins-if (is_separator b) (token_goes_on bs) b (texts bs) h (λ g. begins-texts bs g))
 
 front-append : (b : ℕ) (xs ys : List (List ℕ)) → Begins xs → with_front b (xs ++ ys) ≡ with_front b xs ++ ys
 front-append b [] ys h = let e = h.parts in absurd cc
@@ -92,20 +92,20 @@ more-append true g b xs ys h = refl
 more-append false true b xs ys h = front-append b xs ys (h refl)
 more-append false false b xs ys h = refl
 
-goes-append : (xs ys : List ℕ) → goes_on ys ≡ false → goes_on (xs ++ ys) ≡ goes_on xs
+goes-append : (xs ys : List ℕ) → token_goes_on ys ≡ false → token_goes_on (xs ++ ys) ≡ token_goes_on xs
 goes-append [] ys h = h
 goes-append (x ∷ xs) ys h = refl
 
 -- where no token goes on, the texts before and after
-texts-append : (xs ys : List ℕ) → goes_on ys ≡ false → texts (xs ++ ys) ≡ texts xs ++ texts ys
+texts-append : (xs ys : List ℕ) → token_goes_on ys ≡ false → texts (xs ++ ys) ≡ texts xs ++ texts ys
 texts-append [] ys h = ap (λ (ts : List (List ℕ)). ts ++ texts ys) (sym texts-nil)
 texts-append (x ∷ xs) ys h =
     texts-cons x (xs ++ ys)
     ∙ ap (λ (g : Bool). cond (is_separator x) (texts (xs ++ ys))
     (cond g (with_front x (texts (xs ++ ys))) ((x ∷ []) ∷ texts (xs ++ ys)))) (goes-append xs ys h)
     ∙ ap (λ (ts : List (List ℕ)). cond (is_separator x) ts
-    (cond (goes_on xs) (with_front x ts) ((x ∷ []) ∷ ts))) (texts-append xs ys h)
-    ∙ more-append (is_separator x) (goes_on xs) x (texts xs) (texts ys) (λ g. begins-texts xs g)
+    (cond (token_goes_on xs) (with_front x ts) ((x ∷ []) ∷ ts))) (texts-append xs ys h)
+    ∙ more-append (is_separator x) (token_goes_on xs) x (texts xs) (texts ys) (λ g. begins-texts xs g)
     ∙ ap (λ (ts : List (List ℕ)). ts ++ texts ys) (sym (texts-cons x xs))
 
 -- the texts up to a byte, and from it on
@@ -115,7 +115,7 @@ pub record IsSplit (bytes : List ℕ) (at : ℕ) : Type 0 where
 pub split-start : (bytes : List ℕ) → IsSplit bytes 0
 split-start bytes = record { whole = ap (λ (ts : List (List ℕ)). ts ++ texts bytes) (sym texts-nil) }
 
-pub split-at : (bytes : List ℕ) (at : ℕ) → goes_on (drop at bytes) ≡ false → IsSplit bytes at
+pub split-at : (bytes : List ℕ) (at : ℕ) → token_goes_on (drop at bytes) ≡ false → IsSplit bytes at
 split-at bytes at h = record {
   whole = ap texts (sym (take-append-drop at bytes)) ∙ texts-append (take at bytes) (drop at bytes) h;
 }

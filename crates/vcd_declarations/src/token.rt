@@ -2,7 +2,7 @@
 
 ghost use Rattle.std.specs.Prelude.{◌≡◌, ◌<◌, ◌≤◌, length, slice_range, drop, true, false};
 ghost use Rattle.std.specs.Prelude.{[], ◌∷◌, IfSome, MatchOption};
-ghost use Rattle.vcd_reader.specs.Tokens.{is_separator, goes_on, tokens};
+ghost use Rattle.vcd_reader.specs.Tokens.{is_separator, token_goes_on, tokens};
 ghost use Rattle.vcd_declarations.specs.Sections.{texts};
 
 fn separates(byte: u8) -> bool
@@ -17,7 +17,7 @@ fn skip_spaces(bytes: &[u8], start: usize) -> usize
     ensures low { start ≤ result }
     ensures high { result ≤ length bytes.now }
     ensures tokens { tokens start (drop start bytes.now) ≡ tokens result (drop result bytes.now) }
-    ensures stops { result < length bytes.now → goes_on (drop result bytes.now) ≡ true }
+    ensures stops { result < length bytes.now → token_goes_on (drop result bytes.now) ≡ true }
 {
     let mut at = start;
     while at < bytes.len() && separates(bytes[at]) {
@@ -29,10 +29,10 @@ fn skip_spaces(bytes: &[u8], start: usize) -> usize
 /// The end of the token that begins there.
 fn token_end(bytes: &[u8], start: usize) -> usize
     requires inside { start < length bytes.now }
-    requires begins { goes_on (drop start bytes.now) ≡ true }
+    requires begins { token_goes_on (drop start bytes.now) ≡ true }
     ensures low { start < result }
     ensures high { result ≤ length bytes.now }
-    ensures stops { goes_on (drop result bytes.now) ≡ false }
+    ensures stops { token_goes_on (drop result bytes.now) ≡ false }
     ensures token { tokens start (drop start bytes.now)
         ≡ record { text = slice_range bytes.now start result; at = start }
         ∷ tokens result (drop result bytes.now) }
@@ -48,7 +48,7 @@ fn token_end(bytes: &[u8], start: usize) -> usize
 pub(crate) fn next_token(bytes: &[u8], at: usize) -> Option<(usize, usize)>
     requires { at ≤ length bytes.now }
     ensures some { IfSome result (λ r. (at ≤ r.0) × (r.0 < r.1) × (r.1 ≤ length bytes.now)) }
-    ensures stops { IfSome result (λ r. goes_on (drop r.1 bytes.now) ≡ false) }
+    ensures stops { IfSome result (λ r. token_goes_on (drop r.1 bytes.now) ≡ false) }
     ensures texts { MatchOption result (texts (drop at bytes.now) ≡ [])
         (λ r. texts (drop at bytes.now)
         ≡ slice_range bytes.now r.0 r.1 ∷ texts (drop r.1 bytes.now)) }

@@ -11,6 +11,7 @@ pub mod HeaderLaws
 pub mod ProgramLaws
 pub mod VerifyLaws
 pub mod LimitLaws
+pub mod Acceptable
 pub mod LimitFaultLaws
 pub mod ShortLaws
 pub mod LifeLaws

@@ -14,7 +14,8 @@ use Rattle.bytecode.specs.declared.limits.Limits.{Limits}
 use Rattle.verifier.specs.declared.least.LeastLimits.{LeastLimits}
 use Rattle.verifier.specs.Programs.{below, least_stack, least_attempts, least_obligations}
 use Rattle.verifier.specs.Programs.{least_budget, limit_refusals, least_limits, part_faults}
-use Rattle.verifier.specs.Programs.{all_faults, IsWithinLimits, IsAcceptable}
+use Rattle.verifier.specs.Programs.{all_faults}
+use Rattle.verifier.proofs.Acceptable.{IsWithinLimits, IsAcceptable}
 use Rattle.verifier.proofs.ScanLaws.{head_of}
 use Rattle.verifier.proofs.BlockLaws.{none_first}
 use Rattle.verifier.proofs.TypingLaws.{nil_parts, nil_map}

@@ -19,7 +19,8 @@ use Rattle.bytecode.specs.Instructions.{LeadsTo}
 use Rattle.verifier.specs.Typing.{IsFine, IsCodeTyped, AreShort, longest_list}
 use Rattle.bytecode.specs.Instructions.{frame_of}
 use Rattle.bytecode.specs.Values.{ProgramData}
-use Rattle.verifier.specs.Programs.{all_faults, IsAcceptable, IsAccepted}
+use Rattle.verifier.specs.Programs.{all_faults, IsAccepted}
+use Rattle.verifier.proofs.Acceptable.{IsAcceptable}
 use Rattle.verifier.specs.declared.refusal.Refusal.{Refusal}
 use Rattle.verifier.specs.declared.refusal.Refusal.TheVariants.{Memory}
 use Rattle.verifier.specs.Order.{IsIn, IsFirstRefusal}

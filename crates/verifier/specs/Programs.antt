@@ -131,21 +131,8 @@ pub record IsWellFormed (p : ProgramData) : Type 0 where
   pub antecedent : IsSection 2 p.header.atoms p.antecedent
   pub consequent : IsSection 3 p.header.atoms p.consequent
 
--- the declared limits are at least the least
-pub record IsWithinLimits (p : ProgramData) : Type 0 where
-  pub history : farthest p.sample ≤ p.header.limits.history
-  pub stack : least_stack p ≤ p.header.limits.stack
-  pub attempts : least_attempts p ≤ p.header.limits.attempts
-  pub obligations : least_obligations p ≤ p.header.limits.obligations
-  pub budget : least_budget p ≤ p.header.limits.budget
-
--- what is accepted
-pub record IsAcceptable (p : ProgramData) : Type 0 where
-  pub formed : IsWellFormed p
-  pub room : HasRoom p
-  pub limits : IsWithinLimits p
-
--- The same in the words of tables alone: that no list passes 1,024 follows from the stack.
+-- What is accepted, in the words of tables alone: no list passes 1,024, which follows from
+-- the stack.
 pub record IsAccepted (p : ProgramData) : Type 0 where
   pub disable : IsAtom p.header.disable p.header.atoms
   pub table : ℕ → List ℕ

@@ -32,7 +32,7 @@ mod opening;
 mod report;
 mod rounds_run;
 mod runs;
-mod taking;
+mod round_batches;
 mod totals;
 
 pub use opening::first_monitors;

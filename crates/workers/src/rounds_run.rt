@@ -6,7 +6,7 @@ ghost use Rattle.workers_rounds.specs.Runs.{IsMember};
 ghost use Rattle.workers.specs.Between.{IsBetween, clocks_of};
 ghost use Rattle.workers.specs.Tallied.{AreTallied};
 
-use crate::taking::{monitors_back, take_round};
+use crate::round_batches::{monitors_back, take_round};
 use cycle_window::Window;
 use std::alloc::{AllocError, Global};
 use std::sync::Wait;

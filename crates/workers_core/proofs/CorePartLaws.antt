@@ -63,7 +63,7 @@ use Rattle.workers_core.specs.States.{
   next_claim,
   held,
   is_at,
-  place,
+  monitor_clock,
   emptied,
   advanced,
   with_monitor,
@@ -243,14 +243,14 @@ set-same f (z ∷ xs) (suc i) x y h k = ap (λ bs. f z ∷ bs) (set-same f xs i 
 
 -- a step of a monitor in a hand
 pub advancing : (g : Setting) (s : CoreState) (w k i : ℕ) (m : MonitorState) →
-    held s.workers w ≡ Some i → slice_get s.monitors i ≡ Some m → 1 ≤ k → k ≤ s.end - place m →
+    held s.workers w ≡ Some i → slice_get s.monitors i ≡ Some m → 1 ≤ k → k ≤ s.end - monitor_clock m →
     next_advance g s w k ≡ Some (with_monitor s i (advanced (g.rows m.program) k m))
 advancing g s w k i m hand at some left =
     let one : nat_le 1 k ≡ true = grind (arith, some) in
-    let enough : nat_le k (s.end - place m) ≡ true = grind (arith, left) in
+    let enough : nat_le k (s.end - monitor_clock m) ≡ true = grind (arith, left) in
     let go = Some (with_monitor s i (advanced (g.rows m.program) k m)) in
     ap (advance_by g s k) hand ∙ ap (advance_one g s k i) at
-    ∙ ap (λ (b : Bool). cond (b && nat_le k (s.end - place m)) go None) one
+    ∙ ap (λ (b : Bool). cond (b && nat_le k (s.end - monitor_clock m)) go None) one
     ∙ ap (λ (b : Bool). cond b go None) enough
 
 pub get-any : {A : Type 0} (xs : List A) (i : ℕ) (d e : A) → i < length xs
@@ -371,10 +371,10 @@ published s w i m = record {
 }
 
 pub publishing : (s : CoreState) (w i : ℕ) (m : MonitorState) → held s.workers w ≡ Some i →
-    slice_get s.monitors i ≡ Some m → place m ≡ s.end →
+    slice_get s.monitors i ≡ Some m → monitor_clock m ≡ s.end →
     next_publish s w ≡ Some (published s w i m)
 publishing s w i m hand at here =
-    let end : (place m == s.end) ≡ true = grind (arith, here) in
+    let end : (monitor_clock m == s.end) ≡ true = grind (arith, here) in
     ap (publish_by s w) hand ∙ ap (publish_one s w i) at
     ∙ ap (λ (b : Bool). cond b (Some (published s w i m)) None) end
 

@@ -32,7 +32,7 @@ use Rattle.machine_decisions.proofs.JoinLaws.{ends-in}
 use Rattle.workers_core.specs.declared.job.Job.{Job}
 use Rattle.workers_core.specs.declared.core_parts.CoreParts.{CoreParts}
 use Rattle.workers_core.specs.declared.monitor.Monitor.{Monitor}
-use Rattle.workers_core.specs.States.{MonitorState, BatchState, place}
+use Rattle.workers_core.specs.States.{MonitorState, BatchState, monitor_clock}
 use Rattle.workers_core.specs.Standing.{monitor_state, seen}
 use Rattle.workers_core.specs.Parts.{batch_state}
 use Rattle.workers_core.specs.Opening.{MonitorPart, monitor_part, parts_from}
@@ -154,7 +154,7 @@ module _ (j : Job) (f : CoreParts) (c : Contents) (core : IsCore j f)
     within = λ i s is.
         let r = found monitor_state f.monitors.items i s is in
         let high = (core.sound.monitors i r.item r.at).high in
-        subst (λ (x : MonitorState). place x ≤ length (ticks_of c (job_value j).code)) r.is
+        subst (λ (x : MonitorState). monitor_clock x ≤ length (ticks_of c (job_value j).code)) r.is
         (omega (arith, high, ticks-left));
     whole = λ i s is.
         let r = found monitor_state f.monitors.items i s is in

@@ -14,7 +14,7 @@ use Rattle.workers_core.specs.declared.worker.Worker.{Worker}
 use Rattle.workers_core.specs.declared.step.Reply.{Reply}
 use Rattle.workers_core.specs.declared.step.Reply.TheVariants as replies
 use Rattle.workers_core.specs.States.{MonitorState, WorkerState, BatchState, CoreState, numbers_of, monitor_numbers}
-use Rattle.workers_core.specs.States.{times_in, EachStandsOnce, Replies, place, monitor_cleared, batch, emptied}
+use Rattle.workers_core.specs.States.{times_in, EachStandsOnce, Replies, monitor_clock, monitor_cleared, batch, emptied}
 use Rattle.workers_core.specs.States.{holds_none, is_none, is_free, is_free_one, front_below, hand_of, held, done_of}
 use Rattle.workers_core.specs.States.{next_claim, may_claim, next_publish, publish_by, publish_one, next_gather}
 use Rattle.workers_core.specs.States.{put, put_each, put_done}
@@ -167,7 +167,7 @@ publish-one-alike s w j (Some m) new holds h =
       workers = slice_set s.workers w laid;
       board = s.board ++ batch j m ∷ [];
     } in
-    let pick = chosen (place m == s.end) made new h in
+    let pick = chosen (monitor_clock m == s.end) made new h in
     let x = holding (slice_get s.workers w) j holds in
     subst (IsAlike s) pick.1
     (record {

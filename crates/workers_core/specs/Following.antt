@@ -7,14 +7,15 @@ use Rattle.cycle_window.specs.Ticks.{ticks_of}
 use Rattle.machine_definition.specs.Outcomes.{done}
 use Rattle.machine_definition.specs.Machine.{opening, clocks}
 use Rattle.machine_decisions.specs.Batches.{batch_of}
-use Rattle.workers_core.specs.States.{MonitorState, BatchState, EachStandsOnce, place, published_by}
+use Rattle.workers_core.specs.States.{MonitorState, BatchState, EachStandsOnce, monitor_clock}
+use Rattle.workers_core.specs.States.{published_by}
 use Rattle.workers_core.specs.Values.{JobValue, CoreValue, rows_over}
 
 -- The monitor is in the state of the checked machine over the trace's first rows up to its place,
 -- with no trap on the way.
 abbrev pub IsInState : JobValue → Contents → MonitorState → Type 0
 IsInState j c m =
-    clocks m.program (opening m.program) (take (place m) (rows_over j c m.program))
+    clocks m.program (opening m.program) (take (monitor_clock m) (rows_over j c m.program))
     ≡ done m.state 0
 
 -- The batch is that of a program for the batch's clocks, which are clocks of the trace.
@@ -30,7 +31,7 @@ pub record IsBatchOf (j : JobValue) (c : Contents) (p : ProgramData) (b : BatchS
 abbrev pub PublishesAll : CoreValue → Contents → ℕ → MonitorState → Type 0
 PublishesAll v c number m =
     published_by v.state.board number ++ m.decided
-    ≡ batch_of m.program (rows_over v.job c m.program) 0 (place m)
+    ≡ batch_of m.program (rows_over v.job c m.program) 0 (monitor_clock m)
 
 -- The job's ticks are the trace's. The core's monitors are the job's programs, in order, each
 -- accepted by the verifier; each stands once among those that wait, in hands and done lists; each
@@ -44,7 +45,7 @@ pub record FollowsMachine (v : CoreValue) (c : Contents) : Type 0 where
   pub accepted : (i : ℕ) (m : MonitorState) → slice_get v.state.monitors i ≡ Some m →
       IsAccepted m.program
   pub within : (i : ℕ) (m : MonitorState) → slice_get v.state.monitors i ≡ Some m →
-      place m ≤ length (ticks_of c v.job.code)
+      monitor_clock m ≤ length (ticks_of c v.job.code)
   pub monitors : (i : ℕ) (m : MonitorState) → slice_get v.state.monitors i ≡ Some m →
       IsInState v.job c m
   pub batches : (n : ℕ) (b : BatchState) → slice_get v.state.board n ≡ Some b →

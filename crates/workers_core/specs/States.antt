@@ -23,8 +23,8 @@ pub record MonitorState : Type 0 where
   pub decided : List Decided
 
 -- how many clocks it has run
-abbrev pub place : MonitorState → ℕ
-place m = m.state.standing.now
+abbrev pub monitor_clock : MonitorState → ℕ
+monitor_clock m = m.state.standing.now
 
 -- the monitor after further clocks; a trap, which an accepted program never meets, moves nothing
 abbrev pub monitor_moved : MonitorState → Ran Outcome → MonitorState
@@ -39,7 +39,8 @@ monitor_moved m (trapped t) = m
 -- so many clocks of the checked machine more, over the trace's rows from its place on
 abbrev pub advanced : List (List ℕ) → ℕ → MonitorState → MonitorState
 advanced rows k m =
-    monitor_moved m (run_from m.program m.state (rows_between rows (place m) (place m + k)))
+    monitor_moved m (run_from m.program m.state
+    (rows_between rows (monitor_clock m) (monitor_clock m + k)))
 
 -- A worker: the monitor in its hand, by its number, and its done list.
 pub record WorkerState : Type 0 where
@@ -111,7 +112,7 @@ abbrev pub is_idle : WorkerState → Bool
 is_idle w = holds_none w.hand && is_none w.done
 
 abbrev pub is_at : ℕ → MonitorState → Bool
-is_at t m = place m == t
+is_at t m = monitor_clock m == t
 
 -- all monitors wait at the window's end, and clocks remain
 abbrev pub may_slide : Setting → CoreState → Bool
@@ -139,7 +140,7 @@ held ws w = hand_of (slice_get ws w)
 -- the monitor of a number stands below a clock
 abbrev pub is_below : ℕ → Option MonitorState → Bool
 is_below t None = false
-is_below t (Some m) = nat_lt (place m) t
+is_below t (Some m) = nat_lt (monitor_clock m) t
 
 abbrev pub front_below : ℕ → List MonitorState → List ℕ → Bool
 front_below t ms [] = false
@@ -185,7 +186,7 @@ with_monitor s i m = record {
 abbrev pub advance_one : Setting → CoreState → ℕ → ℕ → Option MonitorState → Option CoreState
 advance_one g s k i None = None
 advance_one g s k i (Some m) =
-    if nat_le 1 k && nat_le k (s.end - place m)
+    if nat_le 1 k && nat_le k (s.end - monitor_clock m)
     then Some (with_monitor s i (advanced (g.rows m.program) k m)) else None
 
 abbrev pub advance_by : Setting → CoreState → ℕ → Option ℕ → Option CoreState
@@ -197,16 +198,21 @@ next_advance g s w k = advance_by g s k (held s.workers w)
 
 -- the monitor with nothing decided since its place
 abbrev pub monitor_cleared : MonitorState → MonitorState
-monitor_cleared m = record { program = m.program; state = m.state; since = place m; decided = [] }
+monitor_cleared m = record {
+  program = m.program;
+  state = m.state;
+  since = monitor_clock m;
+  decided = [];
+}
 
 -- what was decided since its last batch
 abbrev pub batch : ℕ → MonitorState → BatchState
-batch i m = record { monitor = i; first = m.since; end = place m; decided = m.decided }
+batch i m = record { monitor = i; first = m.since; end = monitor_clock m; decided = m.decided }
 
 -- w's monitor is at the window's end: its batch goes onto the board, it into w's done list
 abbrev pub publish_one : CoreState → ℕ → ℕ → Option MonitorState → Option CoreState
 publish_one s w i None = None
-publish_one s w i (Some m) = if place m == s.end then Some (record {
+publish_one s w i (Some m) = if monitor_clock m == s.end then Some (record {
   first = s.first;
   end = s.end;
   monitors = slice_set s.monitors i (monitor_cleared m);

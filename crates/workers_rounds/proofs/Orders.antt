@@ -16,7 +16,7 @@ use Rattle.workers_rounds.specs.Runs.{upto, published_numbers, Begins, EndsRound
 use Rattle.workers_rounds.specs.Crews.{WorksFrom}
 use Rattle.crossbeam_queue.specs.Passes.{view}
 use Rattle.workers_shared.specs.declared.board.Board.{Board}
-use Rattle.workers_shared.specs.declared.hand.Hand.{Hand}
+use Rattle.workers_shared.specs.declared.passes.Hand.{Hand}
 use Rattle.workers_shared.specs.declared.bench.Bench.{Bench}
 use Rattle.workers_rounds.specs.declared.crew.Task.{Task}
 use Rattle.cycle_window.specs.declared.window.Window.{Window}

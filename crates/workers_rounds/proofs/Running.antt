@@ -17,7 +17,7 @@ use Rattle.workers_shared.specs.declared.tally.Share.{Share}
 use Rattle.workers_shared.specs.Counts.{count_of, counts_of}
 use Rattle.workers_shared.specs.Shares.{parts, amounts, plus, EachAtMost}
 use Rattle.workers_shared.specs.declared.numbered.Numbered.{Numbered}
-use Rattle.workers_shared.specs.declared.hand.Hand.{Hand}
+use Rattle.workers_shared.specs.declared.passes.Hand.{Hand}
 use Rattle.workers_shared.specs.declared.bench.Bench.{Bench}
 use Rattle.workers_shared.specs.Monitors.{IsMonitorAt}
 use Rattle.workers_shared.specs.Hands.{hand, with_taken, TakesOne, NumbersRise, NumbersRiseFrom, end_after}

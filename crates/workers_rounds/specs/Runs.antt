@@ -5,7 +5,7 @@ use Rattle.cycle_window.specs.declared.window.Window.{Window}
 use Rattle.workers_shared.specs.declared.board.Board.{Board}
 use Rattle.workers_shared.specs.Shares.{parts, amounts, plus, EachAtMost}
 use Rattle.workers_shared.specs.declared.numbered.Numbered.{Numbered}
-use Rattle.workers_shared.specs.declared.hand.Hand.{Hand}
+use Rattle.workers_shared.specs.declared.passes.Hand.{Hand}
 use Rattle.workers_shared.specs.declared.bench.Bench.{Bench}
 use Rattle.workers_shared.specs.Hands.{hand, fresh, total}
 use Rattle.workers_shared.specs.Passes.{taken_of}

@@ -19,7 +19,7 @@ use Rattle.workers_shared.specs.Counts.{count_of}
 use Rattle.workers_shared.specs.Shares.{parts, amounts, plus}
 use Rattle.crossbeam_queue.specs.Passes.{Pass, view}
 use Rattle.workers_shared.specs.declared.numbered.Numbered.{Numbered}
-use Rattle.workers_shared.specs.declared.hand.Hand.{Hand}
+use Rattle.workers_shared.specs.declared.passes.Hand.{Hand}
 use Rattle.workers_shared.specs.declared.bench.Bench.{Bench}
 use Rattle.workers_shared.specs.Monitors.{IsMonitorAt}
 use Rattle.workers_shared.specs.Hands.{hand, NumbersRise, end_after}

@@ -8,8 +8,8 @@ use lib.ListN.{get_elem?}
 use Rattle.crossbeam_queue.specs.Fifo.{Pushes, Pops, Forks, Merges, Learns}
 use Rattle.crossbeam_queue.proofs.Lists.{at_set, at_snoc}
 use Rattle.workers_shared.specs.declared.numbered.Numbered.{Numbered}
-use Rattle.workers_shared.specs.declared.hand.Round.{Round}
-use Rattle.workers_shared.specs.declared.hand.Hand.{Hand}
+use Rattle.workers_shared.specs.declared.passes.Round.{Round}
+use Rattle.workers_shared.specs.declared.passes.Hand.{Hand}
 use Rattle.workers_shared.specs.Hands.{whole, total, NumbersRiseFrom, end_after, NumbersRise, monitor_number, numbers}
 use Rattle.workers_shared.specs.Hands.{hand}
 use Rattle.workers_shared.specs.Hands.{with_put}

@@ -3,7 +3,7 @@
 ghost use Rattle.std.specs.Prelude.{◌≡◌, ◌≤◌, [], vec_capacity};
 ghost use Rattle.crossbeam_queue.specs.Passes.{ruled_capacity};
 
-use crate::hand::{Deals, Fair, Gathers, Hand, Puts, Rounding, Takes, Whole};
+use crate::passes::{Deals, Fair, Gathers, Hand, Puts, Rounding, Takes, Whole};
 use crate::numbered::Numbered;
 use crossbeam_queue::RuledArrayQueue;
 use std::alloc::{AllocError, Global};

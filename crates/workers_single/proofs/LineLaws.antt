@@ -35,7 +35,7 @@ use Rattle.verdicts.specs.declared.line.Line.{Line}
 use Rattle.verdicts.specs.Lines.{LineData, line}
 use Rattle.machine_decisions.specs.Lines.{line_over, attempts_of, IsLineOver}
 use Rattle.workers_core.specs.declared.job.Job.{Job}
-use Rattle.workers_core.specs.States.{MonitorState, place, published_by}
+use Rattle.workers_core.specs.States.{MonitorState, monitor_clock, published_by}
 use Rattle.workers_core.specs.Values.{CoreValue, job_value, rows_over}
 use Rattle.workers_core.specs.Following.{FollowsMachine}
 use Rattle.workers_core.proofs.CoreLaws.{holds, says-something}
@@ -76,7 +76,7 @@ over v c i p ticks f h all is =
       came =
           subst (λ (q : ProgramData).
           ComesTo q (rows_over v.job c q) m.state (published_by s.board i)) same
-          (comes-to m.program (f.accepted i m one.is) rows (place m) m.state
+          (comes-to m.program (f.accepted i m one.is) rows (monitor_clock m) m.state
           (published_by s.board i) (omega (arith, long, at.at, h.inside, all))
           (f.monitors i m one.is) all_told);
     }

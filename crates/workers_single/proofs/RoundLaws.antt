@@ -44,7 +44,7 @@ use Rattle.workers_core.specs.States.{
   WorkerState,
   MonitorState,
   Setting,
-  place,
+  monitor_clock,
   is_at,
   is_idle,
   is_free,
@@ -149,8 +149,8 @@ all-at : (t : ℕ) (ms : List MonitorState)
     → list_all (is_at t) ms ≡ true
 all-at t [] h = refl
 all-at t (m ∷ ms) h =
-    let here : place m ≡ t = (h 0 m refl).at in
-    let one : (place m == t) ≡ true = grind (arith, here) in
+    let here : monitor_clock m ≡ t = (h 0 m refl).at in
+    let one : (monitor_clock m == t) ≡ true = grind (arith, here) in
     ap (λ (b : Bool). b && list_all (is_at t) ms) one ∙ all-at t ms (λ i x is. h (suc i) x is)
 
 -- something stands below the length
@@ -205,7 +205,7 @@ pub record IsThrough (count clocks behind : ℕ) (s : CoreState) : Type 0 where
   pub workers : s.workers ≡ one_worker (Some behind) (range_with_len 0 behind)
   pub monitor : MonitorState
   pub held : slice_get s.monitors behind ≡ Some monitor
-  pub at : place monitor ≡ s.end
+  pub at : monitor_clock monitor ≡ s.end
   pub front : (i : ℕ) (m : MonitorState) → slice_get s.monitors i ≡ Some m → i < behind
       → StandsAtClock s.end m
   pub rest : (i : ℕ) (m : MonitorState) → slice_get s.monitors i ≡ Some m → behind < i
@@ -291,9 +291,9 @@ module _ (g : Setting) (count : ℕ) where
       Comes (next_claim s 0) (λ t. IsClaimed count g.clocks behind t × IsSameWindow s t)
   claims s behind lt h =
       let one = there s.monitors behind (omega (arith, h.many, lt)) in
-      let here : place one.monitor ≡ s.first =
+      let here : monitor_clock one.monitor ≡ s.first =
       (h.rest behind one.monitor one.is (omega arith)).at in
-      let less : nat_lt (place one.monitor) s.end ≡ true = grind (arith, here, h.some) in
+      let less : nat_lt (monitor_clock one.monitor) s.end ≡ true = grind (arith, here, h.some) in
       let below : is_below s.end (slice_get s.monitors behind) ≡ true =
       ap (is_below s.end) one.is ∙ less in
       let free : is_free_one (slice_get s.workers 0) ≡ true =
@@ -377,8 +377,8 @@ many-rows j c p ticks =
 
 -- a monitor after a run without a trap
 moved-to : (m : MonitorState) (r : Ran Outcome) (o : Outcome) (to : ℕ) → r ≡ done o 0
-    → o.state.standing.now ≡ to → place (monitor_moved m r) ≡ to
-moved-to m r o to is at = ap (λ (x : Ran Outcome). place (monitor_moved m x)) is ∙ at
+    → o.state.standing.now ≡ to → monitor_clock (monitor_moved m r) ≡ to
+moved-to m r o to is at = ap (λ (x : Ran Outcome). monitor_clock (monitor_moved m x)) is ∙ at
 
 -- the monitor in the hand runs to the window's end
 pub advances : (v : CoreValue) (c : Contents) (count behind k : ℕ) →
@@ -391,17 +391,18 @@ advances v c count behind k ticks f h all =
     let one = there s.monitors behind (omega (arith, h.many, h.few)) in
     let m = one.monitor in
     let rows = rows_over v.job c m.program in
-    let here : place m ≡ s.first = (h.rest behind m one.is (omega arith)).at in
+    let here : monitor_clock m ≡ s.first = (h.rest behind m one.is (omega arith)).at in
     let long : length rows ≡ length v.job.ticks = many-rows v.job c m.program ticks in
     let r =
-    accepted-on m.program (f.accepted behind m one.is) rows (place m) (place m + k) m.state
+    accepted-on m.program (f.accepted behind m one.is) rows (monitor_clock m) (monitor_clock m + k) m.state
     (omega arith) (f.monitors behind m one.is) in
-    let between : length (rows_between rows (place m) (place m + k)) ≡ (place m + k) - place m =
-    length-between rows (place m) (place m + k) (omega arith)
+    let between : length (rows_between rows (monitor_clock m) (monitor_clock m + k))
+        ≡ (monitor_clock m + k) - monitor_clock m =
+    length-between rows (monitor_clock m) (monitor_clock m + k) (omega arith)
     (omega (arith, here, all, h.inside, long)) in
     let new : MonitorState = advanced rows k m in
-    let at : place new ≡ s.end =
-    moved-to m (run_from m.program m.state (rows_between rows (place m) (place m + k))) r.outcome
+    let at : monitor_clock new ≡ s.end =
+    moved-to m (run_from m.program m.state (rows_between rows (monitor_clock m) (monitor_clock m + k))) r.outcome
     s.end r.ran (omega (arith, r.now, between, here, all)) in
     let hand : held s.workers 0 ≡ Some behind =
     ap (λ (ws : List WorkerState). held ws 0) h.workers in

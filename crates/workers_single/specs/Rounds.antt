@@ -5,7 +5,7 @@ use Rattle.std.specs.List.{range_with_len}
 use Rattle.vcd_reader.specs.Dump.{Contents}
 use Rattle.cycle_window.specs.Ticks.{ticks_of}
 use Rattle.workers_core.specs.declared.step.Step.{Step}
-use Rattle.workers_core.specs.States.{MonitorState, WorkerState, CoreState, place, next}
+use Rattle.workers_core.specs.States.{MonitorState, WorkerState, CoreState, monitor_clock, next}
 use Rattle.workers_core.specs.Values.{JobValue, CoreValue, Says, setting_of}
 
 -- one worker, with this in the hand and in the done list
@@ -14,7 +14,7 @@ one_worker hand done = record { hand = hand; done = done } ∷ []
 
 -- The monitor stands at a clock, and has published all that it decided.
 pub record StandsAtClock (clock : ℕ) (m : MonitorState) : Type 0 where
-  pub at : place m ≡ clock
+  pub at : monitor_clock m ≡ clock
   pub told : m.decided ≡ []
 
 -- All of so many monitors wait at the window's end, which is one of so many clocks or their end,

@@ -1,13 +1,13 @@
 use Rattle.std.proofs.Common.{◌≡◌, ◌∙◌, ◌+◌, ◌-◌, ℕ, suc, drop, sym, ap, arith}
 use Rattle.lexer.specs.declared.scan.Next.TheVariants.{Gap}
-use Rattle.lexer.specs.Runs.{run}
+use Rattle.lexer.specs.Runs.{run_length}
 use Rattle.lexer.specs.Cutting.{stays_on_line, comment_gap, next_lexeme}
 use Rattle.lexer.proofs.CutLaws.{next-line, next-comment, next-token}
 use Rattle.lexer.proofs.scan.next_at.Goals as goal
 
 pub returns-then-is_pair-clause-value : goal.returns-then-is_pair-clause-value
 returns-then-is_pair-clause-value c =
-    let n : c.line_end.result - c.args.at ≡ suc (run stays_on_line (drop (c.args.at + 1) c.args.bytes.now)) =
+    let n : c.line_end.result - c.args.at ≡ suc (run_length stays_on_line (drop (c.args.at + 1) c.args.bytes.now)) =
     omega (arith, c.line_end.ensures.run) in
     ap (λ (k : ℕ). Gap k) n
     ∙ sym (next-line c.args.bytes.now c.args.at c.if-is_space.ensures c.if-is_pair.ensures.value)

@@ -264,7 +264,7 @@ typed_expression-returns-in_ok-operand-in-Past t c =
     is-Past c.args.expr.now k.field-0 k.operand k.ticks c.deref-in-Past.result.now k.is c.deref-in-Past.ensures in
     when_ok c.past.result (λ e h. means-past (scope_of c.args.scope.now) (columns_in c.args.columns.now) _ k.field-0 _ _
     (term_of c.in_ok-operand-in-Past.operand) (term_of e) is c.in_ok-operand-in-Past.ensures
-    (h ∙ ap (terms.past (term_of c.in_ok-operand-in-Past.operand)) c.ticks_of.ensures)) c.past.ensures
+    (h ∙ ap (terms.past (term_of c.in_ok-operand-in-Past.operand)) c.ticks_before.ensures)) c.past.ensures
 
 pub typed_expression-returns-in_ok-operand-in-Call : goal.typed_expression-returns-in_ok-operand-in-Call
 typed_expression-returns-in_ok-operand-in-Call t c =

@@ -1,7 +1,7 @@
 use Rattle.std.proofs.Common.{◌≡◌, ◌+◌, ◌++◌, ◌∙◌, ap, refl, None, subst, All, arith, rules}
 use Rattle.std.specs.Vec.Iter.{into_iter_items}
 use Rattle.std.proofs.lemmas.List.Elements.{All-head, All-tail, All-append, All-same}
-use Rattle.workers_shared.specs.declared.hand.Hand.{Hand}
+use Rattle.workers_shared.specs.declared.passes.Hand.{Hand}
 use Rattle.workers_shared.specs.Hands.{total}
 use Rattle.workers_shared.specs.Passes.{pass_parts, taken_of}
 use Rattle.workers_shared.specs.Benches.{IsPassOfBench}

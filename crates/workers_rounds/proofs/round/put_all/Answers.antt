@@ -2,7 +2,7 @@ use Rattle.std.proofs.Common.{◌≡◌, ◌≤◌, ◌++◌, ◌∷◌, ap, ◌
 use Rattle.std.proofs.lemmas.List.Elements.{All-same}
 use Rattle.workers_shared.specs.Monitors.{IsMonitorAt}
 use Rattle.std.specs.Vec.Iter.{into_iter_items}
-use Rattle.workers_shared.specs.declared.hand.Hand.{Hand}
+use Rattle.workers_shared.specs.declared.passes.Hand.{Hand}
 use Rattle.workers_shared.specs.declared.numbered.Numbered.{Numbered}
 use Rattle.workers_shared.specs.Hands.{end_after, numbers, NumbersRise}
 use Rattle.workers_shared.proofs.Keeps.{next_rises}

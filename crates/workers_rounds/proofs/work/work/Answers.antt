@@ -6,7 +6,7 @@ use Rattle.workers_core.proofs.CorePartLaws.{of-ok}
 use Rattle.workers_shared.specs.Receipts.{shown_by}
 use Rattle.workers_shared.specs.Shares.{EachAtMost, amounts, plus}
 use Rattle.workers_shared.specs.Counts.{counts_of}
-use Rattle.workers_shared.specs.declared.hand.Hand.{Hand}
+use Rattle.workers_shared.specs.declared.passes.Hand.{Hand}
 use Rattle.workers_shared.specs.declared.numbered.Numbered.{Numbered}
 use Rattle.workers_shared.specs.Monitors.{IsMonitorAt}
 use Rattle.workers_shared.specs.Hands.{TakesOne}

@@ -5,8 +5,7 @@ use Rattle.bytecode.specs.Values.{ProgramData}
 use Rattle.verifier.specs.Limits.{path_sum}
 use Rattle.machine_definition.specs.Outcomes.{Ran, done}
 use Rattle.machine_definition.specs.Clocks.{Attempt, Obligation, Visits, visit_attempts, visit_obligations, disable_all}
-use Rattle.machine_definition.specs.Bounds.{RisesBetween}
-use Rattle.machine_definition.proofs.Parts.{began, since, IsRunning, IsOwed}
+use Rattle.machine_definition.specs.Bounds.{RisesBetween, began, since, IsRunning, IsOwed}
 use Rattle.machine.specs.Live.{attempts_in, obligations_in, standing_of, OpenedLately}
 use Rattle.machine_memory.specs.Pooled.{Pooled}
 use Rattle.machine_attempts.specs.declared.attempt.AttemptRecord.{AttemptRecord}

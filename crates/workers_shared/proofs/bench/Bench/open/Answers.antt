@@ -1,7 +1,7 @@
 use Rattle.std.proofs.Common.{◌≡◌, ◌+◌, ◌-◌, true, ap, ◌∙◌, sym, inl, inr, ⊎_elim, arith, rules}
 use Rattle.std.proofs.lemmas.List.Elements.{All-push, All-same}
 use Rattle.crossbeam_queue.specs.Passes.{view, IsPassOf}
-use Rattle.workers_shared.specs.declared.hand.Hand.{Hand}
+use Rattle.workers_shared.specs.declared.passes.Hand.{Hand}
 use Rattle.workers_shared.specs.Hands.{whole, fresh}
 use Rattle.workers_shared.specs.Passes.{TakesNone}
 use Rattle.workers_shared.proofs.Keeps.{begins, deals}

@@ -1,5 +1,5 @@
 use Rattle.std.proofs.Common.{Option, subst, sym}
-use Rattle.workers_shared.specs.declared.hand.Round.{Round}
+use Rattle.workers_shared.specs.declared.passes.Round.{Round}
 use Rattle.workers_shared.specs.Hands.{IsOfRound}
 use Rattle.workers_shared.proofs.Keeps.{puts, room}
 use Rattle.workers_shared.proofs.bench.Bench.put.Goals as goal

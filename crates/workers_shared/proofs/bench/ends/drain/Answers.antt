@@ -1,9 +1,9 @@
 use Rattle.std.proofs.Common.{◌≡◌, ◌+◌, ◌<◌, ap, ◌∙◌, subst, refl, length, arith, rules}
 use Rattle.crossbeam_queue.specs.Passes.{view, IsPassOf}
 use Rattle.workers_shared.specs.declared.numbered.Numbered.{Numbered}
-use Rattle.workers_shared.specs.declared.hand.Round.{Round}
+use Rattle.workers_shared.specs.declared.passes.Round.{Round}
 use Rattle.std.specs.Prelude.{Option}
-use Rattle.workers_shared.specs.declared.hand.Hand.{Hand}
+use Rattle.workers_shared.specs.declared.passes.Hand.{Hand}
 use Rattle.workers_shared.specs.Hands.{IsOfRound, total, numbers}
 use Rattle.workers_shared.specs.Passes.{pass_parts, taken_of}
 use Rattle.workers_shared.proofs.Keeps.{takes, leaves, left_count, none_left, total_push, weigh_pushed, all_pushed}

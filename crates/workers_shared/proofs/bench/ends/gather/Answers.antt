@@ -1,6 +1,6 @@
 use Rattle.std.proofs.Common.{◌≡◌, ◌+◌, ◌<◌, ap, ◌∙◌, arith}
 use Rattle.crossbeam_queue.specs.Passes.{view, IsPassOf}
-use Rattle.workers_shared.specs.declared.hand.Hand.{Hand}
+use Rattle.workers_shared.specs.declared.passes.Hand.{Hand}
 use Rattle.workers_shared.specs.Hands.{total}
 use Rattle.workers_shared.specs.Passes.{pass_parts, taken_of}
 use Rattle.workers_shared.proofs.Keeps.{merges, total-append, total_push, all_popped}

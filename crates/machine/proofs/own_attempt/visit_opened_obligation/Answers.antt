@@ -6,7 +6,7 @@ use Rattle.machine_attempts.specs.declared.obligation.ObligationRecord.{Obligati
 use Rattle.machine.specs.Live.{obligations_in}
 use Rattle.machine.proofs.Needs as needs
 use Rattle.machine.proofs.OwnLaws as laws
-use Rattle.machine.proofs.own.visit_opened_obligation.Goals as goal
+use Rattle.machine.proofs.own_attempt.visit_opened_obligation.Goals as goal
 
 pub visit_positions-made-requires-clause-inside : goal.visit_positions-made-requires-clause-inside
 visit_positions-made-requires-clause-inside c =

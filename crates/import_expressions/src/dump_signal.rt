@@ -2,7 +2,7 @@
 
 /// A signal of a dump.
 #[derive(Clone, Copy)]
-pub struct Known<'w> {
+pub struct DumpSignal<'w> {
     /// Its whole path, with dots.
     pub path: &'w [u8],
     /// In bits.
@@ -11,7 +11,7 @@ pub struct Known<'w> {
     pub range: Option<(u32, u32)>,
 }
 
-impl<'w> Known<'w> {
+impl<'w> DumpSignal<'w> {
     /// Whether its declared range has the lowest number on the left.
     pub(crate) fn ascends(&self) -> bool {
         match self.range {
@@ -50,7 +50,7 @@ impl<'w> Known<'w> {
 }
 
 /// The signal of a path, among signals in the order of their paths.
-pub fn known_signal<'w>(known: &[Known<'w>], path: &[u8]) -> Option<Known<'w>> {
+pub fn known_signal<'w>(known: &[DumpSignal<'w>], path: &[u8]) -> Option<DumpSignal<'w>> {
     let place = known.partition_point(|one| one.path < path);
     match known.get(place) {
         Some(one) if one.path == path => Some(*one),

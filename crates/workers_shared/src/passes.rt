@@ -38,7 +38,7 @@ impl Protocol<Numbered, Hand> for Fair {
 /// Which round it is. Each call that makes a bench picks it.
 pub trait Rounding {
     ghost use Rattle.std.specs.Prelude.{Option};
-    ghost use Rattle.workers_shared.specs.declared.hand.Round.{Round};
+    ghost use Rattle.workers_shared.specs.declared.passes.Round.{Round};
 
     ghost round: { Option Round };
 }

@@ -3,7 +3,7 @@ use Rattle.std.specs.Vec.Iter.{into_iter_items}
 use Rattle.workers_shared.specs.declared.numbered.Numbered.{Numbered}
 use Rattle.workers_rounds.specs.declared.work.Published.{Published}
 use Rattle.workers.specs.Taking.{numbered_of}
-use Rattle.workers.proofs.taking.monitors_back.Goals as goal
+use Rattle.workers.proofs.round_batches.monitors_back.Goals as goal
 
 pub loop-one-preserved : goal.loop-one-preserved
 loop-one-preserved c =

@@ -4,7 +4,7 @@ use Rattle.workers_shared.specs.Receipts.{shown_by}
 use Rattle.workers_single.specs.declared.growing_line.GrowingLine.{GrowingLine}
 use Rattle.workers_rounds.specs.declared.work.Published.{Published}
 use Rattle.workers.specs.Taking.{Takes}
-use Rattle.workers.proofs.taking.take_round.Given as goal
+use Rattle.workers.proofs.round_batches.take_round.Given as goal
 
 -- the first lines took in their batches, and the others stand as they stood
 abbrev pub invariant-loop-number : goal.invariant-loop-number

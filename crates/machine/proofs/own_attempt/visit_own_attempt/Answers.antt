@@ -2,7 +2,7 @@ use Rattle.std.proofs.Common.{◌-◌, arith}
 use Rattle.bytecode.specs.Programs.{data_of}
 use Rattle.machine.proofs.Needs as needs
 use Rattle.machine.proofs.OwnLaws as laws
-use Rattle.machine.proofs.own.visit_own_attempt.Goals as goal
+use Rattle.machine.proofs.own_attempt.visit_own_attempt.Goals as goal
 
 pub visit_positions-requires-clause-inside : goal.visit_positions-requires-clause-inside
 visit_positions-requires-clause-inside c =

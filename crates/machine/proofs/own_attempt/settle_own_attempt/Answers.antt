@@ -6,7 +6,7 @@ use Rattle.machine_attempts.specs.declared.attempt.AttemptRecord.{AttemptRecord}
 use Rattle.machine_attempts.specs.Records.{attempt_of}
 use Rattle.machine.specs.Live.{attempts_in}
 use Rattle.machine.proofs.OwnLaws as laws
-use Rattle.machine.proofs.own.settle_own_attempt.Goals as goal
+use Rattle.machine.proofs.own_attempt.settle_own_attempt.Goals as goal
 
 pub returns-in-Some-clause-settled : goal.returns-in-Some-clause-settled
 returns-in-Some-clause-settled c =

@@ -13,7 +13,7 @@ use Rattle.workers_single.proofs.TakenLaws.{each-but}
 use Rattle.workers_rounds.specs.declared.work.Published.{Published}
 use Rattle.workers.specs.Taking.{Takes}
 use Rattle.workers.proofs.Telling.{get-other, some-is}
-use Rattle.workers.proofs.taking.take_round.Goals as goal
+use Rattle.workers.proofs.round_batches.take_round.Goals as goal
 
 below-other : (k n : ℕ) → k < n + 1 → (k ≡ n → ⊥) → k < n
 below-other zero zero lt other = absurd (other refl)
