@@ -80,11 +80,44 @@ abbrev pub block_length : List Token → ℕ
 block_length ts =
     through closers ts + closing_name (drop (through closers ts) ts)
 
+-- what holds other items: they are part of it
+abbrev pub holders : List (List ℕ)
+holders =
+    codes "if" ∷ codes "else" ∷ codes "for" ∷ codes "while" ∷ codes "case" ∷ codes "casex"
+    ∷ codes "casez" ∷ codes "unique" ∷ codes "priority" ∷ codes "always" ∷ codes "always_comb"
+    ∷ codes "always_ff" ∷ codes "always_latch" ∷ codes "initial" ∷ codes "final"
+    ∷ codes "generate" ∷ codes "begin" ∷ []
+
+-- what opens a block, which may stand in another
+abbrev pub block_starts : List (List ℕ)
+block_starts =
+    codes "begin" ∷ codes "case" ∷ codes "casex" ∷ codes "casez" ∷ codes "generate" ∷ []
+
+-- what closes one
+abbrev pub block_ends : List (List ℕ)
+block_ends = codes "end" ∷ codes "endcase" ∷ codes "endgenerate" ∷ []
+
+-- how many blocks are open after a token
+abbrev pub open_after : ℕ → Token → ℕ
+open_after open t =
+    if is_one block_starts t then open + 1 else (if is_one block_ends t then open - 1 else open)
+
+-- whether what holds items ends with a token: all its blocks are closed
+abbrev pub is_held_end : ℕ → Token → Bool
+is_held_end open t = (open == 0) && (is_one (codes ";" ∷ []) t || is_one block_ends t)
+
+-- how many tokens there are up to that end, which counts, where so many blocks are open
+abbrev pub held_from : ℕ → List Token → ℕ
+held_from open [] = 0
+held_from open (t ∷ ts) =
+    if is_held_end (open_after open t) t then 1 else 1 + held_from (open_after open t) ts
+
 -- how many tokens the first item has
 abbrev pub item_length : List Token → ℕ
 item_length [] = 0
 item_length (t ∷ ts) =
-    if is_one openers t then block_length (t ∷ ts) else through ends (t ∷ ts)
+    if is_one openers t then block_length (t ∷ ts)
+    else (if is_one holders t then held_from 0 (t ∷ ts) else through ends (t ∷ ts))
 
 -- the byte after a token, which is no more than the text has
 abbrev pub end_of : ℕ → Token → ℕ

@@ -1,11 +1,12 @@
 //! Where the items of a text end.
 
-ghost use Rattle.std.specs.Prelude.{◌≡◌, ◌≤◌, ◌<◌, ◌+◌, ◌-◌, length, map, min, IfOk, IsOk};
+ghost use Rattle.std.specs.Prelude.{◌≡◌, ◌≤◌, ◌<◌, ◌+◌, ◌-◌, ◌^◌, length, map, min, IfOk, IsOk};
 ghost use Rattle.std.specs.List.{list_any};
 ghost use Rattle.std.specs.Str.{bytes_eq};
 ghost use Rattle.diagnostics.specs.Items.{through, closing_name, block_length, item_length, end_of};
 ghost use Rattle.diagnostics.specs.Items.{item_end, is_over, AreEnds, AreItemEnds, item_at};
 ghost use Rattle.diagnostics.specs.Items.{is_start, is_labelled, begins, ends_after};
+ghost use Rattle.diagnostics.specs.Items.{open_after, is_held_end, held_from};
 ghost use Rattle.lexer.specs.Cutting.{tokens_of};
 
 use crate::lexable::ends_beside;
@@ -37,6 +38,36 @@ const COLON: [&str; 1] = [":"];
 /// What an item goes on after, whatever follows: a label's colon, a path's dot, a dash in a label,
 /// a bracket, and words that stand before `sequence`.
 const JOINTS: [&str; 7] = [":", ".", "-", "(", "assert", "assume", "cover"];
+
+/// What holds other items: they are part of it.
+const HOLDERS: [&str; 17] = [
+    "if",
+    "else",
+    "for",
+    "while",
+    "case",
+    "casex",
+    "casez",
+    "unique",
+    "priority",
+    "always",
+    "always_comb",
+    "always_ff",
+    "always_latch",
+    "initial",
+    "final",
+    "generate",
+    "begin",
+];
+
+/// What opens a block, which may stand in another.
+const BLOCK_STARTS: [&str; 5] = ["begin", "case", "casex", "casez", "generate"];
+
+/// What closes one.
+const BLOCK_ENDS: [&str; 3] = ["end", "endcase", "endgenerate"];
+
+/// What ends what holds items, where it has no block.
+const SEMICOLON: [&str; 1] = [";"];
 
 /// Whether a text is one of some words.
 fn is_among(words: &[&str], text: &str) -> bool
@@ -126,6 +157,43 @@ fn block_length(tokens: &[Token]) -> usize
     closed + closing_name(&tokens[closed..])
 }
 
+/// How many blocks are open after a token.
+fn open_after(open: usize, token: &Token) -> usize
+    requires { open < 2 ^ 63 }
+    ensures { result ≡ open_after open token.now }
+{
+    if is_among(&BLOCK_STARTS, token.text) {
+        return open + 1;
+    }
+    if is_among(&BLOCK_ENDS, token.text) {
+        return open.saturating_sub(1);
+    }
+    open
+}
+
+/// Whether what holds items ends with a token: all its blocks are closed.
+fn is_held_end(open: usize, token: &Token) -> bool
+    ensures { result ≡ is_held_end open token.now }
+{
+    open == 0 && (is_among(&SEMICOLON, token.text) || is_among(&BLOCK_ENDS, token.text))
+}
+
+/// How many tokens an item has that holds others: up to `;`, or to where its blocks are closed.
+fn held_length(tokens: &[Token]) -> usize
+    ensures count { result ≡ held_from 0 tokens.now }
+    ensures high { result ≤ length tokens.now }
+    ensures low { 0 < length tokens.now → 0 < result }
+{
+    let mut open = 0;
+    for (place, token) in tokens.iter().enumerate() {
+        open = open_after(open, token);
+        if is_held_end(open, token) {
+            return place + 1;
+        }
+    }
+    tokens.len()
+}
+
 /// How many tokens the first item has.
 fn item_length(tokens: &[Token]) -> usize
     ensures count { result ≡ item_length tokens.now }
@@ -137,6 +205,9 @@ fn item_length(tokens: &[Token]) -> usize
     };
     if is_among(&OPENERS, first.text) {
         return block_length(tokens);
+    }
+    if is_among(&HOLDERS, first.text) {
+        return held_length(tokens);
     }
     through(&ENDS, tokens)
 }
@@ -186,8 +257,9 @@ pub(crate) fn ends_in(
 }
 
 /// The bytes after the items of a text, in its order: an item ends with `;`, or with the word that
-/// ends what its first word opens, or before another one begins. After the last of them only
-/// what is no token stands.
+/// ends what its first word opens, or before another one begins. What stands under a condition or
+/// in a procedure (`if`, `for`, `always`, `generate` ..) is part of the item that begins so, up to
+/// `;` or to the end of its blocks. After the last item only what is no token stands.
 ///
 /// What no token begins with is passed over; a line of a macro that stands between items is one.
 pub fn item_ends(alloc: Global, text: &str) -> Result<Vec<usize>, AllocError>
