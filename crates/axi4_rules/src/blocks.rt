@@ -5,12 +5,12 @@ ghost use Rattle.axi4_rules.specs.Seen.{port_data};
 ghost use Rattle.axi4_rules.specs.Rows.{one_line, all_lines, id_line, id_lines, stable_block};
 ghost use Rattle.axi4_rules.specs.Wholes.{Adds};
 
-use crate::row_values::Filling;
 use crate::form::Form;
 use crate::lines::line_in;
 use crate::lone_rows::STABLE_ROW;
 use crate::port::Port;
 use crate::row::Row;
+use crate::row_values::Filling;
 use crate::rule_text::RuleText;
 use std::alloc::{AllocError, Global};
 

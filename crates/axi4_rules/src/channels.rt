@@ -8,11 +8,11 @@ ghost use Rattle.axi4_rules.specs.Wholes.{Adds};
 ghost use Rattle.axi4_rules.specs.Rows.{block_of, address_block, address_table};
 
 use crate::blocks::{push_row, push_rows, push_stables};
-use crate::row_values::Filling;
 use crate::form::Form;
 use crate::lone_rows::{HOLD_ROW, RESET_ROW, WAIT_ROW};
 use crate::port::Port;
 use crate::row::Row;
+use crate::row_values::Filling;
 use crate::rule_text::RuleText;
 use crate::tables::{ADDRESS_ROWS, BURST_ROWS, size_bound};
 use std::alloc::{AllocError, Global};

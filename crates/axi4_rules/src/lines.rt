@@ -4,9 +4,9 @@ ghost use Rattle.std.specs.Prelude.{◌≡◌, ◌++◌, IfOk, OnOk, string_byte
 ghost use Rattle.axi4_rules.specs.Rows.{line_of, fills, row_data, row_words, framed_words};
 ghost use Rattle.axi4_rules.specs.Views.{Appends};
 
-use crate::row_values::Filling;
 use crate::form::Form;
 use crate::row::Row;
+use crate::row_values::Filling;
 use crate::templates::push_words;
 use std::alloc::{AllocError, Global};
 

@@ -8,11 +8,11 @@ ghost use Rattle.axi4_rules.specs.Rows.{fills};
 ghost use Rattle.axi4_rules.specs.Wholes.{Adds};
 
 use crate::blocks::{push_ids, push_rows};
-use crate::row_values::Filling;
 use crate::form::Form;
 use crate::lone_rows::{READ_ID_ROW, READS_ROW, WRITE_ID_ROW, WRITES_ROW};
 use crate::mode::Mode;
 use crate::port::Port;
+use crate::row_values::Filling;
 use crate::rule_text::RuleText;
 use crate::tables::{COUNTER_ROWS, RESPONSE_ROWS, SINGLE_COUNTER_ROWS, SINGLE_ROWS};
 use std::alloc::{AllocError, Global};

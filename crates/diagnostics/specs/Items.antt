@@ -99,18 +99,18 @@ block_ends = codes "end" ∷ codes "endcase" ∷ codes "endgenerate" ∷ []
 
 -- how many blocks are open after a token
 abbrev pub open_after : ℕ → Token → ℕ
-open_after open t =
-    if is_one block_starts t then open + 1 else (if is_one block_ends t then open - 1 else open)
+open_after k t =
+    if is_one block_starts t then k + 1 else (if is_one block_ends t then k - 1 else k)
 
 -- whether what holds items ends with a token: all its blocks are closed
 abbrev pub is_held_end : ℕ → Token → Bool
-is_held_end open t = (open == 0) && (is_one (codes ";" ∷ []) t || is_one block_ends t)
+is_held_end k t = (k == 0) && (is_one (codes ";" ∷ []) t || is_one block_ends t)
 
 -- how many tokens there are up to that end, which counts, where so many blocks are open
 abbrev pub held_from : ℕ → List Token → ℕ
-held_from open [] = 0
-held_from open (t ∷ ts) =
-    if is_held_end (open_after open t) t then 1 else 1 + held_from (open_after open t) ts
+held_from k [] = 0
+held_from k (t ∷ ts) =
+    if is_held_end (open_after k t) t then 1 else 1 + held_from (open_after k t) ts
 
 -- how many tokens the first item has
 abbrev pub item_length : List Token → ℕ

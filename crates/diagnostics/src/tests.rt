@@ -111,8 +111,20 @@ fn items_end(rt: HostRuntime) -> Result<(), Fail> {
     assert!(rt; are_ends(alloc, "a.assert b;", &[11])?);
     assert!(rt; are_ends(alloc, "if (a) assert b; assert c;", &[16, 26])?);
     assert!(rt; are_ends(alloc, "initial begin assert b; end assert c;", &[27, 37])?);
-    assert!(rt; are_ends(alloc, "generate if (a) begin assert b; end endgenerate c;", &[47, 50])?);
-    assert!(rt; are_ends(alloc, "case (a) 1: begin b; end endcase c; end d;", &[32, 35, 39, 42])?);
+    assert!(rt;
+        are_ends(
+            alloc,
+            "generate if (a) begin assert b; end endgenerate c;",
+            &[47, 50]
+        )?
+    );
+    assert!(rt;
+        are_ends(
+            alloc,
+            "case (a) 1: begin b; end endcase c; end d;",
+            &[32, 35, 39, 42]
+        )?
+    );
     assert!(rt; are_ends(alloc, "`x a: b;\nc;", &[8, 11])?);
     assert!(rt; are_ends(alloc, "a `x;\nb;", &[5, 8])?);
     Ok(())

@@ -27,12 +27,12 @@ mod arrow;
 mod choices;
 mod explanation;
 mod failed_attempt;
-mod text;
 mod selection;
+mod text;
 
 pub use arrow::Arrow;
 pub use choices::Choice;
 pub use explanation::{Explanation, Judged, Reason, explain};
 pub use failed_attempt::{FailedAttempt, Standing, told_of};
-pub use text::explained_text;
 pub use selection::Wanted;
+pub use text::explained_text;

@@ -32,8 +32,8 @@
 mod assembling;
 mod comparing;
 mod converting;
-mod functions;
 mod dump_signal;
+mod functions;
 mod lowering;
 mod measures;
 mod paths;

@@ -3,6 +3,18 @@
 use indexmap::IndexSet;
 use std::alloc::{AllocError, Global};
 
+/// Whether a counter that is made for an assertion may have this name: it ends with `__past` and a
+/// number.
+fn is_counter_name(name: &str) -> bool {
+    for (at, byte) in name.as_bytes().iter().enumerate().rev() {
+        if !byte.is_ascii_digit() {
+            let end = at.saturating_add(1);
+            return end < name.len() && name.get(..end).unwrap_or("").ends_with("__past");
+        }
+    }
+    false
+}
+
 /// The labels that are written so far.
 #[derive(Drop)]
 pub(crate) struct Labels {
@@ -16,9 +28,10 @@ impl Labels {
         }
     }
 
-    /// A label that is not written yet: this one, or with the first number that makes it one.
+    /// A label that is not written yet, and that no made counter may have: this one, or with the
+    /// first number that makes it one.
     fn free_one(&self, alloc: Global, label: &str) -> Result<String, AllocError> {
-        if !self.names.contains(label) {
+        if !self.names.contains(label) && !is_counter_name(label) {
             return String::from_str(alloc, label);
         }
         for number in 2..self.names.len().saturating_add(3) {

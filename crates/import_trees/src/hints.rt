@@ -90,7 +90,9 @@ pub(crate) fn hint_of(refusal: Refusal) -> &'static str {
         Refusal::UnknownDigits => "x and z are read as 0 here: write digits, or use ==?",
         Refusal::Real => "no reals: write whole numbers",
         Refusal::Quoted => "no strings: write numbers",
-        Refusal::WiderThan128 => "over 128 bits: compare it in parts",
+        Refusal::WiderThan128 => {
+            "over 128 bits, or 2^32 or more without a size: write a size, or compare it in parts"
+        }
         Refusal::TooHeavy => "too long, or too deep in brackets: split the assertion",
         Refusal::Immediate => "write assert property (@(posedge clk) ..) outside of procedures",
         Refusal::Generate => "write it out: the bounds of this block aren't constants of the file",

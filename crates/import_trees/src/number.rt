@@ -43,6 +43,29 @@ fn decimal_of(text: &[u8]) -> Option<u128> {
     Some(value)
 }
 
+/// How many values a digit has in a base, by its letter.
+fn radix_of(base: u8) -> u128 {
+    match base {
+        b'b' | b'B' => 2,
+        b'o' | b'O' => 8,
+        b'h' | b'H' => 16,
+        _ => 10,
+    }
+}
+
+/// Whether digits are worth less than 2^32, where x and z are 0.
+fn has_32_bits(base: u8, digits: &[u8]) -> bool {
+    let mut value = 0u128;
+    for byte in digits {
+        if let Some(digit) = digit_of(*byte) {
+            value = value
+                .saturating_mul(radix_of(base))
+                .saturating_add(digit.value);
+        }
+    }
+    value <= 0xffff_ffff
+}
+
 /// So many ones, from the right.
 fn ones(count: u8) -> u128 {
     if count >= 128 {
@@ -119,6 +142,9 @@ fn based_number(size: &[u8], rest: &[u8]) -> Result<Expression<'static>, Refusal
         return fill_of(*base);
     }
     let digits = rest.get(from + 1..).unwrap_or(b"");
+    if size.is_empty() && !has_32_bits(*base, digits) {
+        return Err(Refusal::WiderThan128);
+    }
     let (value, unknown) = valued(*base, digits, width).ok_or(Refusal::WiderThan128)?;
     Ok(Expression::Number(Number {
         width,

@@ -30,6 +30,7 @@
 mod brackets;
 mod comments;
 mod doubles;
+mod expected;
 mod item_words;
 mod meant;
 mod messages;
@@ -37,7 +38,6 @@ mod paths;
 mod selects;
 mod token_hints;
 mod unnamed;
-mod expected;
 mod weights;
 
 pub use meant::Meant;

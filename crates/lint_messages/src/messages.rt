@@ -7,12 +7,12 @@ ghost use Rattle.lint_messages.specs.Bytes.{byte_of_lex, byte_of_parse, byte_of_
 
 use crate::comments::without_comments;
 use crate::doubles::told_double;
+use crate::expected::wanted_at;
 use crate::item_words::head_hint;
 use crate::meant::Meant;
 use crate::paths::{is_listed, path_at, push_others, told_path};
 use crate::selects::told_select;
 use crate::token_hints::{bound_code, mark_hint, not_hint, number_code, path_hint, token_hint};
-use crate::expected::wanted_at;
 use crate::weights::told_weight;
 use compiler::CompileFault;
 use diagnostics::{CODES, MARKS, Refusal, SIGNS, WORDS, hint_at, hint_beside};

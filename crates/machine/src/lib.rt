@@ -37,9 +37,9 @@
 //! memory is seen by reading; the gate counts requests for memory.
 #![tactic(auto)]
 
+mod at_most_one;
 mod attempts;
 mod bases;
-mod at_most_one;
 mod live;
 mod machine;
 mod memory;

@@ -17,12 +17,12 @@ ghost use Rattle.machine_definition.specs.Clocks.{Standing};
 ghost use Rattle.machine.specs.Later.{standing_later};
 ghost use Rattle.machine.specs.Again.{IsLittle};
 
-use crate::attempts::{disable_attempts, settle_attempts, visit_attempts};
-use crate::bases::Bases;
 use crate::at_most_one::{
     Few, Little, is_attempt_later, is_obligation_later, move_attempt, move_obligation,
     only_attempt, only_obligation,
 };
+use crate::attempts::{disable_attempts, settle_attempts, visit_attempts};
+use crate::bases::Bases;
 use crate::obligations::{drop_obligations, visit_obligations};
 use crate::outcomes::{Outcomes, Told, number_of};
 use crate::own_attempt::{

@@ -6,8 +6,7 @@ use cli_shell::{Sources, open, print_bytes, read_sources, shown_lines, shown_sta
 use cli_words::TeamFiles;
 use import_files::{
     DumpSignal, ImportFault, Imported, Reading, Signals, imported, known_of, messages_of,
-    signals_of,
-    status_of, text_of, unread_line,
+    signals_of, status_of, text_of, unread_line,
 };
 use source_files::Part;
 use std::fs::Files;

@@ -30,9 +30,9 @@
 mod lines;
 mod opening;
 mod report;
+mod round_batches;
 mod rounds_run;
 mod runs;
-mod round_batches;
 mod totals;
 
 pub use opening::first_monitors;

@@ -3,8 +3,8 @@
 ghost use Rattle.std.specs.Prelude.{◌≡◌, ◌≤◌, [], vec_capacity};
 ghost use Rattle.crossbeam_queue.specs.Passes.{ruled_capacity};
 
-use crate::passes::{Deals, Fair, Gathers, Hand, Puts, Rounding, Takes, Whole};
 use crate::numbered::Numbered;
+use crate::passes::{Deals, Fair, Gathers, Hand, Puts, Rounding, Takes, Whole};
 use crossbeam_queue::RuledArrayQueue;
 use std::alloc::{AllocError, Global};
 use std::marker::Brand;

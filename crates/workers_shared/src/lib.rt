@@ -36,12 +36,12 @@
 mod bench;
 mod board;
 mod counts;
-mod passes;
 mod numbered;
+mod passes;
 mod tally;
 
 pub use bench::{Bench, Pass};
 pub use board::{Board, Receipt};
-pub use passes::{Hand, Round};
 pub use numbered::Numbered;
+pub use passes::{Hand, Round};
 pub use tally::{Blanks, Share, Tally, Tallying};

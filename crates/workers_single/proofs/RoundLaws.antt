@@ -397,7 +397,7 @@ advances v c count behind k ticks f h all =
     accepted-on m.program (f.accepted behind m one.is) rows (monitor_clock m) (monitor_clock m + k) m.state
     (omega arith) (f.monitors behind m one.is) in
     let between : length (rows_between rows (monitor_clock m) (monitor_clock m + k))
-        ≡ (monitor_clock m + k) - monitor_clock m =
+    ≡ (monitor_clock m + k) - monitor_clock m =
     length-between rows (monitor_clock m) (monitor_clock m + k) (omega arith)
     (omega (arith, here, all, h.inside, long)) in
     let new : MonitorState = advanced rows k m in

@@ -5,8 +5,8 @@ ghost use Rattle.workers_shared.specs.Hands.{whole, total, numbers, IsOfRound};
 ghost use Rattle.workers_shared.specs.Passes.{pass_parts, taken_of};
 
 use super::Pass;
-use crate::passes::{Fair, Gathers, Hand, Whole};
 use crate::numbered::Numbered;
+use crate::passes::{Fair, Gathers, Hand, Whole};
 use crossbeam_queue::RuledArrayQueue;
 use std::sync::Wait;
 
