@@ -158,24 +158,24 @@ fn block_length(tokens: &[Token]) -> usize
 }
 
 /// How many blocks are open after a token.
-fn open_after(open: usize, token: &Token) -> usize
-    requires { open < 2 ^ 63 }
-    ensures { result ≡ open_after open token.now }
+fn open_after(blocks: usize, token: &Token) -> usize
+    requires { blocks < 2 ^ 63 }
+    ensures { result ≡ open_after blocks token.now }
 {
     if is_among(&BLOCK_STARTS, token.text) {
-        return open + 1;
+        return blocks + 1;
     }
     if is_among(&BLOCK_ENDS, token.text) {
-        return open.saturating_sub(1);
+        return blocks.saturating_sub(1);
     }
-    open
+    blocks
 }
 
 /// Whether what holds items ends with a token: all its blocks are closed.
-fn is_held_end(open: usize, token: &Token) -> bool
-    ensures { result ≡ is_held_end open token.now }
+fn is_held_end(blocks: usize, token: &Token) -> bool
+    ensures { result ≡ is_held_end blocks token.now }
 {
-    open == 0 && (is_among(&SEMICOLON, token.text) || is_among(&BLOCK_ENDS, token.text))
+    blocks == 0 && (is_among(&SEMICOLON, token.text) || is_among(&BLOCK_ENDS, token.text))
 }
 
 /// How many tokens an item has that holds others: up to `;`, or to where its blocks are closed.
@@ -184,10 +184,10 @@ fn held_length(tokens: &[Token]) -> usize
     ensures high { result ≤ length tokens.now }
     ensures low { 0 < length tokens.now → 0 < result }
 {
-    let mut open = 0;
+    let mut blocks = 0;
     for (place, token) in tokens.iter().enumerate() {
-        open = open_after(open, token);
-        if is_held_end(open, token) {
+        blocks = open_after(blocks, token);
+        if is_held_end(blocks, token) {
             return place + 1;
         }
     }
