@@ -1,6 +1,6 @@
 -- The text that tells of refusals, and what the command was given and wrote.
 use Rattle.std.specs.Prelude.{◌≡◌, ℕ, List, [], ◌++◌, Option, Some, None, length, map, max}
-use Rattle.std.specs.Prelude.{slice_get, string_bytes, String, IsOk, false}
+use Rattle.std.specs.Prelude.{slice_get, string_bytes, String, IsOk, IfSome, false}
 use Rattle.std.specs.List.{AllZip, flat_map}
 use Rattle.std.specs.List.Sorted.{IsPermutation, IsNonDecreasingBy}
 use Rattle.std.specs.Io.KnownBytes.{Appends}
@@ -17,8 +17,11 @@ use Rattle.diagnostics.specs.Items.{AreItemEnds}
 use Rattle.diagnostics.specs.Told.{refusal_text, total_text}
 use Rattle.vcd_reader.specs.Variables.{Declared}
 use Rattle.vcd_reader.specs.Dump.{Contents, GaveDump}
+use Rattle.cli_lint.specs.declared.fault.LintFault.{LintFault}
+use Rattle.cli_lint.specs.declared.fault.LintFault.TheVariants as faults
 use Rattle.lint_refusals.specs.Counted.{counted}
-use Rattle.lint_refusals.specs.Rests.{AreTold}
+use Rattle.lint_refusals.specs.Refused.{IsAccepted}
+use Rattle.lint_refusals.specs.Rests.{AreTold, IsLeft}
 
 -- the path and the text of a file, and nothing where there is none
 abbrev pub path_of : Option Part → List ℕ
@@ -66,7 +69,8 @@ pub record TellsAll (parts : List Part) (added : List Added) (refusals notes : L
   pub noted : TellsEach parts added notes after
   pub is : text ≡ (front ++ after) ++ total_text (length refusals) (max items (length refusals))
 
--- The text tells so many refusals of a text, of which this is left; and then notes.
+-- The text tells so many refusals of a text, of which this is left; and then notes. Where it tells
+-- none, the text is accepted; what is left is accepted, too, or has no assertion.
 pub record TellsRefusals (vs : List Declared) (text : List ℕ) (parts : List Part)
     (added : List Added) (notes : List Refusal) (refused : ℕ) (told : List ℕ)
     (rest : Option (String Global)) : Type 0 where
@@ -76,6 +80,8 @@ pub record TellsRefusals (vs : List Declared) (text : List ℕ) (parts : List Pa
   pub told_of : AreTold vs ends text (map (λ r. r.at) refusals) rest
   pub many : length refusals ≡ refused
   pub tells : TellsAll parts added refusals notes (counted text ends refusals) told
+  pub accepted : refused ≡ 0 → IsAccepted vs text
+  pub left : IfSome rest (IsLeft vs text)
 
 -- The source gave a dump, and the sink took the text that tells all refusals of a text over it.
 pub record IsLinted (text : List ℕ) (parts : List Part) (added : List Added)
@@ -89,3 +95,8 @@ pub record IsLinted (text : List ℕ) (parts : List Part) (added : List Added)
   pub tells : TellsRefusals contents.variables text parts added notes refused told rest
   pub written : Appends sink_before.contents sink_after.contents told
   pub flushed : sink_after.keeps_back ≡ false
+
+-- the fault is one of the sink
+abbrev pub IsSinkFault : LintFault → Type 0
+IsSinkFault (faults.Report f) = Unit {0}
+IsSinkFault _ = ⊥

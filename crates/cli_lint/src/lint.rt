@@ -1,13 +1,13 @@
 //! The call of the command `lint`.
 
-ghost use Rattle.std.specs.Prelude.{◌≡◌, List, [], false, string_bytes, Ok, IfOk, OnOk};
+ghost use Rattle.std.specs.Prelude.{◌≡◌, ◌⊎◌, List, [], false, string_bytes, Ok, IfOk, IfErr, OnOk};
 ghost use Rattle.std.specs.Io.KnownBytes.{Appends};
 ghost use Rattle.diagnostics.specs.declared.front.Refusal.{Refusal};
 ghost use Rattle.vcd_reader.specs.Dump.{Contents, Gave, dump_of};
 ghost use Rattle.vcd_reader.specs.Held.{variables_of, Parses};
 ghost use Rattle.lint_refusals.specs.Refused.{IsAccepted};
 ghost use Rattle.lint_refusals.specs.Rests.{IsRest};
-ghost use Rattle.cli_lint.specs.Tells.{TellsRefusals, IsLinted};
+ghost use Rattle.cli_lint.specs.Tells.{TellsRefusals, IsLinted, IsSinkFault};
 
 use crate::fault::LintFault;
 use crate::refusals::text_of;
@@ -187,6 +187,7 @@ fn write_told<W: Sink>(out: &mut W, told: &str) -> Result<(), LintFault>
     ensures written { OnOk result
         (Appends (W.state out.old).contents (W.state out.new).contents told.now) }
     ensures flushed { OnOk result ((W.state out.new).keeps_back ≡ false) }
+    ensures refused { IfErr result IsSinkFault }
 {
     if write_all(out, told.as_bytes()).is_err() {
         return Err(LintFault::Report(ReportFault::Write));
@@ -215,8 +216,11 @@ pub fn lint_one<'a, S: Source, W: Sink>(
     ports: &[PortSaid],
     out: &mut W,
 ) -> Result<u64, LintFault>
-    ensures { IfOk result (IsLinted text.now origin.now.parts.now origin.now.added.now
+    ensures linted { IfOk result (IsLinted text.now origin.now.parts.now origin.now.added.now
         (S.state source.old) (S.state source.new) (W.state out.old) (W.state out.new)) }
+    // Where it is not the sink that failed, nothing was written.
+    ensures kept { IfErr result (λ fault.
+        IsSinkFault fault ⊎ (W.state out.new ≡ W.state out.old)) }
 {
     let bytes = bytes_of(alloc, source)?;
     let rest = told_over(alloc, bytes.as_slice(), text, origin, ports)?;

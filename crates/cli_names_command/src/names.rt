@@ -1,9 +1,10 @@
 //! The call behind the command `names`.
 
-ghost use Rattle.std.specs.Prelude.{◌≡◌, IfOk, OnOk, false};
+ghost use Rattle.std.specs.Prelude.{◌≡◌, ◌⊎◌, IfOk, IfErr, OnOk, false};
 ghost use Rattle.std.specs.Io.KnownBytes.{Appends};
 ghost use Rattle.vcd_reader.specs.Dump.{Gave};
 ghost use Rattle.vcd_reader.specs.Held.{Parses};
+ghost use Rattle.cli_names_command.specs.Faults.{IsSinkFault};
 ghost use Rattle.cli_names_command.specs.Told.{IsTable, IsTableOf, IsTold};
 
 use crate::fault::NamesFault;
@@ -73,6 +74,7 @@ fn write_table<W: Sink>(out: &mut W, table: &[u8]) -> Result<(), NamesFault>
     ensures written { OnOk result
         (Appends (W.state out.old).contents (W.state out.new).contents table.now) }
     ensures flushed { OnOk result ((W.state out.new).keeps_back ≡ false) }
+    ensures refused { IfErr result IsSinkFault }
 {
     if write_all(out, table).is_err() {
         return Err(NamesFault::Report(ReportFault::Write));
@@ -100,6 +102,9 @@ pub fn names_one<S: Source, W: Sink>(
 ) -> Result<u64, NamesFault>
     ensures told { IfOk result (IsTold (S.state source.old) (S.state source.new)
         (W.state out.old) (W.state out.new) filter.now) }
+    // Where it is not the sink that failed, nothing was written.
+    ensures kept { IfErr result (λ fault.
+        IsSinkFault fault ⊎ (W.state out.new ≡ W.state out.old)) }
 {
     let bytes = bytes_of(alloc, source)?;
     let (table, count) = table_over(alloc, &bytes, filter)?;

@@ -3,8 +3,8 @@ use Rattle.std.specs.Io.KnownBytes.{Appends}
 use Rattle.vcd_reader.specs.Dump.{dump_of}
 use Rattle.cli_lint.proofs.lint.lint_one.Goals as goal
 
-pub returns : goal.returns
-returns g c =
+pub returns-clause-linted : goal.returns-clause-linted
+returns-clause-linted g c =
     let told = c.in_ok-rest.ensures in
     let rest = c.in_ok-rest.rest in
     let before = g.W.Sink.state c.args.out.now in

@@ -1,4 +1,5 @@
 use Rattle.std.proofs.Common.{◌∙◌, ℕ, List, string_bytes, sym, subst}
+use Rattle.std.proofs.lemmas.List.{nil_from_length}
 use Rattle.diagnostics.specs.declared.front.Refusal.{Refusal}
 use Rattle.cli_lint.specs.Tells.{TellsAll}
 use Rattle.cli_lint.proofs.lint.noted_over.Goals as goal
@@ -21,5 +22,9 @@ returns c =
             looked.1
             (subst (λ (ns : List Refusal). TellsAll origin.parts.now origin.added.now refusals ns told.items out)
             c.as_slice-4.ensures.value c.in_ok-written.ensures);
+        accepted = λ none.
+            c.in_ok-told.ensures.accepted (nil_from_length refusals
+            (sym (c.len-refused.ensures ∙ told.linted.refusals.ok.0) ∙ none));
+        left = c.in_ok-told.ensures.left;
       },
     )

@@ -1,4 +1,5 @@
 use Rattle.std.proofs.Common.{◌∙◌, ℕ, [], string_bytes, sym, subst}
+use Rattle.std.proofs.lemmas.List.{nil_from_length}
 use Rattle.cli_lint.specs.Tells.{TellsAll}
 use Rattle.cli_lint.proofs.lint.rest_over.Goals as goal
 
@@ -15,4 +16,8 @@ returns-clause-tells c =
       many = sym (c.len-refused.ensures ∙ told.linted.refusals.ok.0);
       tells = subst (λ (n : ℕ). TellsAll origin.parts.now origin.added.now told.linted.refusals.items [] n
           (string_bytes c.in_ok-written.written)) looked.1 c.in_ok-written.ensures;
+      accepted = λ none.
+          c.in_ok-told.ensures.accepted (nil_from_length told.linted.refusals.items
+          (sym (c.len-refused.ensures ∙ told.linted.refusals.ok.0) ∙ none));
+      left = c.in_ok-told.ensures.left;
     }
