@@ -6,8 +6,8 @@ use Rattle.report_forms.specs.Provenances.{ProvenanceData}
 use Rattle.explained_reports.specs.declared.failed_attempt.FailedAttempt.{FailedAttempt}
 use Rattle.explained_reports.specs.declared.selection.Wanted.{Wanted}
 use Rattle.explained_reports.specs.ExplainedText.{IsExplainedText}
-use Rattle.report_waves.specs.Views.{names_in, unit_in}
-use Rattle.report_waves.specs.Saves.{IsSave}
+use Rattle.report_gtkwave.specs.Views.{names_in, unit_in}
+use Rattle.report_gtkwave.specs.Saves.{IsSave}
 use Rattle.cli.specs.declared.explained.Explained.{Explained}
 use Rattle.cli.specs.declared.waves.ShownFailures.{ShownFailures}
 use Rattle.cli.specs.declared.waves.Waveform.{Waveform}

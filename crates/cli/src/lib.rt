@@ -20,7 +20,7 @@
 //! to in `specs/Outcomes.antt`, the times of clocks in `specs/Timed.antt`, what a build comes to
 //! in `specs/Builds.antt`, what explanations and a page come to in `specs/Explained.antt`, with a
 //! save file of GTKWave in `specs/Waves.antt`; the report on a suite in `judged_reports`, an
-//! explanation in `explained_reports`, a page in `report_page`, a save file in `report_waves`;
+//! explanation in `explained_reports`, a page in `report_page`, a save file in `report_gtkwave`;
 //! faults, their lines and statuses in `cli_faults`.
 //!
 //! Not promised: that memory suffices; of calls that take a team, that they return, and that two
@@ -51,6 +51,6 @@ pub use compiled_reports::{Gate, NoGate};
 pub use explain::explain_one;
 pub use explained_reports::Wanted;
 pub use page::{PagedReport, Paths, page_over};
-pub use report_waves::Waves;
+pub use report_gtkwave::Waves;
 pub use timed::{TimedReport, report_all, report_over};
 pub use waves::{ShownFailures, Waveform, failures_over};

@@ -15,7 +15,7 @@ use compiled_reports::Gate;
 use cycle_window::WindowSize;
 use explained_reports::{Wanted, explained_text, told_of};
 use report_forms::Provenance;
-use report_waves::{Waves, save_file};
+use report_gtkwave::{Waves, save_file};
 use source_files::Origin;
 use std::alloc::{AllocError, Global};
 use std::sync::Wait;

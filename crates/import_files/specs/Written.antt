@@ -3,10 +3,10 @@ use Rattle.std.specs.Prelude.{ℕ, List, Bool, Option, is_some, unwrap_or, strin
 use Rattle.assertions.specs.Written.{Written}
 use Rattle.import_elaboration.specs.declared.opener.Parts.{Parts}
 use Rattle.import_elaboration.specs.declared.opening.Opened.{Opened}
-use Rattle.import_semantics.specs.declared.condition.Condition.{Condition}
-use Rattle.import_semantics.specs.declared.property.Property.{Property}
-use Rattle.import_semantics.specs.Properties.{form_of, both}
-use Rattle.import_meanings.specs.Meanings.{IsMeaning}
+use Rattle.import_properties.specs.declared.condition.Condition.{Condition}
+use Rattle.import_properties.specs.declared.property.Property.{Property}
+use Rattle.import_properties.specs.Properties.{form_of, both}
+use Rattle.import_checks.specs.Meanings.{IsMeaning}
 use Rattle.import_rewriting.specs.Rewriting.{IsRewriting}
 use Rattle.import_readback.specs.Texts.{SaysRewriting}
 use Rattle.import_files.specs.declared.outcome.Half.{Half}
@@ -24,7 +24,7 @@ pub record SaysProperty (bound : Option ℕ) (property : Property) (disabled : B
   pub says : SaysRewriting label disabled antecedent consequent text
 
 -- A text says, under this label, the property that an assertion means that was opened
--- (`import_meanings`), and has a `disable iff` where that has one.
+-- (`import_checks`), and has a `disable iff` where that has one.
 pub record SaysOpened (bound : Option ℕ) (label text : List ℕ) : Type 0 where
   pub opening : Parts
   pub opened : Opened

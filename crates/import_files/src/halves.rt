@@ -88,7 +88,7 @@ fn with_around(
 }
 
 /// Two properties of which one fails where `body` does: those with each side of its `and`, if it
-/// has one after its antecedents. `import_meanings::mean_together` shows that of each two.
+/// has one after its antecedents. `import_checks::mean_together` shows that of each two.
 pub(crate) fn halves_of(
     alloc: Global,
     parts: &mut Parts<'_>,

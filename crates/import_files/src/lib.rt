@@ -19,7 +19,7 @@
 //! Assertions of another clock than the one that counts are refused.
 //!
 //! `imported` promises that each token that begins an assertion has one outcome, in their order;
-//! so none is lost. Each property is shown to be what was opened means (`import_meanings`), and
+//! so none is lost. Each property is shown to be what was opened means (`import_checks`), and
 //! each text is read back (`import_readback`): it says, under the label that is told, the exact
 //! rewriting of that property. Where one is written as two halves, these are together what was
 //! opened means. One of which any of that isn't so is refused. `text_of`, `status_of` and `placed`
@@ -27,7 +27,7 @@
 //!
 //! The definitions: `specs/Imported.antt` and `specs/Placed.antt`, and of what is written
 //! `specs/Written.antt`; tokens and the words that begin assertions in `import_tokens` and
-//! `import_scopes`; what a part means in `import_meanings`, what a rewriting is in
+//! `import_scopes`; what a part means in `import_checks`, what a rewriting is in
 //! `import_rewriting`, what a text says in `import_readback`.
 //!
 //! Not promised, but tested: that what was opened is what stands there, what a boolean's text says,

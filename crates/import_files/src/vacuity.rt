@@ -1,8 +1,8 @@
 //! Whether what is written is vacuous where the property is (IEEE 1800-2017, 16.14.8).
 
 use import_elaboration::{Part, PartId, PartNode};
+use import_properties::{Condition, Property, Sequence};
 use import_rewriting::Rewriting;
-use import_semantics::{Condition, Property, Sequence};
 use std::alloc::{AllocError, Global};
 
 /// Whether no part of a property is vacuous where it holds.

@@ -10,7 +10,7 @@ use crate::nodes::{Joint, delay, lead, together};
 use crate::now::Span;
 use crate::reason::{Hint, NotLowered, Reason, refused};
 use import_elaboration::{Count, Part, PartId, Parts};
-use import_semantics::Sequence;
+use import_properties::Sequence;
 
 /// A part of a chain, so many ticks after the end of the one before it.
 #[derive(Clone, Copy)]

@@ -7,7 +7,7 @@
 //! lowered.bounded                                // 60 stands for an end that is left open
 //! ```
 //!
-//! `property_of` makes the `import_semantics::Property` that a part of `import_elaboration` is. A
+//! `property_of` makes the `import_properties::Property` that a part of `import_elaboration` is. A
 //! leaf of a boolean is the place of a value among all of the opening: `Condition::Leaf(n)` is
 //! `parts.values[n]`. The constants 0 and 1 and the negation `!` are conditions of their own.
 //! Values that a form needs are added: `e === v || e === w` of an item of `case`, and `a && b` of
@@ -25,7 +25,7 @@
 //! Work is bounded: parts lie in one another at most `MOST_DEPTH` deep, and at most 100,000 values
 //! are added. Added values may share their parts, so written out they may be larger by far.
 //!
-//! No clause says here which property it is. `import_files` asks `import_meanings::is_meaning` of
+//! No clause says here which property it is. `import_files` asks `import_checks::is_meaning` of
 //! each one, and writes none of which that says no: so what is written is the part's meaning,
 //! keyword by keyword. Tested alone: parts with local variables or `.triggered`. Not promised:
 //! that the type of a local variable holds what it is given, whose own width counts.

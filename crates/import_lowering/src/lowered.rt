@@ -4,7 +4,7 @@ use crate::lowering::{Lowering, part_at};
 use crate::polarity::Polarity;
 use crate::reason::{Hint, NotLowered, Reason, hinted};
 use import_elaboration::{Part, PartId, Parts};
-use import_semantics::Property;
+use import_properties::Property;
 use std::alloc::Global;
 
 /// How deep parts may lie in one another, in steps of this crate.

@@ -6,7 +6,7 @@ use crate::reason::{Hint, NotLowered, Reason, hinted, refused};
 use import_elaboration::{
     Count, Part, PartId, PartNode, Parts, Value, ValueId, ValueList, ValueNode,
 };
-use import_semantics::Condition;
+use import_properties::Condition;
 use import_trees::{Infix, Number, Prefix};
 use std::alloc::{AllocError, Global};
 

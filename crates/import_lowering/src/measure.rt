@@ -1,7 +1,7 @@
 //! What the forms of sequences tell of them.
 
 use crate::now::Span;
-use import_semantics::Sequence;
+use import_properties::Sequence;
 
 /// The most that a side of an assertion may weigh.
 pub(crate) const HEAVIEST: usize = 127;

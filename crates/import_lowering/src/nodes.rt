@@ -1,7 +1,7 @@
 //! Sequences and properties from their parts.
 
 use crate::now::Span;
-use import_semantics::{Condition, Property, Sequence};
+use import_properties::{Condition, Property, Sequence};
 use std::alloc::{AllocError, Global};
 
 /// How two sequences are joined that begin together.

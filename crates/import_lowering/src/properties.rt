@@ -11,7 +11,7 @@ use crate::polarity::Polarity;
 use crate::reason::{Hint, NotLowered, Reason, hinted, refused};
 use crate::widening::are_widened_alone;
 use import_elaboration::{Choice, ChoiceId, Count, Part, PartId, Parts, ValueId};
-use import_semantics::{Condition, Property, Sequence};
+use import_properties::{Condition, Property, Sequence};
 use std::alloc::{AllocError, Global};
 
 impl Lowering {

@@ -9,7 +9,7 @@ use crate::now::Span;
 use crate::reason::{Hint, NotLowered, Reason, hinted, refused};
 use crate::ways::ways_of;
 use import_elaboration::{Assignments, Count, Part, PartId, Parts, ValueId};
-use import_semantics::{Condition, Sequence, goto_repetition, nonconsecutive_repetition};
+use import_properties::{Condition, Sequence, goto_repetition, nonconsecutive_repetition};
 use std::alloc::{AllocError, Global};
 
 impl Lowering {

@@ -4,7 +4,7 @@ use crate::lowering::Lowering;
 use crate::reason::NotLowered;
 use crate::ways::{Way, Ways};
 use import_elaboration::{Parts, ValueId};
-use import_semantics::Condition;
+use import_properties::Condition;
 
 impl Lowering {
     /// That one of the ways ends now.

@@ -3,7 +3,7 @@
 use crate::lowering::{Lowering, condition_in, value_at};
 use crate::reason::{NotLowered, Reason, refused};
 use import_elaboration::{Parts, Value, ValueId, ValueList};
-use import_semantics::Condition;
+use import_properties::Condition;
 use import_trees::Infix;
 
 impl Lowering {

@@ -2,7 +2,7 @@
 
 use crate::now::Span;
 use crate::reason::{NotLowered, Reason, refused};
-use import_semantics::{Condition, Sequence};
+use import_properties::{Condition, Sequence};
 use std::alloc::Global;
 
 /// How many ways a sequence may have.

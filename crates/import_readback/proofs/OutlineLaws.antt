@@ -13,10 +13,10 @@ use Rattle.parser_grammar.specs.Trees.{Tree, SequenceForm, Steps, Others, step, 
 use Rattle.parser_grammar.specs.Views.{tree_of, sequence_of, delay_step_of}
 use Rattle.parser_grammar.proofs.TreeLaws.{seq-Boolean, seq-Repeated, seq-Late, seq-Delayed, seq-Throughout, seq-Joined}
 use Rattle.assertions.specs.Written.{Written, boolean, delay, lead, repeat, throughout}
-use Rattle.import_semantics.specs.declared.condition.Condition.{Condition}
-use Rattle.import_semantics.specs.declared.sequence.Sequence.{Sequence}
-use Rattle.import_semantics.specs.declared.sequence.Sequence as form
-use Rattle.import_semantics.specs.Shapes.{written_form}
+use Rattle.import_properties.specs.declared.condition.Condition.{Condition}
+use Rattle.import_properties.specs.declared.sequence.Sequence.{Sequence}
+use Rattle.import_properties.specs.declared.sequence.Sequence as form
+use Rattle.import_properties.specs.Shapes.{written_form}
 use Rattle.import_readback.specs.Outlines.{Dot, dot, outline, spelled_outline, outline_after, outline_beside}
 use Rattle.import_readback.specs.Outlines.{least_of, most_of, joined_by}
 

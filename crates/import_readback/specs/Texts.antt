@@ -10,8 +10,8 @@ use Rattle.parser_grammar.specs.Trees.{AssertionForm, ItemForm, counter, declara
 use Rattle.parser_grammar.specs.Trees.{PropertyForm, plain, implication}
 use Rattle.parser_grammar.specs.Files.{IsFile}
 use Rattle.assertions.specs.Written.{Written, boolean, delay}
-use Rattle.import_semantics.specs.declared.condition.Condition.{Condition}
-use Rattle.import_semantics.specs.declared.condition.Condition.TheVariants.{One}
+use Rattle.import_properties.specs.declared.condition.Condition.{Condition}
+use Rattle.import_properties.specs.declared.condition.Condition.TheVariants.{One}
 use Rattle.import_readback.specs.Outlines.{outline, spelled_outline}
 
 -- the assertions of a text, in its order

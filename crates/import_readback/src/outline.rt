@@ -3,11 +3,11 @@
 ghost use Rattle.std.specs.Prelude.{◌≡◌, IsTrue, IfSome, map};
 ghost use Rattle.parser_grammar.specs.ReadSequences.{steps_of, others_of};
 ghost use Rattle.parser_grammar.specs.Views.{sequence_of, delay_step_of};
-ghost use Rattle.import_semantics.specs.Shapes.{written_form};
+ghost use Rattle.import_properties.specs.Shapes.{written_form};
 ghost use Rattle.import_readback.specs.Outlines.{outline, spelled_outline, outline_after};
 ghost use Rattle.import_readback.specs.Outlines.{outline_beside, least_of, most_of, joined_by};
 
-use import_semantics::Sequence;
+use import_properties::Sequence;
 use parser_grammar::{Junction, Range, SequenceTree};
 
 /// How deep sequences may lie in one another.

@@ -5,13 +5,13 @@ ghost use Rattle.std.specs.Prelude.{option_map};
 ghost use Rattle.lexer.specs.Cutting.{cut_of, tokens_of};
 ghost use Rattle.parser_grammar.specs.Views.{item_of, assertion_of, property_of};
 ghost use Rattle.assertions.specs.Written.{boolean, delay};
-ghost use Rattle.import_semantics.specs.declared.condition.Condition.TheVariants.{One};
-ghost use Rattle.import_semantics.specs.Shapes.{written_form};
+ghost use Rattle.import_properties.specs.declared.condition.Condition.TheVariants.{One};
+ghost use Rattle.import_properties.specs.Shapes.{written_form};
 ghost use Rattle.import_readback.specs.Texts.{SaysRewriting, IsOnlyRewriting, IsRewriting};
 ghost use Rattle.import_readback.specs.Texts.{HasSides, assertions_of, text_of};
 
 use crate::outline::{MOST_DEPTH, has_outline};
-use import_semantics::{Condition, Sequence};
+use import_properties::{Condition, Sequence};
 use lexer::{LexFault, Token, lex};
 use parser::{ParseFault, parse};
 use parser_grammar::{AssertionTree, Implication, ItemTree, PropertyTree, SequenceTree};

@@ -5,18 +5,18 @@ use Rattle.assertions.specs.Segments as kernel
 use Rattle.assertions.specs.Written.{Written, boolean, delay, repeat, weight}
 use Rattle.assertions.specs.Written as written
 use Rattle.assertions.specs.Emptiness.{admits_empty}
-use Rattle.import_semantics.specs.declared.condition.Condition.{Condition}
-use Rattle.import_semantics.specs.declared.condition.Condition.TheVariants.{One, Zero}
-use Rattle.import_semantics.specs.Conditions.{negation}
-use Rattle.import_semantics.specs.Properties.{Form, sequence, negated, either, both, implied, until, followed, chosen}
-use Rattle.import_semantics.specs.Properties.{later}
-use Rattle.import_semantics.specs.Outcomes.{ComesToSame, ComesToSameWithin}
-use Rattle.import_semantics.proofs.FormLaws.{same-swap, same-then, same-refl}
-use Rattle.import_semantics.proofs.FormLaws.{same-negated, within, same-both}
-use Rattle.import_semantics.proofs.UntilLaws.{negated-until, negated-until_with}
-use Rattle.import_semantics.proofs.RowLaws.{negated-negated, negated-later, negated-chosen, chosen-arms, same-chosen}
-use Rattle.import_semantics.proofs.RowLaws.{same-until, until-sequence, negated-sequence}
-use Rattle.import_semantics.proofs.UntilLaws.{negated-until, negated-until_with}
+use Rattle.import_properties.specs.declared.condition.Condition.{Condition}
+use Rattle.import_properties.specs.declared.condition.Condition.TheVariants.{One, Zero}
+use Rattle.import_properties.specs.Conditions.{negation}
+use Rattle.import_properties.specs.Properties.{Form, sequence, negated, either, both, implied, until, followed, chosen}
+use Rattle.import_properties.specs.Properties.{later}
+use Rattle.import_properties.specs.Outcomes.{ComesToSame, ComesToSameWithin}
+use Rattle.import_properties.proofs.FormLaws.{same-swap, same-then, same-refl}
+use Rattle.import_properties.proofs.FormLaws.{same-negated, within, same-both}
+use Rattle.import_properties.proofs.UntilLaws.{negated-until, negated-until_with}
+use Rattle.import_properties.proofs.RowLaws.{negated-negated, negated-later, negated-chosen, chosen-arms, same-chosen}
+use Rattle.import_properties.proofs.RowLaws.{same-until, until-sequence, negated-sequence}
+use Rattle.import_properties.proofs.UntilLaws.{negated-until, negated-until_with}
 use Rattle.import_rewriting.specs.declared.sense.Sense.{Sense}
 use Rattle.import_rewriting.specs.declared.sense.Sense.TheVariants.{Kept, Negated}
 use Rattle.import_rewriting.specs.Sides.{Says, can_match}

@@ -4,11 +4,11 @@ use Rattle.assertions.specs.Segments as kernel
 use Rattle.assertions.specs.Written.{Written, boolean, delay, lead, repeat, or, IsOrdered}
 use Rattle.assertions.specs.Written as written
 use Rattle.assertions.specs.Emptiness.{admits_empty}
-use Rattle.import_semantics.specs.declared.condition.Condition.{Condition}
-use Rattle.import_semantics.specs.declared.condition.Condition.TheVariants.{One}
-use Rattle.import_semantics.specs.Properties.{Form, sequence, both, implied, next, later, each_later}
-use Rattle.import_semantics.proofs.FormLaws.{implied-either, implied-delay, implied-lead, same-swap, same-refl}
-use Rattle.import_semantics.proofs.RowLaws.{implied-times-last, implied-times-more, implied-times-later}
+use Rattle.import_properties.specs.declared.condition.Condition.{Condition}
+use Rattle.import_properties.specs.declared.condition.Condition.TheVariants.{One}
+use Rattle.import_properties.specs.Properties.{Form, sequence, both, implied, next, later, each_later}
+use Rattle.import_properties.proofs.FormLaws.{implied-either, implied-delay, implied-lead, same-swap, same-refl}
+use Rattle.import_properties.proofs.RowLaws.{implied-times-last, implied-times-more, implied-times-later}
 use Rattle.import_rewriting.specs.Sides.{IsConsequent, Says}
 use Rattle.import_rewriting.specs.Ends.{SaysAfterEachEnd}
 use Rattle.import_rewriting.proofs.SaysLaws.{says_same, never_empty}

@@ -1,12 +1,12 @@
 -- What is joined in a sense.
 use Rattle.std.proofs.Common.{◌≡◌, ℕ, ◌-◌, sym, subst}
 use Rattle.assertions.specs.Written.{Written, kernel}
-use Rattle.import_semantics.specs.declared.condition.Condition.{Condition}
-use Rattle.import_semantics.specs.declared.condition.Condition.TheVariants.{One}
-use Rattle.import_semantics.specs.Properties.{Form, negated, both, either, implied, followed, each_later, some_later}
-use Rattle.import_semantics.proofs.FormLaws.{same-swap}
-use Rattle.import_semantics.proofs.RowLaws.{negated-both, negated-either, negated-implied, negated-each_later}
-use Rattle.import_semantics.proofs.RowLaws.{negated-some_later}
+use Rattle.import_properties.specs.declared.condition.Condition.{Condition}
+use Rattle.import_properties.specs.declared.condition.Condition.TheVariants.{One}
+use Rattle.import_properties.specs.Properties.{Form, negated, both, either, implied, followed, each_later, some_later}
+use Rattle.import_properties.proofs.FormLaws.{same-swap}
+use Rattle.import_properties.proofs.RowLaws.{negated-both, negated-either, negated-implied, negated-each_later}
+use Rattle.import_properties.proofs.RowLaws.{negated-some_later}
 use Rattle.import_rewriting.specs.declared.sense.Sense.{Sense}
 use Rattle.import_rewriting.specs.declared.sense.Sense.TheVariants.{Kept, Negated}
 use Rattle.import_rewriting.specs.Sides.{Says}

@@ -7,11 +7,11 @@ use Rattle.assertions.specs.Segments.{Seq, Chain, sat, Matches}
 use Rattle.assertions.specs.Written.{Written, boolean, delay, lead, repeat, or, and, intersect, throughout, kernel}
 use Rattle.assertions.specs.Written.{after, later, IsOrdered}
 use Rattle.assertions.proofs.RangeLaws.{one_of-matches, after-matches, later-matches}
-use Rattle.import_semantics.specs.declared.condition.Condition.{Condition}
-use Rattle.import_semantics.specs.declared.condition.Condition.TheVariants.{One}
-use Rattle.import_semantics.specs.Conditions.{value_of}
-use Rattle.import_semantics.proofs.FormLaws.{sat-one}
-use Rattle.import_semantics.proofs.RowLaws.{GoesOn}
+use Rattle.import_properties.specs.declared.condition.Condition.{Condition}
+use Rattle.import_properties.specs.declared.condition.Condition.TheVariants.{One}
+use Rattle.import_properties.specs.Conditions.{value_of}
+use Rattle.import_properties.proofs.FormLaws.{sat-one}
+use Rattle.import_properties.proofs.RowLaws.{GoesOn}
 use Rattle.import_rewriting.specs.Sides.{can_match}
 
 module _ (holds : Condition → ℕ → Bool) (n : ℕ) (one : (k : ℕ) → IsTrue (holds One k))

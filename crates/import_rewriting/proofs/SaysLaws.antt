@@ -9,18 +9,18 @@ use Rattle.assertions.specs.Written as written
 use Rattle.assertions.specs.Emptiness.{admits_empty}
 use Rattle.assertions.proofs.Segments.{Matches-forward}
 use Rattle.assertions.proofs.EmptinessLaws.{Matches-empty}
-use Rattle.import_semantics.specs.declared.condition.Condition.{Condition}
-use Rattle.import_semantics.specs.declared.condition.Condition.TheVariants.{One, Zero}
-use Rattle.import_semantics.specs.Conditions.{negation}
-use Rattle.import_semantics.specs.Properties.{Form, sequence, negated, both, either, implied}
-use Rattle.import_semantics.specs.Properties.{followed, later, each_later, some_later}
-use Rattle.import_semantics.specs.Outcomes.{ComesToSame, ComesToSameWithin}
-use Rattle.import_semantics.proofs.FormLaws.{TakesTicks, within, same-refl, same-then, same-both, same-either}
-use Rattle.import_semantics.proofs.FormLaws.{same-negated, same-implied, same-later, same-each_later, same-swap}
-use Rattle.import_semantics.proofs.FormLaws.{sequence-both, sequence-either, sequence-later, implied-one}
-use Rattle.import_semantics.proofs.FormLaws.{followed-sequence}
-use Rattle.import_semantics.proofs.RowLaws.{some_later-sequence, same-some_later, each_later-one, implied-one-zero}
-use Rattle.import_semantics.proofs.RowLaws.{sequence-guard, both-swap}
+use Rattle.import_properties.specs.declared.condition.Condition.{Condition}
+use Rattle.import_properties.specs.declared.condition.Condition.TheVariants.{One, Zero}
+use Rattle.import_properties.specs.Conditions.{negation}
+use Rattle.import_properties.specs.Properties.{Form, sequence, negated, both, either, implied}
+use Rattle.import_properties.specs.Properties.{followed, later, each_later, some_later}
+use Rattle.import_properties.specs.Outcomes.{ComesToSame, ComesToSameWithin}
+use Rattle.import_properties.proofs.FormLaws.{TakesTicks, within, same-refl, same-then, same-both, same-either}
+use Rattle.import_properties.proofs.FormLaws.{same-negated, same-implied, same-later, same-each_later, same-swap}
+use Rattle.import_properties.proofs.FormLaws.{sequence-both, sequence-either, sequence-later, implied-one}
+use Rattle.import_properties.proofs.FormLaws.{followed-sequence}
+use Rattle.import_properties.proofs.RowLaws.{some_later-sequence, same-some_later, each_later-one, implied-one-zero}
+use Rattle.import_properties.proofs.RowLaws.{sequence-guard, both-swap}
 use Rattle.import_rewriting.specs.Sides.{IsConsequent, Says}
 
 -- what admits no empty match takes a tick

@@ -4,17 +4,17 @@ use Rattle.assertions.specs.Segments as kernel
 use Rattle.assertions.specs.Written.{Written, boolean, delay, lead, weight, IsOrdered}
 use Rattle.assertions.specs.Written as written
 use Rattle.assertions.specs.Emptiness.{admits_empty}
-use Rattle.import_semantics.specs.declared.condition.Condition.{Condition}
-use Rattle.import_semantics.specs.declared.condition.Condition.TheVariants.{One, Zero}
-use Rattle.import_semantics.specs.declared.property.Property.{Property}
-use Rattle.import_semantics.specs.Properties.{Form, form_of, sequence, implied, each_later, later, negated}
-use Rattle.import_semantics.specs.Outcomes.{ComesToSame, ComesToSameWithin}
-use Rattle.import_semantics.proofs.FormLaws.{within, same-swap, same-then, same-implied, same-each_later}
-use Rattle.import_semantics.proofs.FormLaws.{same-negated}
-use Rattle.import_semantics.proofs.RowLaws.{negated-negated, negated-sequence}
-use Rattle.import_semantics.proofs.FormLaws.{implied-fuse, implied-delay, implied-lead}
-use Rattle.import_semantics.proofs.ProfileLaws.{implied-seen, each_later-seen, one-implied, implied-always}
-use Rattle.import_semantics.proofs.ProfileLaws.{profile-implied}
+use Rattle.import_properties.specs.declared.condition.Condition.{Condition}
+use Rattle.import_properties.specs.declared.condition.Condition.TheVariants.{One, Zero}
+use Rattle.import_properties.specs.declared.property.Property.{Property}
+use Rattle.import_properties.specs.Properties.{Form, form_of, sequence, implied, each_later, later, negated}
+use Rattle.import_properties.specs.Outcomes.{ComesToSame, ComesToSameWithin}
+use Rattle.import_properties.proofs.FormLaws.{within, same-swap, same-then, same-implied, same-each_later}
+use Rattle.import_properties.proofs.FormLaws.{same-negated}
+use Rattle.import_properties.proofs.RowLaws.{negated-negated, negated-sequence}
+use Rattle.import_properties.proofs.FormLaws.{implied-fuse, implied-delay, implied-lead}
+use Rattle.import_properties.proofs.ProfileLaws.{implied-seen, each_later-seen, one-implied, implied-always}
+use Rattle.import_properties.proofs.ProfileLaws.{profile-implied}
 use Rattle.import_rewriting.specs.Sides.{IsAntecedent, Says}
 use Rattle.import_rewriting.specs.Rewriting.{EndsLater, SaysAfter, AreSides, AreSidesLater, IsRewriting, SaysIn}
 use Rattle.import_rewriting.specs.Rewriting.{IsWithin, IsOpen}

@@ -1,7 +1,7 @@
 -- How large a sequence is, as it is written, and a property.
 use Rattle.std.specs.Prelude.{ℕ, ◌+◌}
-use Rattle.import_semantics.specs.declared.property.Property.{Property}
-use Rattle.import_semantics.specs.declared.property.Property.TheVariants as tree
+use Rattle.import_properties.specs.declared.property.Property.{Property}
+use Rattle.import_properties.specs.declared.property.Property.TheVariants as tree
 use Rattle.assertions.specs.Written.{Written, boolean, delay, lead, repeat, or, and, intersect}
 use Rattle.assertions.specs.Written.{throughout}
 

@@ -1,14 +1,14 @@
 -- When an assertion of the profile is the rewriting of a property.
 use Rattle.std.specs.Prelude.{◌⊎◌, ℕ, ◌+◌, ◌-◌, ◌<◌, ◌≤◌, Bool, ◌↔◌}
-use Rattle.import_semantics.specs.declared.condition.Condition.{Condition}
-use Rattle.import_semantics.specs.declared.condition.Condition.TheVariants.{One}
-use Rattle.import_semantics.specs.declared.property.Property.{Property}
-use Rattle.import_semantics.specs.declared.property.Property.TheVariants as tree
-use Rattle.import_semantics.specs.Conditions.{value_of}
-use Rattle.import_semantics.specs.Properties.{Form, form_of, negated, either, sequence, implied}
-use Rattle.import_semantics.specs.Properties.{each_later}
-use Rattle.import_semantics.specs.Outcomes.{ComesTo, ComesToSame, ComesToSameWithin, Outcome}
-use Rattle.import_semantics.specs.Outcomes.{IsDecidedSo}
+use Rattle.import_properties.specs.declared.condition.Condition.{Condition}
+use Rattle.import_properties.specs.declared.condition.Condition.TheVariants.{One}
+use Rattle.import_properties.specs.declared.property.Property.{Property}
+use Rattle.import_properties.specs.declared.property.Property.TheVariants as tree
+use Rattle.import_properties.specs.Conditions.{value_of}
+use Rattle.import_properties.specs.Properties.{Form, form_of, negated, either, sequence, implied}
+use Rattle.import_properties.specs.Properties.{each_later}
+use Rattle.import_properties.specs.Outcomes.{ComesTo, ComesToSame, ComesToSameWithin, Outcome}
+use Rattle.import_properties.specs.Outcomes.{IsDecidedSo}
 use Rattle.import_rewriting.specs.declared.sense.Sense.{Sense}
 use Rattle.import_rewriting.specs.Sides.{Says, IsAntecedent, IsConsequent}
 use Rattle.import_rewriting.specs.Senses.{in_sense}

@@ -1,9 +1,9 @@
 -- A property, or its negation, and how senses are joined.
-use Rattle.import_semantics.specs.declared.condition.Condition.{Condition}
+use Rattle.import_properties.specs.declared.condition.Condition.{Condition}
 use Rattle.std.specs.Prelude.{ℕ, ◌-◌, ◌≤◌}
-use Rattle.import_semantics.specs.declared.condition.Condition.TheVariants.{One}
-use Rattle.import_semantics.specs.Properties.{Form, negated, both, either, implied, each_later}
-use Rattle.import_semantics.specs.Properties.{some_later, until}
+use Rattle.import_properties.specs.declared.condition.Condition.TheVariants.{One}
+use Rattle.import_properties.specs.Properties.{Form, negated, both, either, implied, each_later}
+use Rattle.import_properties.specs.Properties.{some_later, until}
 use Rattle.assertions.specs.Written.{Written, kernel}
 use Rattle.import_rewriting.specs.Sides.{Says}
 use Rattle.import_rewriting.specs.declared.sense.Sense.{Sense}

@@ -1,9 +1,9 @@
 -- What a side of an assertion in the profile must be.
 use Rattle.std.specs.Prelude.{◌≡◌, ◌≤◌, ℕ, Bool, true, false, ◌&&◌, ◌||◌, nat_le}
-use Rattle.import_semantics.specs.declared.condition.Condition.{Condition}
-use Rattle.import_semantics.specs.declared.condition.Condition.TheVariants.{One}
-use Rattle.import_semantics.specs.Properties.{Form, sequence}
-use Rattle.import_semantics.specs.Outcomes.{ComesToSameWithin}
+use Rattle.import_properties.specs.declared.condition.Condition.{Condition}
+use Rattle.import_properties.specs.declared.condition.Condition.TheVariants.{One}
+use Rattle.import_properties.specs.Properties.{Form, sequence}
+use Rattle.import_properties.specs.Outcomes.{ComesToSameWithin}
 use Rattle.assertions.specs.Written.{Written, boolean, delay, lead, repeat, or, and, intersect}
 use Rattle.assertions.specs.Written.{throughout, kernel, weight, IsOrdered}
 use Rattle.assertions.specs.Emptiness.{admits_empty}

@@ -1,7 +1,7 @@
 //! Properties as one sequence each.
 
 ghost use Rattle.std.specs.Prelude.{IfOk};
-ghost use Rattle.import_semantics.specs.Shapes.{written_form};
+ghost use Rattle.import_properties.specs.Shapes.{written_form};
 ghost use Rattle.import_rewriting.specs.Rewriting.{SaysIn, SaysImplies};
 
 use crate::join::{
@@ -12,7 +12,7 @@ use crate::measure::check_antecedent;
 use crate::refusal::Refusal;
 use crate::sense::Sense;
 use crate::waiting::{until, until_with};
-use import_semantics::{Property, Sequence};
+use import_properties::{Property, Sequence};
 use std::alloc::Global;
 
 /// The sequence that says the property in that sense.

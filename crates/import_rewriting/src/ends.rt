@@ -4,17 +4,17 @@ ghost use Rattle.std.specs.Prelude.{◌≡◌, ◌≤◌, ℕ, false, IfOk};
 ghost use Rattle.assertions.specs.Segments as kernel;
 ghost use Rattle.assertions.specs.Written.{IsOrdered, kernel as kernel_of};
 ghost use Rattle.assertions.specs.Emptiness.{admits_empty};
-ghost use Rattle.import_semantics.specs.declared.condition.Condition.TheVariants.{One};
-ghost use Rattle.import_semantics.specs.Properties.{Form, implied};
-ghost use Rattle.import_semantics.specs.Shapes.{written_form};
-ghost use Rattle.import_semantics.specs.declared.condition.Condition.{Condition};
+ghost use Rattle.import_properties.specs.declared.condition.Condition.TheVariants.{One};
+ghost use Rattle.import_properties.specs.Properties.{Form, implied};
+ghost use Rattle.import_properties.specs.Shapes.{written_form};
+ghost use Rattle.import_properties.specs.declared.condition.Condition.{Condition};
 ghost use Rattle.import_rewriting.specs.Sides.{Says, IsConsequent};
 ghost use Rattle.import_rewriting.specs.Ends.{SaysAfterEachEnd};
 
 use crate::make::{both, copy_of, each_later, later, unless};
 use crate::measure::may_be_empty;
 use crate::refusal::Refusal;
-use import_semantics::Sequence;
+use import_properties::Sequence;
 use std::alloc::Global;
 
 /// A sequence that says what `antecedent |-> consequent` does: from the last tick of each match of

@@ -1,11 +1,11 @@
 //! What sequences that say properties in a sense are joined to.
 
 ghost use Rattle.std.specs.Prelude.{◌≡◌, ◌≤◌, ℕ, IfOk};
-ghost use Rattle.import_semantics.specs.declared.condition.Condition.{Condition};
-ghost use Rattle.import_semantics.specs.declared.condition.Condition.TheVariants.{One};
-ghost use Rattle.import_semantics.specs.Properties.{Form, sequence as sequence_form, then_tick};
-ghost use Rattle.import_semantics.specs.Properties.{chosen};
-ghost use Rattle.import_semantics.specs.Shapes.{written_form};
+ghost use Rattle.import_properties.specs.declared.condition.Condition.{Condition};
+ghost use Rattle.import_properties.specs.declared.condition.Condition.TheVariants.{One};
+ghost use Rattle.import_properties.specs.Properties.{Form, sequence as sequence_form, then_tick};
+ghost use Rattle.import_properties.specs.Properties.{chosen};
+ghost use Rattle.import_properties.specs.Shapes.{written_form};
 ghost use Rattle.assertions.specs.Written.{IsOrdered, kernel};
 ghost use Rattle.import_rewriting.specs.Sides.{Says, IsAntecedent};
 ghost use Rattle.import_rewriting.specs.Senses.{JoinsBoth, JoinsEither, JoinsImplied};
@@ -16,7 +16,7 @@ use crate::make::{both, boxed, copy_of, each_later, either, followed, guarded, m
 use crate::measure::{can_match, check_consequent};
 use crate::refusal::Refusal;
 use crate::sense::Sense;
-use import_semantics::{Condition, Sequence};
+use import_properties::{Condition, Sequence};
 use std::alloc::Global;
 
 /// `p and q`.

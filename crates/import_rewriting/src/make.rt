@@ -1,12 +1,12 @@
 //! Sequences from their parts.
 
 ghost use Rattle.std.specs.Prelude.{◌≡◌, ◌-◌, ◌<◌, ◌≤◌, ◌↔◌, ℕ, IfOk, IsErrOf, IsTrue};
-ghost use Rattle.import_semantics.specs.declared.condition.Condition.{Condition};
-ghost use Rattle.import_semantics.specs.declared.condition.Condition.TheVariants.{One, Zero};
-ghost use Rattle.import_semantics.specs.Conditions.{negation};
-ghost use Rattle.import_semantics.specs.Properties.{Form, sequence, both, either, implied};
-ghost use Rattle.import_semantics.specs.Properties.{followed, later, each_later, some_later};
-ghost use Rattle.import_semantics.specs.Shapes.{written_form};
+ghost use Rattle.import_properties.specs.declared.condition.Condition.{Condition};
+ghost use Rattle.import_properties.specs.declared.condition.Condition.TheVariants.{One, Zero};
+ghost use Rattle.import_properties.specs.Conditions.{negation};
+ghost use Rattle.import_properties.specs.Properties.{Form, sequence, both, either, implied};
+ghost use Rattle.import_properties.specs.Properties.{followed, later, each_later, some_later};
+ghost use Rattle.import_properties.specs.Shapes.{written_form};
 ghost use Rattle.assertions.specs.Segments as kernel;
 ghost use Rattle.assertions.specs.Written.{weight, IsOrdered, kernel as kernel_of};
 ghost use Rattle.assertions.specs.Written.{boolean as boolean_form};
@@ -16,7 +16,7 @@ ghost use Rattle.import_rewriting.specs.Sides.{Says};
 
 use crate::measure::{HEAVIEST, boolean_of, capped_weight};
 use crate::refusal::Refusal;
-use import_semantics::{Condition, Sequence};
+use import_properties::{Condition, Sequence};
 use std::alloc::{AllocError, Global};
 
 /// A sequence in a box.

@@ -4,11 +4,11 @@ ghost use Rattle.std.specs.Prelude.{◌≡◌, ◌+◌, ◌*◌, ◌≤◌, ◌�
 ghost use Rattle.assertions.specs.Written.{boolean as boolean_form};
 ghost use Rattle.assertions.specs.Written.{weight, IsOrdered};
 ghost use Rattle.assertions.specs.Emptiness.{admits_empty};
-ghost use Rattle.import_semantics.specs.Shapes.{written_form};
+ghost use Rattle.import_properties.specs.Shapes.{written_form};
 ghost use Rattle.import_rewriting.specs.Sides.{IsAntecedent, IsConsequent, can_match};
 
 use crate::refusal::Refusal;
-use import_semantics::{Condition, Sequence};
+use import_properties::{Condition, Sequence};
 
 /// The most that a side of an assertion may weigh.
 pub const HEAVIEST: usize = 127;

@@ -2,8 +2,8 @@
 
 ghost use Rattle.std.specs.Prelude.{◌≡◌, ◌≤◌, IfOk, IsTrue};
 ghost use Rattle.assertions.specs.Written.{boolean};
-ghost use Rattle.import_semantics.specs.declared.condition.Condition.TheVariants.{One};
-ghost use Rattle.import_semantics.specs.Shapes.{written_form};
+ghost use Rattle.import_properties.specs.declared.condition.Condition.TheVariants.{One};
+ghost use Rattle.import_properties.specs.Shapes.{written_form};
 ghost use Rattle.import_rewriting.specs.Sides.{IsAntecedent};
 ghost use Rattle.import_rewriting.specs.Rewriting.{AreSides, AreSidesLater, EndsLater, IsRewriting};
 
@@ -13,7 +13,7 @@ use crate::make::{boxed, copy_of, made};
 use crate::measure::{check_antecedent, may_be_empty};
 use crate::refusal::Refusal;
 use crate::sense::Sense;
-use import_semantics::{Condition, Property, Sequence};
+use import_properties::{Condition, Property, Sequence};
 use std::alloc::Global;
 
 /// The two sides of an assertion `antecedent |-> consequent` of the profile. The antecedent 1 can

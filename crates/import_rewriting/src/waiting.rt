@@ -2,9 +2,9 @@
 
 ghost use Rattle.std.specs.Prelude.{◌≤◌, ℕ, IfOk};
 ghost use Rattle.assertions.specs.Written.{boolean as boolean_form};
-ghost use Rattle.import_semantics.specs.declared.condition.Condition.{Condition};
-ghost use Rattle.import_semantics.specs.Properties.{Form, negated, until, both};
-ghost use Rattle.import_semantics.specs.Shapes.{written_form};
+ghost use Rattle.import_properties.specs.declared.condition.Condition.{Condition};
+ghost use Rattle.import_properties.specs.Properties.{Form, negated, until, both};
+ghost use Rattle.import_properties.specs.Shapes.{written_form};
 ghost use Rattle.import_rewriting.specs.Senses.{SaysUntil, SaysUntilWith};
 ghost use Rattle.import_rewriting.specs.Sides.{Says};
 
@@ -12,7 +12,7 @@ use crate::make::{boxed, guarded, made};
 use crate::measure::{boolean_of, can_match};
 use crate::refusal::Refusal;
 use crate::sense::Sense;
-use import_semantics::{Condition, Sequence};
+use import_properties::{Condition, Sequence};
 use std::alloc::Global;
 
 /// `first until second`, for a boolean: `first[*0:bound] ##1 second`.

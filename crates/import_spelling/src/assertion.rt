@@ -5,9 +5,9 @@ use crate::spelling::Spelling;
 use crate::writer::{Piece, Writer};
 use crate::writing::LOOSEST;
 use import_elaboration::{Opened, ValueId};
-use import_expressions::{Gate, Reason, Refused, is_free_word};
+use import_properties::{Condition, Sequence};
 use import_rewriting::Rewriting;
-use import_semantics::{Condition, Sequence};
+use import_terms::{Gate, Reason, Refused, is_free_word};
 use import_trees::Refusal;
 
 /// A refusal at a byte.

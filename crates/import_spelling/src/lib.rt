@@ -7,7 +7,7 @@
 //! let text = spelling.value(b"r1", ValueId(3))?;                  // an expression, as a boolean
 //! ```
 //!
-//! A boolean of the rewriting is a value of the opening, by its number; `import_expressions` makes
+//! A boolean of the rewriting is a value of the opening, by its number; `import_terms` makes
 //! an expression of the profile of it, or says why there is none. Here terms, sequences and whole
 //! assertions are written, in the fewest brackets that keep how they group, though a boolean of
 //! several operands has its own beside `##` and `[*]`. An antecedent `r ##1 1` is written by `|=>`,
@@ -27,5 +27,5 @@ mod spelling;
 mod writer;
 mod writing;
 
-pub use import_expressions::{DumpSignal, Reason, Refused};
+pub use import_terms::{DumpSignal, Reason, Refused};
 pub use spelling::Spelling;

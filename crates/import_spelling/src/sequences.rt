@@ -2,8 +2,8 @@
 
 use crate::spelling::Spelling;
 use crate::writer::{Piece, Writer};
-use import_expressions::Reason;
-use import_semantics::Sequence;
+use import_properties::Sequence;
+use import_terms::Reason;
 use import_trees::Refusal;
 
 /// How loosely the forms of sequences join their parts; those of expressions are below.

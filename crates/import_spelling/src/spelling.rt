@@ -1,7 +1,7 @@
 //! What is spelled.
 
 use import_elaboration::Parts;
-use import_expressions::{DumpSignal, Terms};
+use import_terms::{DumpSignal, Terms};
 use std::alloc::Global;
 
 /// Spells the expressions and assertions of an opening, one after another.

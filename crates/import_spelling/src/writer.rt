@@ -1,7 +1,7 @@
 //! A text in the making.
 
-use import_expressions::{Reason, TermId};
-use import_semantics::{Condition, Sequence};
+use import_properties::{Condition, Sequence};
+use import_terms::{Reason, TermId};
 use import_trees::Path;
 use std::alloc::{AllocError, Global};
 

@@ -3,8 +3,8 @@
 use crate::spelling::Spelling;
 use crate::writer::{Piece, Writer};
 use import_elaboration::ValueId;
-use import_expressions::{Reason, Refused, Term, TermId, TermList, is_associative, looseness};
-use import_semantics::Condition;
+use import_properties::Condition;
+use import_terms::{Reason, Refused, Term, TermId, TermList, is_associative, looseness};
 use parser_grammar::{Function, Infix, Prefix};
 
 /// How many pieces a text may have.

@@ -8,7 +8,7 @@ ghost use Rattle.parser_grammar.specs.Views.{items_of};
 ghost use Rattle.vcd_reader.specs.Held.{variables_of};
 ghost use Rattle.compiler.specs.Conditions.{FitsSuite};
 ghost use Rattle.compiled_reports.specs.Lines.{IsWatched};
-ghost use Rattle.lint_suites.specs.Suites.{Spells};
+ghost use Rattle.lint_dump_suite.specs.Suites.{Spells};
 
 use crate::accepted::{Accepted, Beside};
 use crate::clocked::{clocks_of, push_clocked};
@@ -17,8 +17,8 @@ use crate::read::push_read;
 use diagnostics::Refusal;
 use laws_suites::suite_law;
 use lexer::{LexFault, Token, lex};
+use lint_dump_suite::suite_over;
 use lint_notes::Note;
-use lint_suites::suite_over;
 use parser::{File, ParseFault, parse};
 use std::alloc::{AllocError, Global};
 use types_suites::TypeFault;

@@ -22,8 +22,8 @@ use Rattle.assertions.specs.declared.assertion.Assertion.{Assertion}
 use Rattle.assertions.specs.declared.suite.Suite.{Suite}
 use Rattle.types_suites.specs.Suites.{IsSuite}
 use Rattle.lint_notes.specs.Idle.{heads}
-use Rattle.lint_suites.specs.Dumps.{width_named}
-use Rattle.lint_suites.specs.Suites.{Spells, scope_over, clock_byte}
+use Rattle.lint_dump_suite.specs.Dumps.{width_named}
+use Rattle.lint_dump_suite.specs.Suites.{Spells, scope_over, clock_byte}
 use Rattle.lint_messages.specs.Bytes.{byte_of_lex, byte_of_parse, byte_of_type}
 
 abbrev pub is_one_bit : Option ℕ → Bool

@@ -11,8 +11,8 @@ ghost use Rattle.types_suites.specs.Faults.{IsFaultless};
 ghost use Rattle.types_suites.specs.Suites.{IsSuite};
 ghost use Rattle.compiler.specs.Conditions.{FitsSuite};
 ghost use Rattle.compiled_reports.specs.Faults.{HasAcceptedProgram};
-ghost use Rattle.lint_suites.specs.Dumps.{width_named};
-ghost use Rattle.lint_suites.specs.Suites.{Spells, scope_over};
+ghost use Rattle.lint_dump_suite.specs.Dumps.{width_named};
+ghost use Rattle.lint_dump_suite.specs.Suites.{Spells, scope_over};
 ghost use Rattle.lint_refusals.specs.Refused.{IsAccepted, IsRefused, is_one_bit};
 ghost use Rattle.lint_refusals.specs.Refused.{head_at, IsUnprogrammed};
 ghost use Rattle.lint_refusals.specs.Rests.{IsBare};
@@ -24,11 +24,11 @@ use assertions::Suite;
 use diagnostics::{FrontEnd, Refusal, Span};
 use laws_suites::suite_law;
 use lexer::{Token, lex};
+use lint_dump_suite::{suite_over, width_in_dump};
 use lint_messages::{
     Meant, clock_refusal, lex_refusal, parse_refusal, program_refusal, type_refusal,
 };
 use lint_notes::{Head, heads_of};
-use lint_suites::{suite_over, width_in_dump};
 use parser::{File, ParseFault, parse};
 use std::alloc::{AllocError, Global};
 use vcd_reader::Dump;

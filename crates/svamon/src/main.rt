@@ -20,14 +20,14 @@
 //! ```
 //!
 //! A report goes to standard output, a fault as one line to standard error, or two for a file: the
-//! second says why it can't be used. The status is 0 where
-//! no attempt failed, 1 where some did, 2 for input or words that are refused, 3 for want of
-//! memory, and 4 for a file that can't be opened, read or written.
+//! second says why it can't be used. The status is 0 where no attempt failed, 1 where some did, 2
+//! for input or words that are refused, 3 for want of memory, and 4 for a file that can't be
+//! opened, read or written.
 //!
 //! It opens files (`cli_shell`) and hands over what is in them; what a command answers is said by
 //! the contracts of `cli` (`check_all`, `report_all`, `report_over`, `judge_one`, `build_one`,
-//! `explain_one`, `failures_over`), of `report_page` (`page`), of `report_waves` (`save_file`), of
-//! `report_forms` (`junit_report`, `json_report`), of `cli_bytecode` (`verify_code`, `run_code`,
+//! `explain_one`, `failures_over`), of `report_page` (`page`), of `report_gtkwave` (`save_file`),
+//! of `report_forms` (`junit_report`, `json_report`), of `cli_bytecode` (`verify_code`, `run_code`,
 //! `upgrade_code`), of `cli_lint` (`lint_one`, `rest_over`), of `cli_names_command` (`names_one`),
 //! of `import_files` (`imported`, `text_of`, `placed`, `status_of`), of `source_files` (`joined`,
 //! `chosen`) and of `axi4_rules` (`port_rules`, `read_ports`), whose definitions stand in their

@@ -2,8 +2,8 @@
 
 use import_elaboration::{Opener, PartId, Parts, Value};
 use import_lowering::{Lowered, property_of};
+use import_properties::{Condition, Property, Sequence};
 use import_scopes::{Assertion, File};
-use import_semantics::{Condition, Property, Sequence};
 use import_tokens::{Expansions, Macros, TokenFault};
 use import_trees::{Infix, Path, Prefix};
 use std::alloc::{AllocError, Global};

@@ -1,11 +1,11 @@
 //! What no clause says of `is_meaning` and `mean_together`: that they say yes of what is meant, and
 //! no of others.
 
+use import_checks::{is_meaning, mean_together};
 use import_elaboration::{Opener, Part, PartId, Parts};
 use import_lowering::property_of;
-use import_meanings::{is_meaning, mean_together};
+use import_properties::{Condition, Property, Sequence};
 use import_scopes::{Assertion, File};
-use import_semantics::{Condition, Property, Sequence};
 use import_tokens::{Expansions, Macros, TokenFault};
 use std::alloc::{AllocError, Global};
 use std::test::Fail;

@@ -1,7 +1,7 @@
 //! That properties have rewritings, which no clause says: a body that refuses each would be proved.
 
+use import_properties::{Condition, Property, Sequence, goto_repetition};
 use import_rewriting::{Refusal, rewritten};
-use import_semantics::{Condition, Property, Sequence, goto_repetition};
 use std::alloc::{AllocError, Global};
 use std::test::Fail;
 

@@ -1,8 +1,8 @@
 //! Types of arguments, local variables and signals (IEEE 1800-2017, 6.11, 6.24.1, 10.7, 11.8 and
 //! 16.8.1). What is wanted was worked out by hand.
 
-use import_expressions::DumpSignal;
 use import_files::{ImportFault, Reading, imported, messages_of, text_of};
+use import_terms::DumpSignal;
 use source_files::Part;
 use std::alloc::{AllocError, Global};
 use std::test::Fail;

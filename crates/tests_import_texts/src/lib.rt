@@ -12,7 +12,7 @@
 //! ```
 //!
 //! Expected values are worked out by hand from the standard. There are no definitions here: what is
-//! promised of terms and texts stands in `import_expressions` and `import_spelling`.
+//! promised of terms and texts stands in `import_terms` and `import_spelling`.
 #![tactic(auto)]
 
 #[cfg(test)]

@@ -1,10 +1,10 @@
 //! What no clause says of texts of assertions.
 
 use import_elaboration::{Opened, Opener};
+use import_properties::{Condition, Sequence};
 use import_readback::says_rewriting;
 use import_rewriting::Rewriting;
 use import_scopes::File;
-use import_semantics::{Condition, Sequence};
 use import_spelling::Spelling;
 use import_tokens::{Expansions, Macros, TokenFault};
 use std::alloc::{AllocError, Global};

@@ -1,6 +1,6 @@
 use Rattle.std.proofs.Common.{rules, ◌≡◌, ◌++◌, ◌∷◌, [], length, sym, ◌∙◌}
 use Rattle.parser_grammar.specs.Views.{sequence_of}
-use Rattle.import_semantics.specs.Shapes.{written_form}
+use Rattle.import_properties.specs.Shapes.{written_form}
 use Rattle.import_readback.specs.Outlines.{outline, spelled_outline, least_of, most_of, joined_by}
 use Rattle.import_readback.proofs.OutlineLaws.{tree-boolean, like-repeated, like-late, like-throughout, like-delayed}
 use Rattle.import_readback.proofs.OutlineLaws.{like-joined, like-delay, like-sides, delays-none, sides-none}

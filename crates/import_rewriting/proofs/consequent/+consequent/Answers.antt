@@ -1,9 +1,9 @@
 use Rattle.std.proofs.Common.{inl, inr, ap, sym, ◌∙◌, subst}
 use Rattle.std.proofs.lemmas.Result.{IfOk-weaker}
 use Rattle.assertions.specs.Written.{boolean}
-use Rattle.import_semantics.specs.Properties.{form_of, negated, either, both, implied, followed}
-use Rattle.import_semantics.specs.declared.property.Property as tree
-use Rattle.import_semantics.specs.Shapes.{written_form}
+use Rattle.import_properties.specs.Properties.{form_of, negated, either, both, implied, followed}
+use Rattle.import_properties.specs.declared.property.Property as tree
+use Rattle.import_properties.specs.Shapes.{written_form}
 use Rattle.import_rewriting.specs.declared.sense.Sense.TheVariants.{Kept}
 use Rattle.import_rewriting.specs.Sides.{Says}
 use Rattle.import_rewriting.specs.Senses.{in_sense, JoinsImplied}

@@ -2,7 +2,7 @@ use Rattle.std.proofs.Common.{rules, ◌≡◌, false, ap, sym, ◌∙◌, subst
 use Rattle.std.proofs.lemmas.Result.{IfOk-weaker}
 use Rattle.assertions.specs.Written.{IsOrdered}
 use Rattle.assertions.specs.Emptiness.{admits_empty}
-use Rattle.import_semantics.specs.Shapes.{written_form}
+use Rattle.import_properties.specs.Shapes.{written_form}
 use Rattle.import_rewriting.proofs.SaysLaws.{says_as}
 use Rattle.import_rewriting.proofs.EndsLaws.{Ends, Each, EndsTimes, ends_or, ends_lead, ends_delay, ends_last}
 use Rattle.import_rewriting.proofs.EndsLaws.{ends_later, ends_more}

@@ -1,5 +1,5 @@
 use Rattle.std.proofs.lemmas.Result.{IfOk-weaker}
-use Rattle.import_semantics.specs.Shapes.{written_form}
+use Rattle.import_properties.specs.Shapes.{written_form}
 use Rattle.import_rewriting.proofs.EndsLaws.{says_ends}
 use Rattle.import_rewriting.proofs.ends.after_each_end.Goals as goal
 

@@ -1,6 +1,6 @@
 use Rattle.std.proofs.Common.{subst}
 use Rattle.std.proofs.lemmas.Result.{IfOk-weaker}
-use Rattle.import_semantics.specs.Shapes.{written_form}
+use Rattle.import_properties.specs.Shapes.{written_form}
 use Rattle.import_rewriting.proofs.EndsLaws.{Each}
 use Rattle.import_rewriting.proofs.JoinLaws.{kept_each, negated_each}
 use Rattle.import_rewriting.proofs.join.at_each.Goals as goal

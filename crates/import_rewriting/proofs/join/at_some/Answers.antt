@@ -1,6 +1,6 @@
 use Rattle.std.proofs.Common.{subst}
 use Rattle.std.proofs.lemmas.Result.{IfOk-weaker}
-use Rattle.import_semantics.specs.Shapes.{written_form}
+use Rattle.import_properties.specs.Shapes.{written_form}
 use Rattle.import_rewriting.proofs.EndsLaws.{Each}
 use Rattle.import_rewriting.proofs.JoinLaws.{kept_some, negated_some}
 use Rattle.import_rewriting.proofs.join.at_some.Goals as goal

@@ -2,9 +2,9 @@ use Rattle.std.proofs.Common.{ap, sym, ◌∙◌, subst}
 use Rattle.std.proofs.lemmas.Result.{IfOk-weaker}
 use Rattle.assertions.specs.Segments as kernel
 use Rattle.assertions.specs.Written.{boolean}
-use Rattle.import_semantics.specs.Conditions.{negation}
-use Rattle.import_semantics.specs.Properties.{implied}
-use Rattle.import_semantics.specs.Shapes.{written_form}
+use Rattle.import_properties.specs.Conditions.{negation}
+use Rattle.import_properties.specs.Properties.{implied}
+use Rattle.import_properties.specs.Shapes.{written_form}
 use Rattle.import_rewriting.specs.Sides.{can_match}
 use Rattle.import_rewriting.specs.Senses.{JoinsImplied}
 use Rattle.import_rewriting.proofs.ConsequentLaws.{chosen_in}

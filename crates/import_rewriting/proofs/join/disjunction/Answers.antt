@@ -1,5 +1,5 @@
 use Rattle.std.proofs.lemmas.Result.{IfOk-weaker}
-use Rattle.import_semantics.specs.Shapes.{written_form}
+use Rattle.import_properties.specs.Shapes.{written_form}
 use Rattle.import_rewriting.proofs.JoinLaws.{kept_either, negated_either}
 use Rattle.import_rewriting.proofs.join.disjunction.Goals as goal
 

@@ -1,9 +1,9 @@
 use Rattle.std.proofs.Common.{sym, subst}
 use Rattle.std.proofs.lemmas.Result.{IfOk-weaker}
 use Rattle.assertions.specs.Written.{IsOrdered, kernel}
-use Rattle.import_semantics.specs.declared.condition.Condition.TheVariants.{One}
-use Rattle.import_semantics.specs.Properties.{followed}
-use Rattle.import_semantics.specs.Shapes.{written_form}
+use Rattle.import_properties.specs.declared.condition.Condition.TheVariants.{One}
+use Rattle.import_properties.specs.Properties.{followed}
+use Rattle.import_properties.specs.Shapes.{written_form}
 use Rattle.import_rewriting.proofs.EndsLaws.{Ends}
 use Rattle.import_rewriting.specs.Sides.{Says}
 use Rattle.import_rewriting.proofs.JoinLaws.{kept_implied, negated_implied}

@@ -1,8 +1,8 @@
 use Rattle.std.proofs.Common.{ap, sym, arith, ◌-◌, ◌+◌}
 use Rattle.std.proofs.lemmas.Result.{IfOk-weaker}
 use Rattle.assertions.specs.Written.{boolean}
-use Rattle.import_semantics.specs.Properties.{later, each_later}
-use Rattle.import_semantics.specs.Shapes.{written_form}
+use Rattle.import_properties.specs.Properties.{later, each_later}
+use Rattle.import_properties.specs.Shapes.{written_form}
 use Rattle.import_rewriting.proofs.SaysLaws.{says_each_once, says_each_more, says_as}
 use Rattle.import_rewriting.proofs.make.+each_later.Goals as goal
 

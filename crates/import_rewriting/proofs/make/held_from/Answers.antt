@@ -2,8 +2,8 @@ use Rattle.std.proofs.Common.{ap, sym, arith, ◌-◌, ◌+◌}
 use Rattle.std.proofs.lemmas.Result.{IfOk-weaker}
 use Rattle.assertions.specs.Segments as kernel
 use Rattle.assertions.specs.Written.{boolean, repeat}
-use Rattle.import_semantics.specs.Properties.{sequence}
-use Rattle.import_semantics.specs.Shapes.{written_form}
+use Rattle.import_properties.specs.Properties.{sequence}
+use Rattle.import_properties.specs.Shapes.{written_form}
 use Rattle.import_rewriting.proofs.SaysLaws.{says_each_once, says_as, says_held, says_times}
 use Rattle.import_rewriting.proofs.make.held_from.Goals as goal
 

@@ -1,8 +1,8 @@
 use Rattle.std.proofs.Common.{ap, sym, ◌∙◌}
 use Rattle.std.proofs.lemmas.Result.{IfOk-weaker}
 use Rattle.assertions.specs.Written.{boolean}
-use Rattle.import_semantics.specs.declared.condition.Condition.TheVariants.{Zero}
-use Rattle.import_semantics.specs.Shapes.{written_form}
+use Rattle.import_properties.specs.declared.condition.Condition.TheVariants.{Zero}
+use Rattle.import_properties.specs.Shapes.{written_form}
 use Rattle.import_rewriting.proofs.SaysLaws.{says_unless_as, says_missed, says_as}
 use Rattle.import_rewriting.proofs.make.unless.Goals as goal
 

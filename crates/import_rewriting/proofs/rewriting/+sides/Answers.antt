@@ -1,9 +1,9 @@
 use Rattle.std.proofs.Common.{ap, sym, ◌∙◌, subst}
 use Rattle.std.proofs.lemmas.Result.{IfOk-weaker}
 use Rattle.assertions.specs.Written.{kernel}
-use Rattle.import_semantics.specs.declared.condition.Condition.TheVariants.{One}
-use Rattle.import_semantics.specs.Properties.{form_of, implied}
-use Rattle.import_semantics.specs.Shapes.{written_form}
+use Rattle.import_properties.specs.declared.condition.Condition.TheVariants.{One}
+use Rattle.import_properties.specs.Properties.{form_of, implied}
+use Rattle.import_properties.specs.Shapes.{written_form}
 use Rattle.import_rewriting.specs.Rewriting.{AreSides, AreSidesLater, SaysAfter, IsOpen}
 use Rattle.import_rewriting.proofs.SideLaws.{sides_joined, sides_next_of, sides_each_of}
 use Rattle.import_rewriting.proofs.rewriting.+sides.Goals as goal

@@ -2,8 +2,8 @@ use Rattle.std.proofs.Common.{ap, sym, ◌∙◌, subst}
 use Rattle.std.proofs.lemmas.Result.{IfOk-weaker}
 use Rattle.assertions.specs.Emptiness.{admits_empty}
 use Rattle.assertions.specs.Written.{boolean, lead}
-use Rattle.import_semantics.specs.declared.condition.Condition.TheVariants.{One}
-use Rattle.import_semantics.specs.Shapes.{written_form}
+use Rattle.import_properties.specs.declared.condition.Condition.TheVariants.{One}
+use Rattle.import_properties.specs.Shapes.{written_form}
 use Rattle.import_rewriting.specs.Rewriting.{EndsLater}
 use Rattle.import_rewriting.proofs.SideLaws.{starts_at_once, starts_later, starts_moved}
 use Rattle.import_rewriting.proofs.rewriting.ends_from_start.Goals as goal

@@ -2,8 +2,8 @@ use Rattle.std.proofs.Common.{ap, sym, ◌∙◌, subst}
 use Rattle.std.proofs.lemmas.Result.{IfOk-weaker}
 use Rattle.assertions.specs.Emptiness.{admits_empty}
 use Rattle.assertions.specs.Written.{boolean, delay}
-use Rattle.import_semantics.specs.declared.condition.Condition.TheVariants.{One}
-use Rattle.import_semantics.specs.Shapes.{written_form}
+use Rattle.import_properties.specs.declared.condition.Condition.TheVariants.{One}
+use Rattle.import_properties.specs.Shapes.{written_form}
 use Rattle.import_rewriting.specs.Rewriting.{EndsLater}
 use Rattle.import_rewriting.proofs.SideLaws.{ends_at_once, ends_delayed}
 use Rattle.import_rewriting.proofs.rewriting.ends_later.Goals as goal

@@ -1,6 +1,6 @@
 use Rattle.std.proofs.Common.{ap}
 use Rattle.std.proofs.lemmas.Result.{IfOk-weaker}
-use Rattle.import_semantics.specs.Shapes.{written_form}
+use Rattle.import_properties.specs.Shapes.{written_form}
 use Rattle.import_rewriting.proofs.SideLaws.{is_rewriting}
 use Rattle.import_rewriting.proofs.rewriting.rewritten.Goals as goal
 

@@ -1,4 +1,4 @@
-use Rattle.import_semantics.specs.Shapes.{written_form}
+use Rattle.import_properties.specs.Shapes.{written_form}
 use Rattle.import_rewriting.proofs.SideLaws.{sides_alone}
 use Rattle.import_rewriting.proofs.rewriting.sides_alone.Goals as goal
 

@@ -1,5 +1,5 @@
 use Rattle.std.proofs.Common.{ap, subst}
-use Rattle.import_semantics.specs.Shapes.{written_form}
+use Rattle.import_properties.specs.Shapes.{written_form}
 use Rattle.import_rewriting.specs.Rewriting.{EndsLater}
 use Rattle.import_rewriting.proofs.SideLaws.{sides_never, antecedent_from}
 use Rattle.import_rewriting.proofs.rewriting.sides_never.Goals as goal

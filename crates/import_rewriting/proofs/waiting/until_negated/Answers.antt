@@ -2,9 +2,9 @@ use Rattle.std.proofs.Common.{ap, sym, ◌∙◌, subst}
 use Rattle.std.proofs.lemmas.Result.{IfOk-weaker}
 use Rattle.assertions.specs.Segments as kernel
 use Rattle.assertions.specs.Written.{boolean}
-use Rattle.import_semantics.specs.Conditions.{negation}
-use Rattle.import_semantics.specs.Properties.{sequence, both}
-use Rattle.import_semantics.specs.Shapes.{written_form}
+use Rattle.import_properties.specs.Conditions.{negation}
+use Rattle.import_properties.specs.Properties.{sequence, both}
+use Rattle.import_properties.specs.Shapes.{written_form}
 use Rattle.import_rewriting.proofs.ConsequentLaws.{says_until_negated, says_at}
 use Rattle.import_rewriting.proofs.waiting.until_negated.Goals as goal
 

@@ -1,8 +1,8 @@
 use Rattle.std.proofs.Common.{ap, sym, ◌∙◌, subst}
 use Rattle.std.proofs.lemmas.Result.{IfOk-weaker}
 use Rattle.assertions.specs.Written.{boolean}
-use Rattle.import_semantics.specs.Properties.{both}
-use Rattle.import_semantics.specs.Shapes.{written_form}
+use Rattle.import_properties.specs.Properties.{both}
+use Rattle.import_properties.specs.Shapes.{written_form}
 use Rattle.import_rewriting.specs.Senses.{SaysUntilWith}
 use Rattle.import_rewriting.proofs.SaysLaws.{says_as}
 use Rattle.import_rewriting.proofs.waiting.until_with.Goals as goal

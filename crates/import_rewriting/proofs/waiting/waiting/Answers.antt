@@ -1,6 +1,6 @@
 use Rattle.std.proofs.Common.{ap, sym, ◌∙◌}
 use Rattle.std.proofs.lemmas.Result.{IfOk-weaker}
-use Rattle.import_semantics.specs.Shapes.{written_form}
+use Rattle.import_properties.specs.Shapes.{written_form}
 use Rattle.import_rewriting.specs.Sides.{can_match}
 use Rattle.import_rewriting.proofs.ConsequentLaws.{says_waiting}
 use Rattle.import_rewriting.proofs.waiting.waiting.Goals as goal

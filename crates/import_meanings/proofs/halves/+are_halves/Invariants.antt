@@ -1,4 +1,0 @@
-use Rattle.import_meanings.proofs.halves.+are_halves.Given as goal
-
-abbrev pub decreases-are_halves : goal.decreases-are_halves
-decreases-are_halves l = l.depth

@@ -1,5 +1,0 @@
-use Rattle.import_meanings.proofs.LengthLaws.{match-ends}
-use Rattle.import_meanings.proofs.laws.lengths_law.Goals as goal
-
-pub returns : goal.returns
-returns c = λ holds w i j o h. match-ends holds w i j o h

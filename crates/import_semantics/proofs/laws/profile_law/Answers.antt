@@ -1,5 +1,0 @@
-use Rattle.import_semantics.proofs.ProfileLaws.{not_empty-takes, profile-implied}
-use Rattle.import_semantics.proofs.laws.profile_law.Goals as goal
-
-pub returns : goal.returns
-returns c = λ leaves r s n o at some begun. profile-implied r s (not_empty-takes s some) leaves n o at begun

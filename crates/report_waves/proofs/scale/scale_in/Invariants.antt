@@ -1,7 +1,0 @@
-use Rattle.std.proofs.Common.{◌≡◌, drop}
-use Rattle.report_waves.specs.Scales.{scale_in}
-use Rattle.report_waves.proofs.scale.scale_in.Given as goal
-
--- what is left decides
-abbrev pub invariant-loop-at : goal.invariant-loop-at
-invariant-loop-at l = scale_in l.bytes ≡ scale_in (drop l.at l.bytes)
