@@ -4,7 +4,7 @@ use crate::files::{open, read_opened, read_text, text_of};
 use crate::words::slices_of;
 use axi4_rules::port_rules;
 use cli_faults::Fault;
-use source_files::{Added, Part, chosen, joined};
+use source_files::{Added, Choice, Part, chosen, joined};
 use std::alloc::{AllocError, Global};
 use std::fs::Files;
 
@@ -148,6 +148,18 @@ pub fn read_sources<R: Files + AllocGlobal>(
     })
 }
 
+/// The files of a text, with what is left of it.
+fn with_choice(sources: Sources, choice: Choice) -> Result<Sources, AllocError> {
+    let mut added = choice.added;
+    added.extend_from_slice(sources.added.as_slice())?;
+    Ok(Sources {
+        parts: sources.parts,
+        text: choice.text,
+        added,
+        ports: sources.ports,
+    })
+}
+
 /// The text with those assertions alone that one of some patterns means, where there are patterns.
 /// N1 where one means no assertion.
 pub fn chosen_sources(
@@ -164,14 +176,15 @@ pub fn chosen_sources(
             return Err(Fault::NoAssertion(pattern.clone()?));
         }
     }
-    let mut added = choice.added;
-    added.extend_from_slice(sources.added.as_slice())?;
-    Ok(Sources {
-        parts: sources.parts,
-        text: choice.text,
-        added,
-        ports: sources.ports,
-    })
+    Ok(with_choice(sources, choice)?)
+}
+
+/// The text with a label for each assertion that has none: what it is called in the whole text.
+fn labelled_sources(alloc: Global, sources: Sources) -> Result<Sources, AllocError> {
+    let mut all = Vec::new(alloc);
+    all.push(String::from_str(alloc, "*")?)?;
+    let choice = chosen(alloc, sources.text.as_str(), all.as_slice())?;
+    with_choice(sources, choice)
 }
 
 /// The text that is judged, as [`read_sources`] reads it, but with those assertions alone that one
@@ -184,6 +197,21 @@ pub fn read_chosen<R: Files + AllocGlobal>(
 ) -> Result<Sources, Fault<'static>> {
     let sources = read_sources(rt, sva, axi)?;
     chosen_sources(rt.alloc(), sources, only)
+}
+
+/// The same where what is refused is left out: each assertion keeps the name that it has in the
+/// whole text.
+pub fn read_labelled<R: Files + AllocGlobal>(
+    rt: &R,
+    sva: &[String],
+    axi: Option<&str>,
+    only: &[String],
+) -> Result<Sources, Fault<'static>> {
+    let sources = read_chosen(rt, sva, axi, only)?;
+    if only.is_empty() {
+        return Ok(labelled_sources(rt.alloc(), sources)?);
+    }
+    Ok(sources)
 }
 
 /// The paths of a text as one: those of its files, a comma between, or else that of its ports.

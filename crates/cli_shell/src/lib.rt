@@ -36,7 +36,9 @@ mod print;
 mod status;
 mod words;
 
-pub use assertions_text::{Sources, chosen_sources, read_chosen, read_sources, told_paths};
+pub use assertions_text::{
+    Sources, chosen_sources, read_chosen, read_labelled, read_sources, told_paths,
+};
 pub use clashes::clash_of;
 pub use files::{open, read_bytes, write_bytes};
 pub use forms::{FormFiles, print_report};

@@ -81,21 +81,24 @@ block_length ts =
     through closers ts + closing_name (drop (through closers ts) ts)
 
 -- what holds other items: they are part of it
-abbrev pub holders : List (List ℕ)
+unfoldable pub holders : List (List ℕ)
 holders =
     codes "if" ∷ codes "else" ∷ codes "for" ∷ codes "while" ∷ codes "case" ∷ codes "casex"
     ∷ codes "casez" ∷ codes "unique" ∷ codes "priority" ∷ codes "always" ∷ codes "always_comb"
     ∷ codes "always_ff" ∷ codes "always_latch" ∷ codes "initial" ∷ codes "final"
-    ∷ codes "generate" ∷ codes "begin" ∷ []
+    ∷ codes "generate" ∷ codes "begin" ∷ codes "class" ∷ codes "function" ∷ codes "task" ∷ []
 
 -- what opens a block, which may stand in another
-abbrev pub block_starts : List (List ℕ)
+unfoldable pub block_starts : List (List ℕ)
 block_starts =
-    codes "begin" ∷ codes "case" ∷ codes "casex" ∷ codes "casez" ∷ codes "generate" ∷ []
+    codes "begin" ∷ codes "case" ∷ codes "casex" ∷ codes "casez" ∷ codes "generate"
+    ∷ codes "class" ∷ codes "function" ∷ codes "task" ∷ []
 
 -- what closes one
-abbrev pub block_ends : List (List ℕ)
-block_ends = codes "end" ∷ codes "endcase" ∷ codes "endgenerate" ∷ []
+unfoldable pub block_ends : List (List ℕ)
+block_ends =
+    codes "end" ∷ codes "endcase" ∷ codes "endgenerate" ∷ codes "endclass"
+    ∷ codes "endfunction" ∷ codes "endtask" ∷ []
 
 -- how many blocks are open after a token
 abbrev pub open_after : ℕ → Token → ℕ
@@ -112,12 +115,16 @@ held_from k [] = 0
 held_from k (t ∷ ts) =
     if is_held_end (open_after k t) t then 1 else 1 + held_from (open_after k t) ts
 
+-- how many tokens the first item has, where no declaration begins it
+abbrev pub free_length : List Token → ℕ
+free_length [] = 0
+free_length (t ∷ ts) = if is_one holders t then held_from 0 (t ∷ ts) else through ends (t ∷ ts)
+
 -- how many tokens the first item has
 abbrev pub item_length : List Token → ℕ
 item_length [] = 0
 item_length (t ∷ ts) =
-    if is_one openers t then block_length (t ∷ ts)
-    else (if is_one holders t then held_from 0 (t ∷ ts) else through ends (t ∷ ts))
+    if is_one openers t then block_length (t ∷ ts) else free_length (t ∷ ts)
 
 -- the byte after a token, which is no more than the text has
 abbrev pub end_of : ℕ → Token → ℕ

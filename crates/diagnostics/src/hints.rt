@@ -13,7 +13,10 @@ pub const WORDS: [Hint; 30] = [
         "within",
         "for S of 3 clocks write (1[*0:2] ##1 R ##1 1[*0:2]) intersect S, of 4 1[*0:3], and so on",
     ),
-    ("first_match", "write it round a whole antecedent alone"),
+    (
+        "first_match",
+        "it stands round a whole antecedent alone; round a consequent leave it out",
+    ),
     (
         "strong",
         "leave it out: what the end of the dump leaves open is told as open",
@@ -66,16 +69,19 @@ pub const WORDS: [Hint; 30] = [
         "until_with",
         "write a[*1:60] ##0 b for a until_with b, or count in a counter",
     ),
-    ("implies", "write !a || b for a implies b, or a |-> b"),
+    ("implies", "write !a || b for a implies b of booleans"),
     (
         "iff",
-        "write !a == !b for a iff b; what gates a clock goes into the antecedent",
+        "write !a == !b for a iff b of booleans; a gated clock has to be a wire of the bench",
     ),
     (
         "accept_on",
         "write disable iff (C), in an assertion of its own",
     ),
-    ("reject_on", "write a |-> !C, in an assertion of its own"),
+    (
+        "reject_on",
+        "write A |-> (!C throughout S), which fails where C comes while S is awaited",
+    ),
     (
         "cover",
         "write assert property (.. S |-> 1): what holds is what was covered",
@@ -120,7 +126,7 @@ pub const SIGNS: [Hint; 22] = [
     ),
     (
         "$",
-        "write a bound, as ##[1:60] or [*0:60], or count in a counter",
+        "write a bound in its place, as ##[1:60] or [*1:60], or count in a counter",
     ),
     (
         "$countones",
@@ -142,7 +148,10 @@ pub const SIGNS: [Hint; 22] = [
         "$assertoff",
         "leave it out: disable iff says when a rule is off",
     ),
-    ("$isunknown", "leave it out: x and z are 0"),
+    (
+        "$isunknown",
+        "x and z are 0, so it is never true: leave out what asks it, and see note N2 of lint",
+    ),
     ("$rise", "write $rose(a)"),
     ("$fall", "write $fell(a)"),
     ("$change", "write $changed(a)"),
@@ -158,11 +167,11 @@ pub const SIGNS: [Hint; 22] = [
     ),
     (
         "|->",
-        "write one antecedent: A ##0 B |-> C for A |-> (B |-> C)",
+        "write one antecedent: A ##0 B |-> C for A |-> (B |-> C), A ##1 B |-> C for A |=> (..)",
     ),
     (
         "|=>",
-        "write one antecedent: A ##0 B |=> C for A |-> (B |=> C)",
+        "write one antecedent: A ##0 B |=> C for A |-> (B |=> C), A ##1 B |=> C for A |=> (..)",
     ),
 ];
 

@@ -6,7 +6,8 @@ ghost use Rattle.std.specs.Str.{bytes_eq};
 ghost use Rattle.diagnostics.specs.Items.{through, closing_name, block_length, item_length, end_of};
 ghost use Rattle.diagnostics.specs.Items.{item_end, is_over, AreEnds, AreItemEnds, item_at};
 ghost use Rattle.diagnostics.specs.Items.{is_start, is_labelled, begins, ends_after};
-ghost use Rattle.diagnostics.specs.Items.{open_after, is_held_end, held_from};
+ghost use Rattle.diagnostics.specs.Items.{open_after, is_held_end, held_from, is_one, holders};
+ghost use Rattle.diagnostics.specs.Items.{free_length, block_starts, block_ends};
 ghost use Rattle.lexer.specs.Cutting.{tokens_of};
 
 use crate::lexable::ends_beside;
@@ -40,7 +41,7 @@ const COLON: [&str; 1] = [":"];
 const JOINTS: [&str; 7] = [":", ".", "-", "(", "assert", "assume", "cover"];
 
 /// What holds other items: they are part of it.
-const HOLDERS: [&str; 17] = [
+const HOLDERS: [&str; 20] = [
     "if",
     "else",
     "for",
@@ -58,13 +59,25 @@ const HOLDERS: [&str; 17] = [
     "final",
     "generate",
     "begin",
+    "class",
+    "function",
+    "task",
 ];
 
 /// What opens a block, which may stand in another.
-const BLOCK_STARTS: [&str; 5] = ["begin", "case", "casex", "casez", "generate"];
+const BLOCK_STARTS: [&str; 8] = [
+    "begin", "case", "casex", "casez", "generate", "class", "function", "task",
+];
 
 /// What closes one.
-const BLOCK_ENDS: [&str; 3] = ["end", "endcase", "endgenerate"];
+const BLOCK_ENDS: [&str; 6] = [
+    "end",
+    "endcase",
+    "endgenerate",
+    "endclass",
+    "endfunction",
+    "endtask",
+];
 
 /// What ends what holds items, where it has no block.
 const SEMICOLON: [&str; 1] = [";"];
@@ -157,15 +170,31 @@ fn block_length(tokens: &[Token]) -> usize
     closed + closing_name(&tokens[closed..])
 }
 
+/// Whether a token opens a block.
+#[tactic(auto, unfolding(crate::specs::Items::block_starts))]
+fn opens_block(token: &Token) -> bool
+    ensures { result ≡ is_one block_starts token.now }
+{
+    is_among(&BLOCK_STARTS, token.text)
+}
+
+/// Whether a token closes one.
+#[tactic(auto, unfolding(crate::specs::Items::block_ends))]
+fn closes_block(token: &Token) -> bool
+    ensures { result ≡ is_one block_ends token.now }
+{
+    is_among(&BLOCK_ENDS, token.text)
+}
+
 /// How many blocks are open after a token.
 fn open_after(blocks: usize, token: &Token) -> usize
     requires { blocks < 2 ^ 63 }
     ensures { result ≡ open_after blocks token.now }
 {
-    if is_among(&BLOCK_STARTS, token.text) {
+    if opens_block(token) {
         return blocks + 1;
     }
-    if is_among(&BLOCK_ENDS, token.text) {
+    if closes_block(token) {
         return blocks.saturating_sub(1);
     }
     blocks
@@ -175,7 +204,7 @@ fn open_after(blocks: usize, token: &Token) -> usize
 fn is_held_end(blocks: usize, token: &Token) -> bool
     ensures { result ≡ is_held_end blocks token.now }
 {
-    blocks == 0 && (is_among(&SEMICOLON, token.text) || is_among(&BLOCK_ENDS, token.text))
+    blocks == 0 && (is_among(&SEMICOLON, token.text) || closes_block(token))
 }
 
 /// How many tokens an item has that holds others: up to `;`, or to where its blocks are closed.
@@ -194,6 +223,29 @@ fn held_length(tokens: &[Token]) -> usize
     tokens.len()
 }
 
+/// Whether an item that begins with a token holds others.
+#[tactic(auto, unfolding(crate::specs::Items::holders))]
+fn holds_items(token: &Token) -> bool
+    ensures { result ≡ is_one holders token.now }
+{
+    is_among(&HOLDERS, token.text)
+}
+
+/// How many tokens the first item has, where no declaration begins it.
+fn free_length(tokens: &[Token]) -> usize
+    ensures count { result ≡ free_length tokens.now }
+    ensures high { result ≤ length tokens.now }
+    ensures low { 0 < length tokens.now → 0 < result }
+{
+    let [first, ..] = tokens else {
+        return 0;
+    };
+    if holds_items(first) {
+        return held_length(tokens);
+    }
+    through(&ENDS, tokens)
+}
+
 /// How many tokens the first item has.
 fn item_length(tokens: &[Token]) -> usize
     ensures count { result ≡ item_length tokens.now }
@@ -206,10 +258,7 @@ fn item_length(tokens: &[Token]) -> usize
     if is_among(&OPENERS, first.text) {
         return block_length(tokens);
     }
-    if is_among(&HOLDERS, first.text) {
-        return held_length(tokens);
-    }
-    through(&ENDS, tokens)
+    free_length(tokens)
 }
 
 /// The byte after a token, which is no more than the text has.

@@ -14,7 +14,7 @@ pub const MARKS: [Mark; 49] = [
     (
         "==?",
         2,
-        "write == on the bits that count, as a[3:2] == 2'b10",
+        "write == on the bits that count, without ? and x, as a[3:2] == 2'b10",
     ),
     (
         "!=?",
@@ -28,15 +28,23 @@ pub const MARKS: [Mark; 49] = [
     ("##[", 3, "a bound is a number, not a name"),
     ("#-#", 0, "write ##0 for #-#, as in A ##0 S"),
     ("#=#", 0, "write ##1 for #=#, as in A ##1 S"),
-    ("][->", 1, "write !a[*0:20] ##1 a for a[->1]"),
+    (
+        "][->",
+        1,
+        "write !a[*0:20] ##1 a for a[->1], and so on once more for each further a",
+    ),
     ("][=", 1, "write !a[*0:20] ##1 a ##1 !a[*0:20] for a[=1]"),
     ("][+", 1, "write [*1:20]"),
-    ("[->", 1, "write !a[*0:20] ##1 a for a[->1]"),
+    (
+        "[->",
+        1,
+        "write !a[*0:20] ##1 a for a[->1], and so on once more for each further a",
+    ),
     ("[=", 1, "write !a[*0:20] ##1 a ##1 !a[*0:20] for a[=1]"),
     ("[*]", 2, "write [*0:20]"),
     ("[+]", 1, "write [*1:20]"),
     ("[*", 2, "a bound is a number, not a name"),
-    ("[", 1, "write ((v >> i) & 1) == 1 for v[i]"),
+    ("[", 1, "write ((v >> i) & 1) == 1 for v[i] of a [n:0]"),
     ("+:", 0, "write both bounds, as v[3:0] for v[0 +: 4]"),
     ("-:", 0, "write both bounds, as v[7:4] for v[7 -: 4]"),
     (
@@ -85,7 +93,7 @@ pub const MARKS: [Mark; 49] = [
     (
         ",",
         0,
-        "write $past(v, n) for what was sampled before, or keep it in a counter",
+        "$past alone takes a second value, a number of clocks; each assertion ends with ;",
     ),
     (
         "\u{feff}",

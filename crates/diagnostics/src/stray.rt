@@ -1,6 +1,7 @@
 //! Words that close nothing.
 
-ghost use Rattle.std.specs.Prelude.{◌≡◌};
+ghost use Rattle.std.specs.Prelude.{◌≡◌, map};
+ghost use Rattle.std.specs.List.{list_any};
 ghost use Rattle.diagnostics.specs.Strays.{is_name_byte, is_word_before, closes_nothing};
 ghost use Rattle.diagnostics.specs.Linted.{item_of};
 
@@ -27,13 +28,41 @@ fn is_word_before(text: &str, at: usize, word: &str) -> bool
     !is_name_byte(before.copied().unwrap_or(0))
 }
 
+/// What closes no item of the profile.
+const CLOSING_WORDS: [&str; 13] = [
+    "end",
+    "endcase",
+    "endchecker",
+    "endclass",
+    "endclocking",
+    "endfunction",
+    "endgenerate",
+    "endinterface",
+    "endmodule",
+    "endpackage",
+    "endprogram",
+    "endtask",
+    "join",
+];
+
+/// Whether one of some words stands before a byte.
+fn is_one_before(text: &str, at: usize, words: &[&str]) -> bool
+    ensures { result ≡ list_any (is_word_before text.now at) (map (λ word. word.now) words.now) }
+{
+    for word in words {
+        if is_word_before(text, at, word) {
+            return true;
+        }
+    }
+    false
+}
+
 /// Whether what stands before a byte closes what no item opens.
+#[tactic(auto, unfolding(crate::specs::Strays::closing_words))]
 pub(crate) fn closes_nothing(text: &str, at: usize) -> bool
     ensures { result ≡ closes_nothing text.now at }
 {
-    is_word_before(text, at, "endclocking")
-        || is_word_before(text, at, "endmodule")
-        || is_word_before(text, at, "end")
+    is_one_before(text, at, &CLOSING_WORDS)
 }
 
 /// The item that is refused by a fault at a byte: the one that holds it; but the one before that,

@@ -12,7 +12,9 @@ use crate::item_words::head_hint;
 use crate::meant::Meant;
 use crate::paths::{is_listed, path_at, push_others, told_path};
 use crate::selects::told_select;
-use crate::token_hints::{bound_code, mark_hint, not_hint, number_code, path_hint, token_hint};
+use crate::token_hints::{
+    bound_code, branch_hint, mark_hint, not_hint, number_code, path_hint, token_hint,
+};
 use crate::weights::told_weight;
 use compiler::CompileFault;
 use diagnostics::{CODES, MARKS, Refusal, SIGNS, WORDS, hint_at, hint_beside};
@@ -107,6 +109,9 @@ fn hint_of_word(text: &str, at: usize, word: &str) -> Option<&'static str> {
         return Some(hint);
     }
     if let Some(hint) = not_hint(text, at) {
+        return Some(hint);
+    }
+    if let Some(hint) = branch_hint(text, at, word) {
         return Some(hint);
     }
     match hint_beside(word, &WORDS) {

@@ -270,6 +270,23 @@ pub(crate) fn not_hint(text: &str, at: usize) -> Option<&'static str> {
     None
 }
 
+/// What to write for `if`, `else` or `default` at a byte where what stands beside it says what was
+/// meant.
+pub(crate) fn branch_hint(text: &str, at: usize, word: &str) -> Option<&'static str> {
+    let front = text.get(..at).unwrap_or("").trim_end();
+    let rest = text.get(at.saturating_add(word.len())..).unwrap_or("");
+    if word == "if" && front.ends_with("disable") {
+        return Some("write iff, as in disable iff (!rst_n)");
+    }
+    if word == "else" && (front.ends_with(';') || front.ends_with("end")) {
+        return Some("write its condition into each antecedent: !C && A |-> B");
+    }
+    if word == "default" && rest.trim_start().starts_with(':') {
+        return Some("write an assertion for each case");
+    }
+    None
+}
+
 /// Whether a word at a byte stands in a path.
 fn is_in_path(text: &str, at: usize, word: &str) -> bool {
     let front = text.get(..at).unwrap_or("");

@@ -3,13 +3,13 @@
 ghost use Rattle.vcd_reader.specs.Dump.{Contents};
 ghost use Rattle.vcd_reader.specs.Held.{HoldsContents};
 
-use crate::refused::{paths_with, refused_of};
+use crate::refused::{is_told_unjudged, paths_with, refused_of};
 use crate::team::{TeamFront, read_team, status_with};
 use cli::{Fault, NoGate, PagedReport, Paths, check_all, page_over, report_over};
 use cli_lint::{Rest, rest_over};
 use cli_shell::{
     FormFiles, Provenance, Refused, Sources, chosen_sources, moved_fault, open, print_report,
-    read_chosen, shown_lines, shown_status, told_paths, write_bytes,
+    read_chosen, read_labelled, shown_status, told_paths, write_bytes,
 };
 use cli_words::TeamFiles;
 use cycle_window::WindowSize;
@@ -254,8 +254,8 @@ fn serve_going<R: Files + Print + Eprint + AllocGlobal + Threads + Wait + Sync>(
     };
     match rest_over(rt.alloc(), &dump, sources.text.as_str(), &origin) {
         Ok(rest) => {
-            if rest.refused > 0 {
-                shown_lines(rt, rest.told.as_str());
+            if is_told_unjudged(rt, sources.text.as_str(), &rest) {
+                return 2;
             }
             serve_rest(rt, dump, &rest, &origin, asked)
         }
@@ -338,7 +338,12 @@ pub fn serve_check<R: Files + Print + Eprint + AllocGlobal + Threads + Wait + Sy
     if !asked.team_files.files.is_empty() {
         return serve_team(rt, dump, asked);
     }
-    match read_chosen(rt, asked.sva, asked.axi, asked.only) {
+    let read = if asked.keep_going {
+        read_labelled(rt, asked.sva, asked.axi, asked.only)
+    } else {
+        read_chosen(rt, asked.sva, asked.axi, asked.only)
+    };
+    match read {
         Ok(sources) => serve_sources(rt, dump, &sources, asked),
         Err(fault) => shown_status(rt, Err(fault)),
     }

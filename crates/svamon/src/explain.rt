@@ -6,9 +6,12 @@ ghost use Rattle.vcd_reader.specs.Held.{HoldsContents};
 
 use crate::check::{shown, shown_after_refusals};
 use crate::dump_front::read_front;
+use crate::refused::is_told_unjudged;
 use cli::{Fault, NoGate, ShownFailures, Wanted, Waveform, Waves, explain_one, failures_over};
 use cli_lint::{Rest, rest_over};
-use cli_shell::{Sources, open, print_bytes, read_chosen, shown_lines, shown_status, write_bytes};
+use cli_shell::{
+    Sources, open, print_bytes, read_chosen, read_labelled, shown_lines, shown_status, write_bytes,
+};
 use signals::Counted;
 use source_files::Origin;
 use std::alloc::{AllocError, Global};
@@ -245,8 +248,8 @@ fn explain_going<R: Files + Print + Eprint + AllocGlobal + Threads + Wait + Sync
     let origin = origin_of(sources);
     match rest_over(rt.alloc(), &dump.dump, sources.text.as_str(), &origin) {
         Ok(rest) => {
-            if rest.refused > 0 {
-                shown_lines(rt, rest.told.as_str());
+            if is_told_unjudged(rt, sources.text.as_str(), &rest) {
+                return 2;
             }
             explain_rest(rt, dump, &rest, &origin, asked)
         }
@@ -281,7 +284,12 @@ pub(crate) fn serve_explain<R: Files + Print + Eprint + AllocGlobal + Threads + 
         Ok(dump) => dump,
         Err(fault) => return shown_status(rt, Err(fault)),
     };
-    match read_chosen(rt, sva, axi, asked.only) {
+    let read = if asked.keep_going {
+        read_labelled(rt, sva, axi, asked.only)
+    } else {
+        read_chosen(rt, sva, axi, asked.only)
+    };
+    match read {
         Ok(sources) => explain_sources(rt, dump, &sources, asked),
         Err(fault) => shown_status(rt, Err(fault)),
     }

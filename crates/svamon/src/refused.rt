@@ -1,8 +1,9 @@
 //! What is refused of a text, item by item, for reports in other forms.
 
-use cli_lint::Rest;
-use cli_shell::Refused;
+use cli_lint::{Rest, unjudged};
+use cli_shell::{Refused, shown_lines};
 use std::alloc::{AllocError, Global};
+use std::io::Eprint;
 
 /// How many lines tell of each: where it stands and why, that line of the text, and a caret.
 const LINES: usize = 3;
@@ -27,6 +28,25 @@ pub(crate) fn refused_of(alloc: Global, rest: &Rest) -> Result<Vec<Refused<'_>>,
         }
     }
     Ok(refused)
+}
+
+/// Tells what is refused of a text, and whether the rest is not to be judged, and why.
+pub(crate) fn is_told_unjudged<R: Eprint>(rt: &R, whole: &str, rest: &Rest) -> bool {
+    if rest.refused == 0 {
+        return false;
+    }
+    shown_lines(rt, rest.told.as_str());
+    let Some(left) = &rest.text else {
+        return false;
+    };
+    match unjudged(whole, left.as_str()) {
+        None => false,
+        Some(why) => {
+            shown_lines(rt, why.text());
+            shown_lines(rt, "\n");
+            true
+        }
+    }
 }
 
 /// The paths of a text, and what is refused of it, if something is.
