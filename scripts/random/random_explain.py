@@ -196,6 +196,16 @@ def check_booleans(rows, edges, clocks, booleans, trace):
     return told, ''
 
 
+def shown_clocks(whole, booleans, trace):
+    """The clocks that a table shows of these: all of 16; of more those at both ends, and of those between the first
+    eight at which a boolean changes."""
+    if len(whole) <= 16:
+        return whole
+    truth = lambda tree, clock: values.value(tree, clock, values.width(tree), trace) != 0
+    changes = [clock for clock in whole[8:-8] if any(truth(it, clock) != truth(it, clock - 1) for it in booleans)]
+    return whole[:8] + changes[:8] + whole[-8:]
+
+
 def check_told(block, made, count, failure, text, trace, counters):
     """What is wrong with the explanation of a failed attempt, or nothing."""
     clock, start = failure
@@ -214,7 +224,7 @@ def check_told(block, made, count, failure, text, trace, counters):
     edges = [it.end() for it in numbers]
     clocks = [None if it[0] == '..' else int(it[0]) for it in numbers]
     whole = list(range(max(0, start - made.reach()), clock + 1))
-    if [it for it in clocks if it is not None] != (whole if len(whole) <= 16 else whole[:8] + whole[-8:]):
+    if [it for it in clocks if it is not None] != shown_clocks(whole, made.booleans, trace):
         return 'other clocks: ' + block[1]
     if cells(block[2], edges) != ['..' if it is None else '%d' % time(it) for it in clocks]:
         return 'other times: ' + block[2]

@@ -44,6 +44,17 @@ fn is_listed_true(read: &Read<'_>, listed: usize, clock: usize) -> bool
     }
 }
 
+/// Whether a boolean of the assertion has another value at a clock than at the one before.
+pub(crate) fn has_change(read: &Read<'_>, clock: usize) -> bool {
+    for listed in 0..read.assertion.booleans.len() {
+        let now = is_listed_true(read, listed, clock);
+        if now != is_listed_true(read, listed, clock.saturating_sub(1)) {
+            return true;
+        }
+    }
+    false
+}
+
 /// The value of a row at a clock.
 fn value_of_row(read: &Read<'_>, source: RowSource, clock: usize) -> u128
     ensures { result ≡ value_of_row read.now.suite.now read.now.assertion.now read.now.rows.now

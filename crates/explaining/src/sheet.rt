@@ -7,7 +7,7 @@ ghost use Rattle.explaining.specs.Shown.{listed_below};
 ghost use Rattle.explaining.specs.Shown.{IsSheet};
 
 use crate::asked::{Asked, Attempt};
-use crate::cells::{Read, RowSource, cells_of};
+use crate::cells::{Read, RowSource, cells_of, has_change};
 use crate::expression_text::{Names, expression_text};
 use crate::reach::reach;
 use assertions::{marked_places, marks_of, names_read};
@@ -39,14 +39,27 @@ pub struct Sheet {
 /// How many clocks are shown at each end of a run that is cut.
 const SIDE: usize = 8;
 
-/// The clocks from so many before the attempt's first up to its last; of a long run those at both
-/// ends.
-fn clocks_of(alloc: Global, attempt: Attempt, before: usize) -> Result<Vec<usize>, AllocError> {
+/// How many of the clocks between are shown, at most.
+const BETWEEN: usize = 8;
+
+/// The clocks from so many before the attempt's first up to its last. Of a long run those at both
+/// ends, and between them the first at which a boolean of the assertion changes.
+fn clocks_of(
+    alloc: Global,
+    read: &Read<'_>,
+    attempt: Attempt,
+    before: usize,
+) -> Result<Vec<usize>, AllocError> {
     let first = attempt.start.saturating_sub(before);
     let mut clocks = Vec::new(alloc);
+    let mut between = 0usize;
     for clock in first..attempt.end {
-        if clock - first < SIDE || attempt.end - clock <= SIDE {
+        let is_side = clock - first < SIDE || attempt.end - clock <= SIDE;
+        if is_side {
             clocks.push(clock)?;
+        } else if between < BETWEEN && has_change(read, clock) {
+            clocks.push(clock)?;
+            between += 1;
         }
     }
     Ok(clocks)
@@ -229,7 +242,7 @@ pub fn sheet_of(
     ensures { IfOk result
         (IsSheet read.now.suite.now read.now.assertion.now read.now.rows.now) }
 {
-    let clocks = clocks_of(alloc, attempt, reach(read))?;
+    let clocks = clocks_of(alloc, read, attempt, reach(read))?;
     let sources = sources_of(alloc, read)?;
     let asked = Asked::of(alloc, read.assertion, attempt)?;
     let names = Names {

@@ -78,6 +78,18 @@ fn range_cause(
     }
 }
 
+/// Why selects of a vector of which the file says no range in numbers can't be read, if they
+/// can't: the dump tells none.
+fn unranged_cause(known: Option<DumpSignal<'_>>) -> Option<(&'static str, &'static str)> {
+    match known {
+        Some(known) if known.range.is_none() && known.width > 1 => Some((
+            "Range",
+            "its range isn't known in numbers, and the dump tells none: give its bits wires",
+        )),
+        _ => None,
+    }
+}
+
 /// Why a signal can't be read as the file declares it, if it can't: a code and what may be done.
 fn cause_of(
     alloc: Global,
@@ -103,6 +115,10 @@ fn cause_of(
         Shape::Vector(own, range) if !variable.depends => {
             let known = signal_in(alloc, parts, reading, variable)?;
             Ok(range_cause(own, range, known))
+        }
+        Shape::Unranged(_) => {
+            let known = signal_in(alloc, parts, reading, variable)?;
+            Ok(unranged_cause(known))
         }
         _ => Ok(None),
     }

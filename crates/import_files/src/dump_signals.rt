@@ -19,6 +19,9 @@ pub struct Signals {
     pub bits: Vec<Bits>,
 }
 
+/// Stands for a range with a number below 0: no select has one of its bits.
+const BELOW_ZERO: (u32, u32) = (u32::MAX, u32::MAX);
+
 /// A number in decimal digits.
 fn number_of(text: &[u8]) -> Option<u32> {
     match str::from_utf8(text) {
@@ -32,8 +35,8 @@ fn colon_in(text: &[u8]) -> Option<usize> {
     text.iter().position(|byte| *byte == b':')
 }
 
-/// The two numbers of a range, as `[7:0]`.
-fn range_of(text: &[u8]) -> Option<(u32, u32)> {
+/// The two numbers of a range, as `[7:0]`, if they are known.
+fn numbers_of(text: &[u8]) -> Option<(u32, u32)> {
     let [b'[', inside @ .., b']'] = text else {
         return None;
     };
@@ -41,6 +44,15 @@ fn range_of(text: &[u8]) -> Option<(u32, u32)> {
     let left = number_of(inside.get(..mark)?)?;
     let right = number_of(inside.get(mark.saturating_add(1)..)?)?;
     Some((left, right))
+}
+
+/// The range that a dump tells, if it tells one.
+fn range_of(text: &[u8]) -> Option<(u32, u32)> {
+    match numbers_of(text) {
+        Some(range) => Some(range),
+        None if colon_in(text).is_some() => Some(BELOW_ZERO),
+        None => None,
+    }
 }
 
 /// Whether no rule can name a variable of a kind (IEEE 1364-2005, 18.2.3.7).
