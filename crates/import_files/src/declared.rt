@@ -78,6 +78,31 @@ fn range_cause(
     }
 }
 
+/// Why selects of a vector whose range is by a parameter or a type can't be read, if they can't:
+/// an instance may have other numbers, and has the same end at the left.
+fn direction_cause(
+    range: (u32, u32),
+    known: Option<DumpSignal<'_>>,
+) -> Option<(&'static str, &'static str)> {
+    let told = match known {
+        Some(known) if known.width == 1 => return None,
+        Some(known) => known.range,
+        None => None,
+    };
+    match told {
+        Some(found) if (found.0 < found.1) == (range.0 < range.1) => None,
+        Some(_) => Some((
+            "Range",
+            "the file declares it with its lowest bit at the other end: give its bits wires",
+        )),
+        None if range.1 == 0 => None,
+        None => Some((
+            "Range",
+            "its bits aren't counted from 0, and no dump tells its range: give its bits wires",
+        )),
+    }
+}
+
 /// Why selects of a vector of which the file says no range in numbers can't be read, if they
 /// can't: the dump tells none.
 fn unranged_cause(known: Option<DumpSignal<'_>>) -> Option<(&'static str, &'static str)> {
@@ -115,6 +140,10 @@ fn cause_of(
         Shape::Vector(own, range) if !variable.depends => {
             let known = signal_in(alloc, parts, reading, variable)?;
             Ok(range_cause(own, range, known))
+        }
+        Shape::Vector(_, range) => {
+            let known = signal_in(alloc, parts, reading, variable)?;
+            Ok(direction_cause(range, known))
         }
         Shape::Unranged(_) => {
             let known = signal_in(alloc, parts, reading, variable)?;

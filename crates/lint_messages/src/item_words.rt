@@ -68,7 +68,7 @@ const HEADS: [Hint; 44] = [
     ("input", BENCH),
     ("output", BENCH),
     ("expect", "write assert property (@(posedge clk) ..)"),
-    ("endtask", "leave it out: it closes nothing here"),
+    ("endtask", "leave out the word before: it closes nothing here"),
 ];
 
 /// What stands for a file's own frame.
@@ -76,7 +76,7 @@ const ITEMS_STAND_ALONE: &str =
     "leave it out: rules stand alone, and name signals by their paths in the dump";
 
 /// What stands for words that close what no item opens.
-const CLOSES_NOTHING: &str = "leave it out: it closes nothing here";
+const CLOSES_NOTHING: &str = "leave out the word before: it closes nothing here";
 
 /// What stands for declarations of signals.
 const BENCH: &str = "declare it in the bench, and name it by its path in the dump";

@@ -300,7 +300,8 @@ fn serve_sources<R: Files + Print + Eprint + AllocGlobal + Threads + Wait + Sync
     }
 }
 
-/// Judges what is written of a team's files over a dump: status 2 where an assertion is refused.
+/// Judges what is written of a team's files over a dump: status 2 where an assertion is refused,
+/// here or where it is compiled.
 fn serve_team<R: Files + Print + Eprint + AllocGlobal + Threads + Wait + Sync, D: Read + Drop>(
     rt: &R,
     mut dump: D,
@@ -323,7 +324,11 @@ fn serve_team<R: Files + Print + Eprint + AllocGlobal + Threads + Wait + Sync, D
         Err(fault) => return shown_status(rt, Err(fault)),
     };
     let dump = Cursor::new(head).chain(dump);
-    status_with(is_whole, serve_sources(rt, dump, &sources, asked))
+    let asked = Asked {
+        keep_going: true,
+        ..*asked
+    };
+    status_with(is_whole, serve_sources(rt, dump, &sources, &asked))
 }
 
 /// Opens the dump, then reads the text or a team's files, and judges it.

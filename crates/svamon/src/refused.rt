@@ -30,19 +30,30 @@ pub(crate) fn refused_of(alloc: Global, rest: &Rest) -> Result<Vec<Refused<'_>>,
     Ok(refused)
 }
 
+/// Stands where what is refused can't be cut out of a text.
+const UNCUT: &str = "nothing is judged: what is refused can't be cut out; mend it first";
+
+/// Why what is left of a text isn't judged, if it isn't.
+fn why_unjudged(whole: &str, rest: &Rest) -> Option<&'static str> {
+    let Some(left) = &rest.text else {
+        return Some(UNCUT);
+    };
+    match unjudged(whole, left.as_str()) {
+        None => None,
+        Some(why) => Some(why.text()),
+    }
+}
+
 /// Tells what is refused of a text, and whether the rest is not to be judged, and why.
 pub(crate) fn is_told_unjudged<R: Eprint>(rt: &R, whole: &str, rest: &Rest) -> bool {
     if rest.refused == 0 {
         return false;
     }
     shown_lines(rt, rest.told.as_str());
-    let Some(left) = &rest.text else {
-        return false;
-    };
-    match unjudged(whole, left.as_str()) {
+    match why_unjudged(whole, rest) {
         None => false,
         Some(why) => {
-            shown_lines(rt, why.text());
+            shown_lines(rt, why);
             shown_lines(rt, "\n");
             true
         }

@@ -37,7 +37,11 @@ pub(crate) fn serve_team_explain<R: Files + Print + Eprint + AllocGlobal + Threa
         Err(fault) => return shown_status(rt, Err(fault)),
     };
     let dump = Cursor::new(head).chain(dump);
-    status_with(is_whole, explain_sources(rt, dump, &sources, asked))
+    let asked = ExplainAsked {
+        keep_going: true,
+        ..*asked
+    };
+    status_with(is_whole, explain_sources(rt, dump, &sources, &asked))
 }
 
 /// Tells all refusals of what is written of a team's files, and notes, by their places there:
