@@ -93,7 +93,7 @@ pub const MARKS: [Mark; 49] = [
     (
         ",",
         0,
-        "$past alone takes a second value, a number of clocks; each assertion ends with ;",
+        "$past alone takes a second value, a number of clocks; what is gated is kept in a counter",
     ),
     (
         "\u{feff}",
