@@ -1,26 +1,27 @@
 //! Whether what is written is vacuous where the property is (IEEE 1800-2017, 16.14.8).
 
-use import_elaboration::{Part, PartId, PartNode};
+use import_elaboration::{Count, Part, PartId, PartNode};
 use import_properties::{Condition, Property, Sequence};
 use import_rewriting::Rewriting;
 use std::alloc::{AllocError, Global};
 
-/// Whether no part of a property is vacuous where it holds.
-fn is_plain(property: &Property) -> bool {
+/// Whether no part of a property is vacuous where the whole holds. `holds` where a part has to hold
+/// for that: `#-#` and `#=#` are vacuous where their sequence has no end, and then they fail.
+fn is_plain(property: &Property, holds: bool) -> bool {
     match property {
         Property::Sequence(_) => true,
-        Property::Not(body)
-        | Property::Next(_, body)
-        | Property::Always(_, _, body)
-        | Property::Eventually(_, _, body)
-        | Property::FollowedBy(_, body)
-        | Property::NextFollowedBy(_, body) => is_plain(body),
+        Property::Not(body) => is_plain(body, false),
+        Property::Next(_, body) | Property::Always(_, _, body) | Property::Eventually(_, _, body) =>
+            is_plain(body, holds),
+        Property::FollowedBy(_, body) | Property::NextFollowedBy(_, body) => {
+            holds && is_plain(body, holds)
+        }
+        Property::Iff(first, second) => is_plain(first, false) && is_plain(second, false),
         Property::And(first, second)
         | Property::Or(first, second)
-        | Property::Iff(first, second)
         | Property::IfElse(_, first, second)
         | Property::Until(first, second)
-        | Property::UntilWith(first, second) => is_plain(first) && is_plain(second),
+        | Property::UntilWith(first, second) => is_plain(first, holds) && is_plain(second, holds),
         Property::Implication(_, _)
         | Property::NextImplication(_, _)
         | Property::If(_, _)
@@ -40,7 +41,7 @@ fn is_fronted(property: &Property) -> bool {
         | Property::NextImplication(_, body)
         | Property::If(_, body) => is_fronted(body),
         Property::Next(_, body) | Property::Always(_, _, body) if implies(body) => is_fronted(body),
-        _ => is_plain(property),
+        _ => is_plain(property, true),
     }
 }
 
@@ -75,13 +76,25 @@ fn is_known(booleans: &[bool], id: PartId) -> bool {
     }
 }
 
+/// Whether a count is one number, and that one.
+fn is_exactly(count: Count, number: u32) -> bool {
+    count.least == number && count.most == Some(number)
+}
+
 /// Whether a part is a boolean, or booleans that are joined to one.
 fn is_boolean(booleans: &[bool], part: Part) -> bool {
     match part {
         Part::Boolean(_) => true,
-        Part::Not(body) | Part::Strength(body) => is_known(booleans, body),
+        Part::Not(body) | Part::Strength(body) | Part::FirstMatch(body) | Part::Assigned(body, _) =>
+            is_known(booleans, body),
+        Part::Repeat(body, count) => is_exactly(count, 1) && is_known(booleans, body),
+        Part::Lead(count, body) => is_exactly(count, 0) && is_known(booleans, body),
+        Part::Delay(first, count, second) => {
+            is_exactly(count, 0) && is_known(booleans, first) && is_known(booleans, second)
+        }
         Part::And(first, second)
         | Part::Or(first, second)
+        | Part::Intersect(first, second)
         | Part::Implies(first, second)
         | Part::Iff(first, second) => is_known(booleans, first) && is_known(booleans, second),
         _ => false,

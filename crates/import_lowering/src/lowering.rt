@@ -27,6 +27,8 @@ pub(crate) struct Lowering {
     bound: Option<u8>,
     /// Whether the bound was used.
     pub(crate) bounded: bool,
+    /// Whether what is read is worked out at another tick, too, as under `$past`.
+    pub(crate) is_past: bool,
     /// The tick at which the next part begins.
     pub(crate) now: Now,
     /// How many ticks were counted from.
@@ -49,6 +51,7 @@ impl Lowering {
             alloc,
             bound,
             bounded: false,
+            is_past: false,
             now: Now {
                 origin: 0,
                 tick: 0,
@@ -191,13 +194,17 @@ impl Lowering {
         None
     }
 
-    /// What a local variable holds now: what it was given, so many ticks ago.
+    /// What a local variable holds now: what it was given, so many ticks ago. What it held at
+    /// another tick, no text says (IEEE 1800-2017, 16.5.1, 16.10).
     pub(crate) fn local_value(
         &mut self,
         parts: &mut Parts<'_>,
         local: usize,
         at: usize,
     ) -> Result<ValueId, NotLowered> {
+        if self.is_past {
+            return Err(hinted(Reason::LocalVar, at, Hint::NoPast));
+        }
         match self.binding_of(local) {
             Some(binding) if binding.origin == self.now.origin => {
                 let age = self.now.tick.saturating_sub(binding.tick);

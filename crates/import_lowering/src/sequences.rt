@@ -265,9 +265,12 @@ impl Lowering {
             return Err(refused(Reason::TooHeavy, at));
         }
         let before = self.now;
+        let is_past = self.is_past;
         self.now = self.elsewhere(None);
+        self.is_past = false;
         let sequence = self.sequence(parts, part, false, depth - 1)?;
         self.now = before;
+        self.is_past = is_past;
         let ways = ways_of(self.alloc, &sequence)?;
         self.ended(parts, &ways, at)
     }

@@ -77,7 +77,10 @@ impl Lowering {
         }
         match value {
             Value::System(name, list) => {
+                let before = self.is_past;
+                self.is_past = before || reads_past(name);
                 let inside = self.members(parts, list, depth - 1)?;
+                self.is_past = before;
                 self.anew(parts, id, inside != list, Value::System(name, inside))
             }
             Value::Concatenation(list) => {
@@ -213,6 +216,19 @@ impl Lowering {
         }
         Ok(found)
     }
+}
+
+/// The system functions that read what is given to them at another tick (16.9.3).
+const READ_PAST: [&[u8]; 5] = [b"$past", b"$stable", b"$changed", b"$rose", b"$fell"];
+
+/// Whether a system function is one of these.
+fn reads_past(name: &[u8]) -> bool {
+    for known in READ_PAST {
+        if name == known {
+            return true;
+        }
+    }
+    false
 }
 
 /// The byte of a value.

@@ -332,7 +332,10 @@ pub(crate) fn past_left_out(tokens: &[Token], word: usize) -> usize {
     for open in word..word.saturating_add(4) {
         if is_symbol(tokens, open, Symbol::OpenRound) {
             return match assertion_brackets(tokens, open) {
-                Brackets::Closed(_) => past_statement(tokens, word),
+                Brackets::Closed(end) => match past_bare_macros(tokens, end) {
+                    Some(after) => after,
+                    None => past_statement(tokens, word),
+                },
                 Brackets::Open(next) => next,
             };
         }
@@ -359,6 +362,44 @@ fn begins_no_statement(kind: Kind) -> bool {
     }
 }
 
+/// The place after the use of a macro that stays as it is and what is given to it, if one stands
+/// there.
+fn past_macro(tokens: &[Token], start: usize) -> Option<usize> {
+    let open = start.saturating_add(1);
+    match kind_at(tokens, start) {
+        Kind::Macro(_) if !is_symbol(tokens, open, Symbol::OpenRound) => Some(open),
+        Kind::Macro(_) => match assertion_brackets(tokens, open) {
+            Brackets::Closed(end) => Some(end),
+            Brackets::Open(_) => None,
+        },
+        _ => None,
+    }
+}
+
+/// Whether what stands there begins another item, or ends the block round an assertion.
+fn ends_action(tokens: &[Token], index: usize) -> bool {
+    let ends = matches!(
+        kind_at(tokens, index),
+        Kind::Keyword(Keyword::End | Keyword::EndGenerate | Keyword::Always | Keyword::Default)
+    );
+    ends || begins_item(tokens, index)
+}
+
+/// The place after an action block whose statements are uses of macros alone, which stay as they
+/// are, and whose semicolon is theirs: another item follows.
+fn past_bare_macros(tokens: &[Token], start: usize) -> Option<usize> {
+    let first = past_macro(tokens, start).unwrap_or(start);
+    let end = if is_keyword(tokens, first, Keyword::Else) {
+        past_macro(tokens, first.saturating_add(1))?
+    } else {
+        first
+    };
+    if end > start && ends_action(tokens, end) {
+        return Some(end);
+    }
+    None
+}
+
 /// The place after the action block of an assertion (16.14.1); none where its semicolon is missing.
 pub(crate) fn past_action(tokens: &[Token], start: usize) -> Option<usize> {
     if is_symbol(tokens, start, Symbol::Semicolon) {
@@ -366,6 +407,9 @@ pub(crate) fn past_action(tokens: &[Token], start: usize) -> Option<usize> {
     }
     if begins_item(tokens, start) || begins_no_statement(kind_at(tokens, start)) {
         return None;
+    }
+    if let Some(end) = past_bare_macros(tokens, start) {
+        return Some(end);
     }
     if is_keyword(tokens, start, Keyword::Else) {
         return Some(past_statement(tokens, start.saturating_add(1)));

@@ -261,6 +261,12 @@ impl<'p, 't> Terms<'p, 't> {
                 let value = self.keep_number(width, value)?;
                 self.keep_infix(operator, bits, value)?
             }
+            Asked::Known(operator, width, value, known) => {
+                let known = self.keep_number(width, known)?;
+                let bits = self.keep_infix(Infix::And, first, known)?;
+                let value = self.keep_number(width, value)?;
+                self.keep_infix(operator, bits, value)?
+            }
             Asked::Within => {
                 let third = self.pending_at(next.saturating_add(2));
                 let fourth = self.pending_at(next.saturating_add(3));
@@ -336,7 +342,7 @@ impl<'p, 't> Terms<'p, 't> {
 fn operands_of(asked: Asked) -> usize {
     match asked {
         Asked::Compare(_) => 2,
-        Asked::Wild(_, _, _, _) => 1,
+        Asked::Wild(_, _, _, _) | Asked::Known(_, _, _, _) => 1,
         Asked::Within => 4,
         _ => 0,
     }

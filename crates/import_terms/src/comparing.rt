@@ -7,7 +7,7 @@ use crate::planning::comparison_of;
 use crate::reason::Reason;
 use crate::terms::Terms;
 use import_elaboration::{Value, ValueId, ValueList};
-use import_trees::{Infix, Refusal};
+use import_trees::{Infix, Number, Refusal};
 use parser_grammar::{Function, Infix as Operator, Prefix as Sign};
 
 /// The comparison that says the same of its sides the other way round.
@@ -38,6 +38,23 @@ fn count_plan<'t>(operator: Operator, number: u128) -> Option<Plan<'t>> {
         }
         _ => None,
     }
+}
+
+/// Whether the highest bit of a number is x or z, and no width is written: the bits above are x or
+/// z in each wider context, too (IEEE 1800-2017, 5.7.1).
+fn is_unknown_above(number: Number) -> bool {
+    let high = u32::from(number.width).saturating_sub(1);
+    !number.sized && number.unknown.wrapping_shr(high) & 1 == 1
+}
+
+/// The test that an operand equals a number but for its unknown bits.
+fn wild_test<'t>(comparison: Operator, number: Number) -> Asked<'t> {
+    let width = number.width;
+    if is_unknown_above(number) {
+        let below = u128::MAX.wrapping_shr(128u32.saturating_sub(u32::from(width)));
+        return Asked::Known(comparison, width, number.value, !number.unknown & below);
+    }
+    Asked::Wild(comparison, width, number.value, number.unknown)
 }
 
 impl<'p, 't> Terms<'p, 't> {
@@ -91,13 +108,9 @@ impl<'p, 't> Terms<'p, 't> {
     ) -> Result<(), Reason> {
         if let Some(number) = self.number_of(second) {
             if number.unknown != 0 {
+                self.want_same_width(first, second)?;
                 self.ask(first, true)?;
-                self.asked.push(Asked::Wild(
-                    comparison,
-                    number.width,
-                    number.value,
-                    number.unknown,
-                ))?;
+                self.asked.push(wild_test(comparison, number))?;
                 return Ok(());
             }
         }
@@ -151,6 +164,9 @@ impl<'p, 't> Terms<'p, 't> {
     /// Asks for a test whether a value lies within bounds, of which each may be `$`.
     fn ask_span(&mut self, value: ValueId, low: ValueId, high: ValueId) -> Result<(), Reason> {
         let from_zero = self.is_unbounded(low) || self.is_zero(low);
+        if self.is_zero(low) {
+            self.want_unsigned(value, low)?;
+        }
         if !from_zero {
             self.ask_sides(Operator::GreaterEqual, value, low)?;
         }

@@ -71,6 +71,9 @@ pub(crate) enum Asked<'t> {
     /// A test that the next operand equals the number, of so many bits, but for the bits that are 1
     /// in the last number.
     Wild(Infix, u8, u128, u128),
+    /// A test that the next operand equals the number, of so many bits, in the bits that are 1 in
+    /// the last number.
+    Known(Infix, u8, u128, u128),
     /// A test of four operands: the first is at least the second, and the third at most the fourth.
     Within,
     /// A test that is true.

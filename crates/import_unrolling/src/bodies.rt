@@ -1,6 +1,9 @@
 //! The blocks of generate constructs.
 
-use import_scopes::{after_name, ends_scope, is_symbol, kind_at, past_statement};
+use import_scopes::{
+    after_name, begins_assertion, ends_scope, is_keyword, is_symbol, kind_at, past_brackets,
+    past_statement,
+};
 use import_tokens::{Keyword, Kind, Symbol, Token};
 
 /// The places of a block's first token, of the one after its last, and of what follows it; `begin`
@@ -41,7 +44,72 @@ fn alone(tokens: &[Token], start: usize) -> Body {
     }
 }
 
-/// The block at a place, or the construct that stands there in place of one.
+/// Whether a word may stand in the action block of an assertion that is a body of its own: none
+/// that begins or ends another block, statement or item.
+fn is_simple(kind: Kind) -> bool {
+    match kind {
+        Kind::Keyword(
+            Keyword::Begin
+            | Keyword::End
+            | Keyword::Fork
+            | Keyword::Case
+            | Keyword::CaseX
+            | Keyword::CaseZ
+            | Keyword::If
+            | Keyword::For,
+        ) => false,
+        _ => !begins_assertion(kind) && !ends_scope(kind),
+    }
+}
+
+/// The place of the semicolon that ends an action block, from a place on, and whether an `else`
+/// stands before it.
+fn action_end(tokens: &[Token], start: usize) -> Option<(usize, bool)> {
+    let mut has_else = false;
+    for index in start..tokens.len() {
+        let kind = kind_at(tokens, index);
+        if kind == Kind::Symbol(Symbol::Semicolon) {
+            return Some((index, has_else));
+        }
+        if !is_simple(kind) {
+            return None;
+        }
+        has_else = has_else || kind == Kind::Keyword(Keyword::Else);
+    }
+    None
+}
+
+/// An assertion without `begin` and `end`. Where an `else` after its semicolon could be its own,
+/// there is none.
+fn assertion_at(tokens: &[Token], start: usize) -> Option<Body> {
+    let sign = start.saturating_add(1);
+    let word = if is_symbol(tokens, sign, Symbol::Colon) {
+        sign.saturating_add(1)
+    } else {
+        start
+    };
+    let named = word.saturating_add(1);
+    let open = named.saturating_add(1);
+    if !begins_assertion(kind_at(tokens, word))
+        || !is_keyword(tokens, named, Keyword::Property)
+        || !is_symbol(tokens, open, Symbol::OpenRound)
+    {
+        return None;
+    }
+    let close = past_brackets(tokens, open);
+    let (end, has_else) = action_end(tokens, close)?;
+    let after = end.saturating_add(1);
+    if is_keyword(tokens, after, Keyword::Else) && end != close && !has_else {
+        return None;
+    }
+    Some(Body {
+        from: start,
+        to: after,
+        after,
+    })
+}
+
+/// The block at a place, an assertion alone, or the construct that stands there in place of one.
 pub(crate) fn body_at(tokens: &[Token], start: usize) -> Option<Body> {
     match kind_at(tokens, start) {
         Kind::Keyword(Keyword::Begin) => {
@@ -53,7 +121,7 @@ pub(crate) fn body_at(tokens: &[Token], start: usize) -> Option<Body> {
             })
         }
         Kind::Keyword(Keyword::For | Keyword::If) => Some(alone(tokens, start)),
-        _ => None,
+        _ => assertion_at(tokens, start),
     }
 }
 
