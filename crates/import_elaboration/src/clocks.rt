@@ -6,7 +6,7 @@ use crate::opener::{Opener, placed, refused};
 use crate::refused::Refused;
 use import_scopes::{DeclarationId, DeclarationKind, DefaultClock, ScopeId};
 use import_tokens::{Keyword, Kind, Token};
-use import_trees::{Clock, Path, Refusal, Specification};
+use import_trees::{Clock, Form, Path, Refusal, Specification};
 
 /// Whether two paths are written alike.
 fn is_same(first: Path, second: Path) -> bool {
@@ -35,6 +35,7 @@ impl<'f, 't> Opener<'f, 't> {
         if let Some(clock) = said.clock {
             let path = self.clock_path(clock, environment, at)?;
             self.meet_clock(path, at)?;
+            self.clocked = self.clocked.saturating_add(1);
         }
         if let Some(disable) = said.disable {
             if !top || self.disable.is_some() {
@@ -43,6 +44,33 @@ impl<'f, 't> Opener<'f, 't> {
             self.disable = Some((disable, environment));
         }
         Ok(())
+    }
+
+    /// What stands after the body of a declaration: its clock counts in it alone (16.13.3).
+    pub(crate) fn end_body(&mut self, said: Specification<'t>) {
+        if said.clock.is_some() {
+            self.clocked = self.clocked.saturating_sub(1);
+        }
+    }
+
+    /// Takes note that what is opened here needs a clock.
+    pub(crate) fn need_clock(&mut self) {
+        if self.clocked == 0 {
+            self.has_unclocked = true;
+        }
+    }
+
+    /// The clock of an assertion that was opened. The default one stands before all that no clock
+    /// was written for (16.16), and may be no second one.
+    pub(crate) fn whole_clock(&mut self, scope: ScopeId, at: usize) -> Result<Path<'t>, Refused> {
+        match self.clock {
+            Some(clock) if !self.has_unclocked => Ok(clock),
+            _ => {
+                let path = self.default_path(scope, at)?;
+                self.meet_clock(path, at)?;
+                Ok(path)
+            }
+        }
     }
 
     /// Takes up a clock; refused where it is another one than before.
@@ -137,6 +165,26 @@ impl<'f, 't> Opener<'f, 't> {
         }
         None
     }
+}
+
+/// Whether a form counts clocks itself, or looks at a boolean.
+pub(crate) fn needs_clock(form: Form) -> bool {
+    matches!(
+        form,
+        Form::Lead(_, _)
+            | Form::Goto(_, _)
+            | Form::Nonconsecutive(_, _)
+            | Form::Throughout(_, _)
+            | Form::Within(_, _)
+            | Form::Until(_, _)
+            | Form::UntilWith(_, _)
+            | Form::Next(_, _)
+            | Form::Always(_, _)
+            | Form::Eventually(_, _)
+            | Form::If(_, _)
+            | Form::IfElse(_, _, _)
+            | Form::Case(_, _)
+    )
 }
 
 /// The path of an argument that is a clocking event, or a name.

@@ -6,6 +6,7 @@ use crate::folding::{counted, plain, resized};
 use crate::meaning::Meaning;
 use crate::opener::{MOST_OPENED, Opener, placed, refused};
 use crate::refused::Refused;
+use crate::types::{Ranged, context_of, counts_from_zero, says_array, type_tokens};
 use crate::value::{Value, ValueId};
 use import_scopes::{Declaration, DeclarationId, DeclarationKind};
 use import_tokens::{Keyword, Kind, Token};
@@ -27,6 +28,25 @@ fn with_sign(number: Number, tokens: &[Token]) -> Number {
             ..number
         },
         None => number,
+    }
+}
+
+/// A number as one of the type that its declaration says, if that is known.
+fn typed(
+    declaration: Declaration,
+    number: Number,
+    found: Option<Ranged>,
+    at: usize,
+) -> Result<Number, Refused> {
+    let Some((own, _range)) = found else {
+        if says_type(declaration.formals) {
+            return Ok(number);
+        }
+        return Ok(with_sign(number, declaration.formals));
+    };
+    match u8::try_from(own.width) {
+        Ok(width) if width <= 128 => Ok(resized(number, width, own.signed)),
+        _ => Err(refused(Refusal::WiderThan128, at)),
     }
 }
 
@@ -197,15 +217,8 @@ impl<'f, 't> Opener<'f, 't> {
                 let (expression, _taken) = self.expression(declaration.body, at)?;
                 self.value(expression, inside, depth - 1)
             }
-            DeclarationKind::Constant => {
-                let number = self.constant_of(declaration, caller, at, depth - 1)?;
-                let number = self.typed(declaration, number, caller, at, depth - 1)?;
-                self.keep(Value::Number(number), at)
-            }
-            DeclarationKind::Member(_) => {
-                let number = self.member(id, caller, at, depth - 1)?;
-                let number = self.typed(declaration, number, caller, at, depth - 1)?;
-                self.keep(Value::Number(number), at)
+            DeclarationKind::Constant | DeclarationKind::Member(_) => {
+                self.constant_value(id, declaration, caller, at, depth - 1)
             }
             DeclarationKind::Property | DeclarationKind::Sequence => {
                 Err(refused(Refusal::Expected(Expected::Expression), at))
@@ -217,11 +230,90 @@ impl<'f, 't> Opener<'f, 't> {
         }
     }
 
-    /// The number that the body of a declaration is.
+    /// The value of a parameter or of a member of an enumeration. What it is given is worked out at
+    /// the width of its type, if that is the larger one (10.7). Where no type is said the number is
+    /// as it is, and so it is where the type isn't known.
+    #[cycle(opened)]
+    fn constant_value(
+        &mut self,
+        id: DeclarationId,
+        declaration: Declaration<'t>,
+        caller: EnvironmentId,
+        at: usize,
+        depth: usize,
+    ) -> Result<ValueId, Refused> {
+        if !self.may_go_on(depth) {
+            return Err(refused(Refusal::TooHeavy, at));
+        }
+        let found = self.constant_type(declaration, caller, at, depth - 1)?;
+        let width = match found {
+            Some((own, _range)) => context_of(own),
+            None => 0,
+        };
+        let number = match declaration.kind {
+            DeclarationKind::Member(_) => self.member(id, width, caller, at, depth - 1)?,
+            _ => self.constant_of(declaration, width, caller, at, depth - 1)?,
+        };
+        let kept = self.keep(Value::Number(typed(declaration, number, found, at)?), at)?;
+        if self.is_ranged(declaration, found, caller, at)? {
+            self.ranged_constant = Some(kept);
+        }
+        Ok(kept)
+    }
+
+    /// Whether the bits of a constant aren't counted from 0 at the right, or are those of several
+    /// dimensions.
+    fn is_ranged(
+        &mut self,
+        declaration: Declaration<'t>,
+        found: Option<Ranged>,
+        caller: EnvironmentId,
+        at: usize,
+    ) -> Result<bool, Refused> {
+        if let Some(found) = found {
+            return Ok(!counts_from_zero(found));
+        }
+        if says_array(declaration.formals) {
+            return Ok(true);
+        }
+        let inside = self.enter_scope(declaration, caller, at)?;
+        Ok(
+            match self.named_type(type_tokens(declaration.formals), inside) {
+                Some(other) => !other.body.is_empty() || says_array(other.formals),
+                None => false,
+            },
+        )
+    }
+
+    /// The type that the declaration of a constant says, if it is known.
+    #[cycle(opened)]
+    fn constant_type(
+        &mut self,
+        declaration: Declaration<'t>,
+        caller: EnvironmentId,
+        at: usize,
+        depth: usize,
+    ) -> Result<Option<Ranged>, Refused> {
+        if !self.may_go_on(depth) {
+            return Err(refused(Refusal::TooHeavy, at));
+        }
+        if !says_type(declaration.formals) {
+            return Ok(None);
+        }
+        let inside = self.enter_scope(declaration, caller, at)?;
+        let found = self.ranged_type(declaration.formals, inside, at, depth - 1)?;
+        if found.is_none() {
+            self.made.has_unknown_type = true;
+        }
+        Ok(found)
+    }
+
+    /// The number that the body of a declaration is, where what takes it has so many bits.
     #[cycle(opened)]
     fn constant_of(
         &mut self,
         declaration: Declaration<'t>,
+        width: u8,
         caller: EnvironmentId,
         at: usize,
         depth: usize,
@@ -232,7 +324,7 @@ impl<'f, 't> Opener<'f, 't> {
         let inside = self.enter_scope(declaration, caller, at)?;
         let (expression, _taken) = self.expression(declaration.body, at)?;
         let value = self.value(expression, inside, depth - 1)?;
-        match self.number_of(value) {
+        match self.number_within(value, width) {
             Some(number) => Ok(number),
             None => Err(refused(Refusal::NotConstant, at)),
         }
@@ -244,6 +336,7 @@ impl<'f, 't> Opener<'f, 't> {
     fn member(
         &mut self,
         id: DeclarationId,
+        width: u8,
         caller: EnvironmentId,
         at: usize,
         depth: usize,
@@ -258,7 +351,7 @@ impl<'f, 't> Opener<'f, 't> {
                 return Err(refused(Refusal::Outside, at));
             };
             if !declaration.body.is_empty() {
-                let number = self.constant_of(declaration, caller, at, depth - 1)?;
+                let number = self.constant_of(declaration, width, caller, at, depth - 1)?;
                 let base = counted(number).ok_or(refused(Refusal::NotConstant, at))?;
                 return Ok(plain(base.wrapping_add(more)));
             }
@@ -269,34 +362,5 @@ impl<'f, 't> Opener<'f, 't> {
             more = more.wrapping_add(1);
         }
         Ok(plain(more))
-    }
-
-    /// A number as one of the type that its declaration says. Where none is said it is as it is,
-    /// and so it is where the type isn't known.
-    #[cycle(opened)]
-    fn typed(
-        &mut self,
-        declaration: Declaration<'t>,
-        number: Number,
-        caller: EnvironmentId,
-        at: usize,
-        depth: usize,
-    ) -> Result<Number, Refused> {
-        if !self.may_go_on(depth) {
-            return Err(refused(Refusal::TooHeavy, at));
-        }
-        if !says_type(declaration.formals) {
-            return Ok(with_sign(number, declaration.formals));
-        }
-        let inside = self.enter_scope(declaration, caller, at)?;
-        let Some((own, _range)) = self.ranged_type(declaration.formals, inside, at, depth - 1)?
-        else {
-            self.made.has_unknown_type = true;
-            return Ok(number);
-        };
-        match u8::try_from(own.width) {
-            Ok(width) if width <= 128 => Ok(resized(number, width, own.signed)),
-            _ => Err(refused(Refusal::WiderThan128, at)),
-        }
     }
 }

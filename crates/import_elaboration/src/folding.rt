@@ -1,20 +1,44 @@
-//! Constants (IEEE 1800-2017, 11.2.1): arithmetic of 32 bits, and tests of any numbers.
+//! Arithmetic of constants (IEEE 1800-2017, 11.2.1), at any width of up to 128 bits, with a sign or
+//! without one.
 
 use import_trees::{Infix, Number, Prefix};
 
-/// A number of 32 bits, with a sign or without one.
-fn word(value: u32, signed: bool) -> Number {
+/// The width at which a constant is worked out, and whether it has a sign there (11.6.1, 11.8.1).
+#[derive(Clone, Copy, PartialEq, Eq)]
+pub(crate) struct Measure {
+    pub width: u8,
+    pub signed: bool,
+}
+
+/// What a number is by itself.
+pub(crate) fn measure_of(number: Number) -> Measure {
+    Measure {
+        width: number.width,
+        signed: number.signed,
+    }
+}
+
+/// The larger width of two, with a sign where both have one.
+pub(crate) fn joined_measure(first: Measure, second: Measure) -> Measure {
+    Measure {
+        width: first.width.max(second.width),
+        signed: first.signed && second.signed,
+    }
+}
+
+/// The number of so many bits.
+pub(crate) fn number_at(value: u128, own: Measure) -> Number {
     Number {
-        width: 32,
-        value: u128::from(value),
+        width: own.width,
+        value,
         unknown: 0,
-        signed,
+        signed: own.signed,
         sized: false,
     }
 }
 
 /// What a test gives: one bit.
-fn bit(value: bool) -> Number {
+pub(crate) fn bit(value: bool) -> Number {
     Number {
         width: 1,
         value: if value { 1 } else { 0 },
@@ -24,90 +48,175 @@ fn bit(value: bool) -> Number {
     }
 }
 
-/// The bits of a number of 32 bits; none for others.
-fn bits_of(number: Number) -> Option<u32> {
-    if number.width != 32 || number.unknown != 0 {
+/// The bits of a number in a context: carried on by its sign where the context has one (11.8.2);
+/// none where some aren't known.
+pub(crate) fn extended(number: Number, own: Measure) -> Option<u128> {
+    if number.unknown != 0 {
         return None;
     }
-    u32::try_from(number.value).ok()
+    let signed = own.signed;
+    Some(resized(Number { signed, ..number }, own.width, signed).value)
 }
 
-fn is_negative(value: u32) -> bool {
-    value >= 0x8000_0000
+/// Whether an operator's result is as wide as its left side, and its right side stands alone.
+pub(crate) fn keeps_left(operator: Infix) -> bool {
+    matches!(
+        operator,
+        Infix::Power
+            | Infix::ShiftLeft
+            | Infix::ShiftRight
+            | Infix::ArithmeticShiftLeft
+            | Infix::ArithmeticShiftRight
+    )
 }
 
-/// A number without its sign.
-fn magnitude(value: u32) -> u32 {
-    if is_negative(value) {
-        0u32.wrapping_sub(value)
+/// Whether both sides of an operator take the width of its context.
+pub(crate) fn is_arithmetic(operator: Infix) -> bool {
+    matches!(
+        operator,
+        Infix::Add
+            | Infix::Subtract
+            | Infix::Multiply
+            | Infix::Divide
+            | Infix::Remainder
+            | Infix::BitAnd
+            | Infix::BitOr
+            | Infix::BitXor
+    )
+}
+
+/// Whether the low bits of an operator's result hang on high bits of its sides.
+pub(crate) fn moves_down(operator: Infix) -> bool {
+    matches!(
+        operator,
+        Infix::Divide | Infix::Remainder | Infix::ShiftRight | Infix::ArithmeticShiftRight
+    )
+}
+
+/// Whether an operator compares two numbers that are known.
+pub(crate) fn is_comparison(operator: Infix) -> bool {
+    matches!(
+        operator,
+        Infix::Equal
+            | Infix::NotEqual
+            | Infix::CaseEqual
+            | Infix::CaseNotEqual
+            | Infix::Less
+            | Infix::LessEqual
+            | Infix::Greater
+            | Infix::GreaterEqual
+    )
+}
+
+/// Whether an operator joins two truths.
+pub(crate) fn joins_truths(operator: Infix) -> bool {
+    matches!(
+        operator,
+        Infix::And | Infix::Or | Infix::Implies | Infix::Equivalent
+    )
+}
+
+/// Whether a number of a measure has a sign, and is below 0.
+fn is_negative(value: u128, own: Measure) -> bool {
+    own.signed && value > mask_of(own.width) >> 1
+}
+
+/// 0 less a number.
+fn negated(value: u128, own: Measure) -> u128 {
+    0u128.wrapping_sub(value) & mask_of(own.width)
+}
+
+/// A number without its sign, where it has at most 64 bits.
+fn magnitude(value: u128, own: Measure) -> Option<u64> {
+    let positive = if is_negative(value, own) {
+        negated(value, own)
     } else {
         value
-    }
+    };
+    u64::try_from(positive).ok()
 }
 
-fn with_sign(value: u32, negative: bool) -> u32 {
-    if negative {
-        0u32.wrapping_sub(value)
-    } else {
-        value
-    }
+fn with_sign(value: u64, negative: bool, own: Measure) -> u128 {
+    let value = u128::from(value);
+    if negative { negated(value, own) } else { value }
 }
 
-fn quotient(a: u32, b: u32, signed: bool) -> Option<u32> {
-    if !signed {
-        return a.checked_div(b);
-    }
-    let divided = magnitude(a).checked_div(magnitude(b))?;
-    Some(with_sign(divided, is_negative(a) != is_negative(b)))
+fn quotient(a: u128, b: u128, own: Measure) -> Option<u128> {
+    let divided = magnitude(a, own)?.checked_div(magnitude(b, own)?)?;
+    let negative = is_negative(a, own) != is_negative(b, own);
+    Some(with_sign(divided, negative, own))
 }
 
-fn remainder(a: u32, b: u32, signed: bool) -> Option<u32> {
-    if !signed {
-        return a.checked_rem(b);
-    }
-    let left = magnitude(a).checked_rem(magnitude(b))?;
-    Some(with_sign(left, is_negative(a)))
+fn remainder(a: u128, b: u128, own: Measure) -> Option<u128> {
+    let left = magnitude(a, own)?.checked_rem(magnitude(b, own)?)?;
+    Some(with_sign(left, is_negative(a, own), own))
 }
 
-fn power(a: u32, b: u32, negative: bool) -> Option<u32> {
-    if negative {
+/// A power, whose exponent isn't negative, and 128 at most.
+fn power(base: u128, exponent: Number, own: Measure) -> Option<u128> {
+    let count = counted(exponent)?;
+    if count > 128 {
         return None;
     }
-    let mut value = 1u32;
-    for _ in 0..b.min(64) {
-        value = value.wrapping_mul(a);
+    let mut value = 1u128;
+    for _ in 0..count {
+        value = value.wrapping_mul(base);
     }
-    if b > 64 { None } else { Some(value) }
+    Some(value & mask_of(own.width))
 }
 
-fn shifted_left(a: u32, b: u32) -> u32 {
-    if b < 32 { a.wrapping_shl(b) } else { 0 }
+fn shifted_left(value: u128, places: u32, own: Measure) -> u128 {
+    if places >= u32::from(own.width) {
+        return 0;
+    }
+    value.wrapping_shl(places) & mask_of(own.width)
 }
 
-fn shifted_right(a: u32, b: u32, negative: bool) -> u32 {
-    let filled = if negative { u32::MAX } else { 0 };
-    if b >= 32 {
+/// A number shifted to the right, with bits like its sign before it where it is negative.
+fn shifted_right(value: u128, places: u32, negative: bool, own: Measure) -> u128 {
+    let mask = mask_of(own.width);
+    let filled = if negative { mask } else { 0 };
+    let width = u32::from(own.width);
+    if places >= width {
         return filled;
     }
-    let high = if b == 0 {
-        0
-    } else {
-        shifted_left(filled, 32 - b)
-    };
-    a.wrapping_shr(b) | high
+    let high = shifted_left(filled, width.saturating_sub(places), own);
+    value.wrapping_shr(places) | high
 }
 
-/// What an operator of arithmetic makes of two numbers, of which both have a sign, or not.
-fn arithmetic(operator: Infix, a: u32, b: u32, signed: bool) -> Option<u32> {
+/// How many places a number shifts by.
+fn places_of(number: Number) -> Option<u32> {
+    if number.unknown != 0 {
+        return None;
+    }
+    Some(u32::try_from(number.value).unwrap_or(u32::MAX))
+}
+
+/// What a shift or a power makes of a number of a measure.
+pub(crate) fn moved(operator: Infix, value: u128, by: Number, own: Measure) -> Option<u128> {
     match operator {
-        Infix::Add => Some(a.wrapping_add(b)),
-        Infix::Subtract => Some(a.wrapping_sub(b)),
-        Infix::Multiply => Some(a.wrapping_mul(b)),
-        Infix::Divide => quotient(a, b, signed),
-        Infix::Remainder => remainder(a, b, signed),
-        Infix::ShiftLeft | Infix::ArithmeticShiftLeft => Some(shifted_left(a, b)),
-        Infix::ShiftRight => Some(shifted_right(a, b, false)),
-        Infix::ArithmeticShiftRight => Some(shifted_right(a, b, signed && is_negative(a))),
+        Infix::Power => power(value, by, own),
+        Infix::ShiftLeft | Infix::ArithmeticShiftLeft => {
+            Some(shifted_left(value, places_of(by)?, own))
+        }
+        Infix::ShiftRight => Some(shifted_right(value, places_of(by)?, false, own)),
+        Infix::ArithmeticShiftRight => {
+            let negative = is_negative(value, own);
+            Some(shifted_right(value, places_of(by)?, negative, own))
+        }
+        _ => None,
+    }
+}
+
+/// What an operator of arithmetic makes of two numbers of a measure.
+pub(crate) fn arithmetic(operator: Infix, a: u128, b: u128, own: Measure) -> Option<u128> {
+    let mask = mask_of(own.width);
+    match operator {
+        Infix::Add => Some(a.wrapping_add(b) & mask),
+        Infix::Subtract => Some(a.wrapping_sub(b) & mask),
+        Infix::Multiply => Some(a.wrapping_mul(b) & mask),
+        Infix::Divide => quotient(a, b, own),
+        Infix::Remainder => remainder(a, b, own),
         Infix::BitAnd => Some(a & b),
         Infix::BitOr => Some(a | b),
         Infix::BitXor => Some(a ^ b),
@@ -115,9 +224,28 @@ fn arithmetic(operator: Infix, a: u32, b: u32, signed: bool) -> Option<u32> {
     }
 }
 
-/// What a test says of two numbers of one width, of which both have a sign, or not.
-fn tested(operator: Infix, a: Number, b: Number) -> Option<bool> {
-    let (low, high) = (ordinal(a), ordinal(b));
+/// What an operator makes of a number of a measure.
+pub(crate) fn prefixed(operator: Prefix, value: u128, own: Measure) -> Option<u128> {
+    match operator {
+        Prefix::Plus => Some(value),
+        Prefix::Minus => Some(negated(value, own)),
+        Prefix::Complement => Some(value ^ mask_of(own.width)),
+        _ => None,
+    }
+}
+
+/// Where a number stands among all of its measure, from the least on.
+fn ordinal(value: u128, own: Measure) -> u128 {
+    if !own.signed {
+        return value;
+    }
+    let top = (mask_of(own.width) >> 1).wrapping_add(1);
+    value ^ top
+}
+
+/// What a comparison says of two numbers of one measure.
+pub(crate) fn compared(operator: Infix, a: u128, b: u128, own: Measure) -> Option<bool> {
+    let (low, high) = (ordinal(a, own), ordinal(b, own));
     match operator {
         Infix::Equal | Infix::CaseEqual => Some(low == high),
         Infix::NotEqual | Infix::CaseNotEqual => Some(low != high),
@@ -125,90 +253,28 @@ fn tested(operator: Infix, a: Number, b: Number) -> Option<bool> {
         Infix::LessEqual => Some(low <= high),
         Infix::Greater => Some(high < low),
         Infix::GreaterEqual => Some(high <= low),
-        Infix::And => Some(a.value != 0 && b.value != 0),
-        Infix::Or => Some(a.value != 0 || b.value != 0),
         _ => None,
     }
 }
 
-/// Where a number stands among all of its width and kind, from the least on.
-fn ordinal(number: Number) -> u128 {
-    if !number.signed {
-        return number.value;
-    }
-    let top = (mask_of(number.width) >> 1).wrapping_add(1);
-    number.value ^ top
-}
-
-/// A number at another width, with a sign where both sides have one (11.8.2).
-fn beside(number: Number, width: u8, signed: bool) -> Number {
-    resized(Number { signed, ..number }, width, signed)
-}
-
-/// What a test says of two numbers, each at the width of the wider one.
-fn compared(operator: Infix, first: Number, second: Number) -> Option<bool> {
+/// What `&&` and `||` say of two numbers.
+pub(crate) fn both_truths(operator: Infix, first: Number, second: Number) -> Option<bool> {
     if first.unknown != 0 || second.unknown != 0 {
         return None;
     }
-    let width = first.width.max(second.width);
-    let signed = first.signed && second.signed;
-    let a = beside(first, width, signed);
-    let b = beside(second, width, signed);
-    tested(operator, a, b)
-}
-
-/// What an operator makes of two numbers, of 32 bits each but for tests. What moves or is raised
-/// alone says whether the result has a sign (11.8.1).
-pub(crate) fn joined(operator: Infix, first: Number, second: Number) -> Option<Number> {
-    if let Some(value) = compared(operator, first, second) {
-        return Some(bit(value));
-    }
-    let a = bits_of(first)?;
-    let b = bits_of(second)?;
     match operator {
-        Infix::Power => {
-            let value = power(a, b, second.signed && is_negative(b))?;
-            Some(word(value, first.signed))
-        }
-        Infix::ShiftLeft
-        | Infix::ArithmeticShiftLeft
-        | Infix::ShiftRight
-        | Infix::ArithmeticShiftRight => {
-            let value = arithmetic(operator, a, b, first.signed)?;
-            Some(word(value, first.signed))
-        }
-        _ => {
-            let signed = first.signed && second.signed;
-            let value = arithmetic(operator, a, b, signed)?;
-            Some(word(value, signed))
-        }
-    }
-}
-
-/// What an operator makes of a number, of 32 bits but for `!`.
-pub(crate) fn prefixed(operator: Prefix, operand: Number) -> Option<Number> {
-    if operator == Prefix::Not && operand.unknown == 0 {
-        return Some(bit(operand.value == 0));
-    }
-    let value = bits_of(operand)?;
-    match operator {
-        Prefix::Minus => Some(word(0u32.wrapping_sub(value), operand.signed)),
-        Prefix::Plus => Some(word(value, operand.signed)),
-        Prefix::Complement => Some(word(!value, operand.signed)),
+        Infix::And => Some(first.value != 0 && second.value != 0),
+        Infix::Or => Some(first.value != 0 || second.value != 0),
         _ => None,
     }
 }
 
 /// The number that a constant counts; none where it is negative, or not known.
 pub(crate) fn counted(number: Number) -> Option<u32> {
-    if number.unknown != 0 {
+    if number.unknown != 0 || is_negative(number.value, measure_of(number)) {
         return None;
     }
-    let value = u32::try_from(number.value).ok()?;
-    if number.signed && number.width == 32 && is_negative(value) {
-        return None;
-    }
-    Some(value)
+    u32::try_from(number.value).ok()
 }
 
 /// So many bits that are 1.
@@ -243,5 +309,11 @@ pub(crate) fn bits_below(number: u32) -> u32 {
 
 /// A number without a size.
 pub(crate) fn plain(value: u32) -> Number {
-    word(value, true)
+    number_at(
+        u128::from(value),
+        Measure {
+            width: 32,
+            signed: true,
+        },
+    )
 }

@@ -13,7 +13,8 @@
 //! replaced by what they stand for; an actual argument means what it does where it stands, and is
 //! put in as a tree, in a `Cast` where the argument has a type. What no declaration names is a
 //! signal, and so is a port, a net or a variable; of these `parts().variables` has the types.
-//! Bounds are numbers. Constants of 32 bits and a sign are folded. Local variables are numbered,
+//! Bounds are numbers. Operators over constants of 32 bits are folded where the context doesn't
+//! count. Local variables are numbered,
 //! anew for each instance, and what they are given is `Assigned`. Who makes
 //! something of an opened assertion may add values to `opener.made`. `opener.number` is the number
 //! that an expression of constants is.
@@ -27,6 +28,7 @@
 
 mod arguments;
 mod clocks;
+mod constants;
 mod declared;
 mod environment;
 mod folding;

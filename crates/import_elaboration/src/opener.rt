@@ -81,6 +81,12 @@ pub struct Opener<'f, 't> {
     pub(crate) locals: usize,
     /// How many values and parts may still be made.
     left: usize,
+    /// The value that was kept last of a constant whose bits aren't counted from 0 at the right.
+    pub(crate) ranged_constant: Option<ValueId>,
+    /// How many declarations with a clock of their own lie round what is opened.
+    pub(crate) clocked: usize,
+    /// Whether something outside of all of them needs a clock.
+    pub(crate) has_unclocked: bool,
     /// What stands in lists that are not at their end.
     pub(crate) pending: Vec<ValueId>,
 }
@@ -105,6 +111,9 @@ impl<'f, 't> Opener<'f, 't> {
             disable: None,
             locals: 0,
             left: 0,
+            ranged_constant: None,
+            clocked: 0,
+            has_unclocked: false,
             pending: Vec::new(alloc),
         }
     }
@@ -125,6 +134,9 @@ impl<'f, 't> Opener<'f, 't> {
         self.clock = None;
         self.disable = None;
         self.left = most;
+        self.ranged_constant = None;
+        self.clocked = 0;
+        self.has_unclocked = false;
         self.pending.clear();
         self.environments.clear();
         self.push_environment(environment_in(scope, locals))

@@ -40,10 +40,7 @@ impl<'f, 't> Opener<'f, 't> {
         let top = self.begin(assertion.scope, said.locals, MOST_PARTS)?;
         self.begin_body(said, top, true, at)?;
         let body = self.body(said.body, top, true, MOST_DEPTH)?;
-        let clock = match self.clock {
-            Some(clock) => clock,
-            None => self.default_path(assertion.scope, at)?,
-        };
+        let clock = self.whole_clock(assertion.scope, at)?;
         let disable = self.disabling(assertion.scope, top, at)?;
         Ok(Opened {
             label: assertion.label,
@@ -82,7 +79,7 @@ impl<'f, 't> Opener<'f, 't> {
             return Err(refused(Refusal::NotConstant, at));
         }
         let value = self.value(expression, inside, MOST_DEPTH)?;
-        self.number_of(value)
+        self.number_alone(value)
             .ok_or(refused(Refusal::NotConstant, at))
     }
 

@@ -1,5 +1,6 @@
 //! Sequences and properties, opened.
 
+use crate::clocks::needs_clock;
 use crate::environment::{EnvironmentId, declaration_at};
 use crate::meaning::Meaning;
 use crate::opener::{Opener, placed, refused};
@@ -75,6 +76,7 @@ impl<'f, 't> Opener<'f, 't> {
         if !self.may_go_on(depth) {
             return Err(refused(Refusal::TooHeavy, at));
         }
+        self.need_clock();
         let value = self.value(id, environment, depth - 1)?;
         self.keep_part(Part::Boolean(value), true, at)
     }
@@ -103,6 +105,7 @@ impl<'f, 't> Opener<'f, 't> {
         let inside = self.enter(declaration, actuals, said.locals, caller, at)?;
         self.begin_body(said, inside, top, at)?;
         let body = self.body(said.body, inside, top, depth - 1)?;
+        self.end_body(said);
         if declaration.kind == DeclarationKind::Property && self.is_sequence(body) {
             return self.keep_part(Part::Strength(body), false, at);
         }
@@ -206,6 +209,9 @@ impl<'f, 't> Opener<'f, 't> {
         if !self.may_go_on(depth) {
             return Err(refused(Refusal::TooHeavy, at));
         }
+        if needs_clock(node.form) {
+            self.need_clock();
+        }
         let part = match node.form {
             Form::Boolean(expression) => {
                 return self.boolean(expression, environment, false, depth - 1);
@@ -217,6 +223,9 @@ impl<'f, 't> Opener<'f, 't> {
             Form::Delay(first, range, second) => {
                 let first = self.sequence(first, environment, depth - 1)?;
                 let count = self.count(range, environment, depth - 1)?;
+                if !matches!(count.most, Some(0 | 1)) {
+                    self.need_clock();
+                }
                 Part::Delay(first, count, self.sequence(second, environment, depth - 1)?)
             }
             Form::Repeat(body, range) => {

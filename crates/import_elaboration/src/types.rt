@@ -77,7 +77,7 @@ fn base_type(tokens: &[Token]) -> Option<Type> {
 }
 
 /// The tokens of a type without those that say no more than what is declared.
-fn type_tokens<'t>(tokens: &'t [Token<'t>]) -> &'t [Token<'t>] {
+pub(crate) fn type_tokens<'t>(tokens: &'t [Token<'t>]) -> &'t [Token<'t>] {
     for (index, token) in tokens.iter().enumerate() {
         if token.kind != Kind::Word || !is_before_type(token.text) {
             return rest_of(tokens, index);
@@ -122,7 +122,7 @@ fn plain_of<'t>(said: &'t [Token<'t>]) -> Option<Ranged> {
 }
 
 /// Whether tokens of a type say several dimensions, or a range of what a name stands for (7.4).
-fn says_array(tokens: &[Token]) -> bool {
+pub(crate) fn says_array(tokens: &[Token]) -> bool {
     let mut depth = 0u64;
     let mut ranges = 0u64;
     let mut named = false;
@@ -183,6 +183,28 @@ fn both_shapes(before: Option<Shape>, more: Shape) -> Shape {
     }
 }
 
+/// The width of the context that a type gives to a constant.
+pub(crate) fn context_of(own: Type) -> u8 {
+    match u8::try_from(own.width) {
+        Ok(width) => width.min(128),
+        Err(_) => 128,
+    }
+}
+
+/// A number, if there is one, as one of a type.
+fn number_as(own: Type, number: Option<Number>) -> Option<Number> {
+    match u8::try_from(own.width) {
+        Ok(width) if width <= 128 => Some(resized(number?, width, own.signed)),
+        _ => None,
+    }
+}
+
+/// Whether the numbers of a range count bits from 0 at the right.
+pub(crate) fn counts_from_zero(found: Ranged) -> bool {
+    let (own, (left, right)) = found;
+    right == 0 && left.saturating_add(1) == own.width
+}
+
 impl<'f, 't> Opener<'f, 't> {
     /// The two ends of the range whose tokens begin after its bracket, and how many tokens it
     /// takes up to its own bracket.
@@ -207,7 +229,7 @@ impl<'f, 't> Opener<'f, 't> {
     }
 
     /// The declaration of the type whose name tokens are, if they are one.
-    fn named_type(
+    pub(crate) fn named_type(
         &self,
         tokens: &[Token<'t>],
         environment: EnvironmentId,
@@ -284,6 +306,7 @@ impl<'f, 't> Opener<'f, 't> {
             _ => {
                 self.made.values.truncate(values);
                 self.made.variables.truncate(variables);
+                self.ranged_constant = None;
                 Ok(None)
             }
         }
@@ -303,7 +326,7 @@ impl<'f, 't> Opener<'f, 't> {
             return Err(refused(Refusal::TooHeavy, at));
         }
         match self.ranged_type(tokens, environment, at, depth - 1)? {
-            Some((found, (left, 0))) if left.saturating_add(1) == found.width => Ok(Some(found)),
+            Some(found) if counts_from_zero(found) => Ok(Some(found.0)),
             _ => Ok(None),
         }
     }
@@ -328,7 +351,7 @@ impl<'f, 't> Opener<'f, 't> {
             self.made.has_unknown_type = true;
             return Ok(value);
         };
-        match self.number_as(own, value) {
+        match number_as(own, self.number_alone(value)) {
             Some(number) => self.keep(Value::Number(number), at),
             None => self.keep(Value::Cast(own, value), at),
         }
@@ -351,18 +374,10 @@ impl<'f, 't> Opener<'f, 't> {
             self.made.has_unknown_type = true;
             return Ok(value);
         };
-        match self.number_as(own, value) {
+        let given = self.number_within(value, context_of(own));
+        match number_as(own, given) {
             Some(number) => self.keep(Value::Number(number), at),
             None => self.keep(Value::Assigned(own, value), at),
-        }
-    }
-
-    /// A number as one of a type, if a value is one.
-    fn number_as(&self, own: Type, value: ValueId) -> Option<Number> {
-        let number = self.number_of(value)?;
-        match u8::try_from(own.width) {
-            Ok(width) if width <= 128 => Some(resized(number, width, own.signed)),
-            _ => None,
         }
     }
 

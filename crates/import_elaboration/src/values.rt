@@ -1,13 +1,11 @@
 //! Expressions, opened.
 
 use crate::environment::EnvironmentId;
-use crate::folding::{bits_below, counted, joined, plain, prefixed};
+use crate::folding::{bits_below, counted, plain};
 use crate::opener::{Opener, refused};
 use crate::refused::Refused;
 use crate::value::{Value, ValueId, ValueList};
-use import_trees::{
-    Expression, ExpressionId, ExpressionList, ExpressionNode, Infix, Prefix, Refusal,
-};
+use import_trees::{Expression, ExpressionId, ExpressionList, ExpressionNode, Refusal};
 
 impl<'f, 't> Opener<'f, 't> {
     /// An expression that was read, by its place.
@@ -78,15 +76,18 @@ impl<'f, 't> Opener<'f, 't> {
             }
             Expression::System(name, list) => {
                 let list = self.values(list, environment, at, depth - 1)?;
+                self.settle_list(list)?;
                 self.keep_system(name, list, at)
             }
             Expression::Concatenation(list) => {
                 let list = self.values(list, environment, at, depth - 1)?;
+                self.settle_list(list)?;
                 self.keep(Value::Concatenation(list), at)
             }
             Expression::Replication(count, list) => {
                 let count = self.constant(count, environment, depth - 1)?;
                 let list = self.values(list, environment, at, depth - 1)?;
+                self.settle_list(list)?;
                 self.keep(Value::Replication(count, list), at)
             }
             Expression::Inside(value, list) => {
@@ -121,27 +122,50 @@ impl<'f, 't> Opener<'f, 't> {
                 Value::Span(low, self.value(high, environment, depth - 1)?)
             }
             Expression::Index(base, index) => {
-                let base = self.value(base, environment, depth - 1)?;
-                Value::Index(base, self.value(index, environment, depth - 1)?)
+                let base = self.base(base, environment, depth - 1)?;
+                let index = self.value(index, environment, depth - 1)?;
+                Value::Index(base, self.settled(index)?)
             }
             Expression::Slice(base, high, low) => {
-                let base = self.value(base, environment, depth - 1)?;
+                let base = self.base(base, environment, depth - 1)?;
                 let high = self.constant(high, environment, depth - 1)?;
                 Value::Slice(base, high, self.constant(low, environment, depth - 1)?)
             }
             Expression::PartUp(base, start, width) => {
-                let base = self.value(base, environment, depth - 1)?;
+                let base = self.base(base, environment, depth - 1)?;
                 let start = self.value(start, environment, depth - 1)?;
+                let start = self.settled(start)?;
                 Value::PartUp(base, start, self.constant(width, environment, depth - 1)?)
             }
             Expression::PartDown(base, start, width) => {
-                let base = self.value(base, environment, depth - 1)?;
+                let base = self.base(base, environment, depth - 1)?;
                 let start = self.value(start, environment, depth - 1)?;
+                let start = self.settled(start)?;
                 Value::PartDown(base, start, self.constant(width, environment, depth - 1)?)
             }
             _ => return Err(refused(Refusal::Outside, at)),
         };
         self.keep(value, at)
+    }
+
+    /// What bits are taken of: refused where it is a constant whose bits aren't counted from 0 at
+    /// the right.
+    #[cycle(opened)]
+    fn base(
+        &mut self,
+        id: ExpressionId,
+        environment: EnvironmentId,
+        depth: usize,
+    ) -> Result<ValueId, Refused> {
+        let at = self.expression_at(id).at;
+        if !self.may_go_on(depth) {
+            return Err(refused(Refusal::TooHeavy, at));
+        }
+        let base = self.value(id, environment, depth - 1)?;
+        if self.ranged_constant == Some(base) {
+            return Err(refused(Refusal::Outside, at));
+        }
+        Ok(base)
     }
 
     /// The members of a list.
@@ -186,43 +210,10 @@ impl<'f, 't> Opener<'f, 't> {
             return Err(refused(Refusal::TooHeavy, at));
         }
         let value = self.value(id, environment, depth - 1)?;
-        match self.number_of(value) {
+        match self.number_alone(value) {
             Some(number) => counted(number).ok_or(refused(Refusal::BadBound, at)),
             None => Err(refused(Refusal::NotConstant, at)),
         }
-    }
-
-    fn keep_prefix(
-        &mut self,
-        operator: Prefix,
-        operand: ValueId,
-        at: usize,
-    ) -> Result<ValueId, Refused> {
-        if let Some(number) = self.number_of(operand) {
-            if let Some(folded) = prefixed(operator, number) {
-                return self.keep(Value::Number(folded), at);
-            }
-        }
-        self.keep(Value::Prefix(operator, operand), at)
-    }
-
-    /// `condition ? first : second`; one of two numbers of one kind, where the condition is known.
-    fn keep_conditional(
-        &mut self,
-        condition: ValueId,
-        first: ValueId,
-        second: ValueId,
-        at: usize,
-    ) -> Result<ValueId, Refused> {
-        if let (Some(a), Some(b)) = (self.number_of(first), self.number_of(second)) {
-            if let Some(test) = self.number_of(condition) {
-                if test.unknown == 0 && a.width == b.width && a.signed == b.signed {
-                    let chosen = if test.value != 0 { a } else { b };
-                    return self.keep(Value::Number(chosen), at);
-                }
-            }
-        }
-        self.keep(Value::Conditional(condition, first, second), at)
     }
 
     /// A system function; `$clog2` of a number is a number (20.8.1).
@@ -242,20 +233,5 @@ impl<'f, 't> Opener<'f, 't> {
             }
         }
         self.keep(Value::System(name, list), at)
-    }
-
-    fn keep_infix(
-        &mut self,
-        operator: Infix,
-        first: ValueId,
-        second: ValueId,
-        at: usize,
-    ) -> Result<ValueId, Refused> {
-        if let (Some(a), Some(b)) = (self.number_of(first), self.number_of(second)) {
-            if let Some(folded) = joined(operator, a, b) {
-                return self.keep(Value::Number(folded), at);
-            }
-        }
-        self.keep(Value::Infix(operator, first, second), at)
     }
 }

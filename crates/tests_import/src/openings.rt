@@ -117,20 +117,45 @@ fn case(row: usize) -> (&'static [u8], &'static [u8]) {
         5 => (
             b"typedef enum logic [1:0] {A, B = 2, C} t; localparam [3:0] K = 5; \
               assert property (@(posedge c) x == C || y == K - A);",
-            b"c  b v2103+v5305100+++",
+            b"c  b v1023+v3055100+++",
         ),
         6 => (
             b"localparam W = 8, N = W > 4 ? $clog2(9) : 1; assert property (@(posedge c) a ##N b);",
-            b"c  b b ## v884194144v",
+            b"c  b b ## v88419414v",
         ),
         7 => (
             b"localparam N = 4; sequence s(logic [N-1:0] x, y, int n); x ##n y; endsequence \
               assert property (@(posedge c) s(a, b, 2));",
             b"c  b b ## v44130=22v44130=",
         ),
-        _ => (
+        8 => (
             b"assert property (@(posedge c) v[3:1] && w[i]);",
             b"c  b v31svvi+",
+        ),
+        9 => (
+            b"default clocking @(posedge c); endclocking \
+              property p; @(posedge d) b |-> b; endproperty assert property ((p));",
+            b"d  b b -> vv",
+        ),
+        10 => (
+            b"sequence s; @(posedge d) b; endsequence assert property (s |=> s);",
+            b"d  b b => vv",
+        ),
+        11 => (
+            b"property p(x); @(posedge d) x |-> x; endproperty assert property (p(b));",
+            b"d  b b -> vv",
+        ),
+        12 => (
+            b"parameter K = 3; assert property (@(posedge c) (w & ~K) == 5 - K + 1);",
+            b"c  b v33!+533213+",
+        ),
+        13 => (
+            b"assert property (@(posedge c) w == 3 - 5 + 4 && v == 3 - 5);",
+            b"c  b v35+42+v35+++",
+        ),
+        _ => (
+            b"assert property (@(posedge c) w[3 - 5 + 4] && v < (1 << 33));",
+            b"c  b v35+42iv19+++",
         ),
     }
 }
@@ -166,6 +191,33 @@ fn refusal(row: usize) -> (&'static [u8], &'static [u8]) {
             b"property p; a; endproperty assert property (@(posedge c) p |-> b);",
             b"Expected ",
         ),
+        10 => (
+            b"property p; @(posedge d) b; endproperty assert property (a |-> p);",
+            b"NoClock ",
+        ),
+        11 => (
+            b"default clocking @(posedge c); endclocking \
+              property p; @(posedge d) b; endproperty assert property (a |-> p);",
+            b"SecondClock ",
+        ),
+        12 => (
+            b"default clocking @(posedge c); endclocking \
+              sequence s; @(posedge d) b; endsequence assert property (s ##2 s);",
+            b"SecondClock ",
+        ),
+        13 => (
+            b"default clocking @(posedge c); endclocking \
+              sequence s; @(posedge d) b; endsequence assert property (s.triggered);",
+            b"SecondClock ",
+        ),
+        14 => (
+            b"parameter [0:3] K = 8; assert property (@(posedge c) K[0]);",
+            b"Outside ",
+        ),
+        15 => (
+            b"typedef enum logic [5:2] {A = 8} t; assert property (@(posedge c) A[5:4] == 2);",
+            b"Outside ",
+        ),
         _ => (
             b"property p; disable iff (r) a; endproperty \
               assert property (@(posedge c) x |-> p);",
@@ -176,12 +228,12 @@ fn refusal(row: usize) -> (&'static [u8], &'static [u8]) {
 
 #[test]
 fn opens_assertions(rt: HostRuntime) -> Result<(), Fail> {
-    for row in 0..9 {
+    for row in 0..15 {
         let (text, wanted) = case(row);
         let found = read(rt.alloc(), text)?;
         assert!(rt; found.as_slice() == wanted, "row {row}");
     }
-    for row in 0..11 {
+    for row in 0..17 {
         let (text, wanted) = refusal(row);
         let found = read(rt.alloc(), text)?;
         assert!(rt; found.as_slice() == wanted, "row {row}");

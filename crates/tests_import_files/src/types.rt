@@ -283,6 +283,27 @@ fn constant(number: usize) -> (&'static str, &'static str, &'static str) {
         7 => ("parameter [0:3] K = 18;", "d == K", "d == 4'd2"),
         8 => ("parameter int unsigned K = -2;", "K < 0", "0);"),
         9 => ("localparam int K = -7 / 2;", "K == -3", "1);"),
+        10 => (
+            "parameter logic [63:0] K = 1 << 36;",
+            "d == K",
+            "d == 64'd68719476736",
+        ),
+        11 => (
+            "parameter longint K = 2 ** 40 / 2 ** 38;",
+            "d == K",
+            "d == 64'd4",
+        ),
+        12 => (
+            "parameter logic [63:0] K = 32'hffff_ffff + 1;",
+            "d == K",
+            "d == 64'd4294967296",
+        ),
+        13 => ("parameter K = 1 << 36;", "d == K", "d == 0"),
+        14 => ("parameter K = 3;", "(d & ~K) == d", "(d & ~3) == d"),
+        15 => ("parameter K = 3;", "d == K - 5 + 4", "d == 2)"),
+        16 => ("parameter K = 3;", "d inside {-1}", "d == 1'd0 - 1)"),
+        17 => ("parameter [0:3] K = 8;", "K[0]", "Outside"),
+        18 => ("parameter nibble K = 8;", "K[3] || d[K - 7]", "(4'd8 >> 3"),
         _ => ("parameter signed K = 4'd15;", "K < 0", "1);"),
     }
 }
@@ -290,7 +311,7 @@ fn constant(number: usize) -> (&'static str, &'static str, &'static str) {
 #[test]
 fn types_of_constants(rt: HostRuntime) -> Result<(), Fail> {
     let alloc = rt.alloc();
-    for number in 0..11 {
+    for number in 0..20 {
         let (declared, property, wanted) = constant(number);
         let text = format!(in alloc;
             "typedef logic [3:0] nibble;\n{declared}\n\

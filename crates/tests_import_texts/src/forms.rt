@@ -207,7 +207,7 @@ fn operator(row: usize) -> Option<(&'static [u8], &'static [u8])> {
 /// Numbers, with their widths (5.7.1), and fills, which take the width of their context.
 fn number(row: usize) -> Option<(&'static [u8], &'static [u8])> {
     let row: (&'static [u8], &'static [u8]) = match row {
-        0 => (b"v == -1", b"v == 4294967295"),
+        0 => (b"v == -1", b"v == 1'd0 - 1"),
         1 => (b"8'hff == v", b"8'd255 == v"),
         2 => (b"4'sd3 == v", b"4'd3 == v"),
         3 => (b"v == '1", b"v == ~1'd0"),

@@ -30,8 +30,14 @@ decreases-constant_of l = l.depth
 abbrev pub decreases-member : goal.decreases-member
 decreases-member l = l.depth
 
-abbrev pub decreases-typed : goal.decreases-typed
-decreases-typed l = l.depth
+abbrev pub decreases-constant_value : goal.decreases-constant_value
+decreases-constant_value l = l.depth
+
+abbrev pub decreases-constant_type : goal.decreases-constant_type
+decreases-constant_type l = l.depth
+
+abbrev pub decreases-base : goal.decreases-base
+decreases-base l = l.depth
 
 abbrev pub decreases-boolean : goal.decreases-boolean
 decreases-boolean l = l.depth
