@@ -6,7 +6,7 @@ ghost use Rattle.import_scopes.specs.Words.{word_places};
 use crate::construct::Construct;
 use crate::declaration::{Declaration, DeclarationId};
 use crate::names::Names;
-use crate::scope::{Scope, ScopeId};
+use crate::scope::{Import, Scope, ScopeId};
 use crate::status::{Assertion, Mark, Note, NoteKind, Status};
 use crate::walker::{Found, Walker};
 use crate::words::{is_misspelt, words_of};
@@ -27,6 +27,7 @@ pub struct File<'t> {
     pub notes: Vec<Note<'t>>,
     /// The generate loops and conditions that are not written out, in order, none inside another.
     pub constructs: Vec<Construct>,
+    imports: Vec<Import<'t>>,
     names: Names,
 }
 
@@ -109,6 +110,7 @@ impl<'t> File<'t> {
         walker.walk()?;
         let Found {
             scopes,
+            imports,
             declarations,
             assertions,
             notes,
@@ -134,6 +136,7 @@ impl<'t> File<'t> {
             assertions,
             notes,
             constructs,
+            imports,
             names,
         })
     }
@@ -143,7 +146,33 @@ impl<'t> File<'t> {
         self.names.next_of(self.declarations.as_slice(), id.0)
     }
 
-    /// The declaration of a name that a scope sees: in it, or else in one round it.
+    /// The declaration of a name in a package of the file.
+    fn declared_in(&self, package: &[u8], name: &str) -> Option<DeclarationId> {
+        for (place, scope) in self.scopes.as_slice().iter().enumerate() {
+            if scope.name == package && !scope.is_block {
+                let scope = ScopeId(place);
+                return self
+                    .names
+                    .place_in(self.declarations.as_slice(), scope, name);
+            }
+        }
+        None
+    }
+
+    /// The declaration of a name that is imported into a scope.
+    fn imported(&self, scope: ScopeId, name: &str) -> Option<DeclarationId> {
+        for import in self.imports.as_slice() {
+            if import.brings(name.as_bytes(), scope) {
+                if let Some(id) = self.declared_in(import.package, name) {
+                    return Some(id);
+                }
+            }
+        }
+        None
+    }
+
+    /// The declaration of a name that a scope sees: in it, or in a package that is imported there,
+    /// or else in a scope round it.
     pub fn declaration_of(&self, scope: ScopeId, name: &[u8]) -> Option<DeclarationId> {
         let Ok(name) = str::from_utf8(name) else {
             return None;
@@ -151,6 +180,9 @@ impl<'t> File<'t> {
         let mut at = scope;
         for _ in 0..self.scopes.len() {
             if let Some(id) = self.names.place_in(self.declarations.as_slice(), at, name) {
+                return Some(id);
+            }
+            if let Some(id) = self.imported(at, name) {
                 return Some(id);
             }
             at = self.scopes.get(at.0)?.around?;

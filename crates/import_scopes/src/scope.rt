@@ -30,3 +30,22 @@ pub struct Scope<'t> {
     /// Whether it is a block.
     pub is_block: bool,
 }
+
+/// An import of a package into a scope: of one name, or of all (IEEE 1800-2017, 26.3).
+#[derive(Clone, Copy)]
+pub(crate) struct Import<'t> {
+    pub into: ScopeId,
+    pub package: &'t [u8],
+    pub name: Option<&'t [u8]>,
+}
+
+impl Import<'_> {
+    /// Whether it brings a name into a scope, if the package declares that.
+    pub(crate) fn brings(&self, name: &[u8], into: ScopeId) -> bool {
+        let named = match self.name {
+            None => true,
+            Some(only) => only == name,
+        };
+        named && self.into == into
+    }
+}

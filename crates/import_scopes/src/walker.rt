@@ -7,7 +7,7 @@ use crate::passing::{
     after_name, assertion_brackets, first_symbol, is_keyword, is_symbol, kind_at, past_action,
     past_brackets, past_item, past_left_out, past_statement, past_word, value_end, value_start,
 };
-use crate::scope::{DefaultClock, Scope, ScopeId};
+use crate::scope::{DefaultClock, Import, Scope, ScopeId};
 use crate::status::{Assertion, AssertionId, Mark, Note, NoteKind, Status};
 use crate::variables::is_lifetime;
 use import_tokens::{Keyword, Kind, Symbol, Token};
@@ -18,6 +18,7 @@ use std::alloc::{AllocError, Global};
 #[derive(Drop)]
 pub(crate) struct Found<'t> {
     pub scopes: Vec<Scope<'t>>,
+    pub imports: Vec<Import<'t>>,
     pub declarations: Vec<Declaration<'t>>,
     pub assertions: Vec<Assertion<'t>>,
     pub notes: Vec<Note<'t>>,
@@ -74,6 +75,7 @@ impl<'t> Walker<'t> {
             scope: ScopeId(0),
             found: Found {
                 scopes,
+                imports: Vec::new(alloc),
                 declarations: Vec::new(alloc),
                 assertions: Vec::new(alloc),
                 notes: Vec::new(alloc),
@@ -159,8 +161,31 @@ impl<'t> Walker<'t> {
         self.text(self.at) == b"defparam".as_slice()
     }
 
+    /// Takes note of what is imported from one place up to another.
+    fn imports(&mut self, start: usize, end: usize) -> Result<(), AllocError> {
+        for index in start..end {
+            let mark = index.saturating_add(1);
+            let named = mark.saturating_add(1);
+            if self.is_name(index) && is_symbol(self.tokens, mark, Symbol::Scope) {
+                let name = self.is_name(named).then_some(self.text(named));
+                self.found.imports.push(Import {
+                    into: self.scope,
+                    package: self.text(index),
+                    name,
+                })?;
+            }
+        }
+        Ok(())
+    }
+
     /// One item of a scope (annex A.1.4).
     fn item(&mut self, kind: Kind) -> Result<(), AllocError> {
+        if self.text(self.at) == b"import".as_slice() {
+            let end = past_item(self.tokens, self.at);
+            self.imports(self.at, end)?;
+            self.at = end;
+            return Ok(());
+        }
         if self.overrides_parameters() {
             self.note(NoteKind::Parameters)?;
             self.at = past_item(self.tokens, self.at);
@@ -343,7 +368,9 @@ impl<'t> Walker<'t> {
         if is_checker {
             self.found.checkers.push(name)?;
         }
-        let start = past_imports(self.tokens, place.saturating_add(1));
+        let front = place.saturating_add(1);
+        let start = past_imports(self.tokens, front);
+        self.imports(front, start)?;
         let end = past_item(self.tokens, start);
         self.parameters(start, end)?;
         self.ports(start, end)?;
