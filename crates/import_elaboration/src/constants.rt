@@ -157,13 +157,24 @@ impl<'f, 't> Opener<'f, 't> {
     }
 
     /// Whether an operator of a value may be folded by the low bits of its sides; none where it
-    /// may not be folded.
+    /// may not be folded, as where a side hasn't 32 bits.
     fn by_low_bits(&self, id: ValueId) -> Option<bool> {
         match self.made.values.get(id.0)?.value {
             Value::Infix(operator, first, second) if moves_down(operator) => {
-                let _first = self.number_of(first)?;
-                let _second = self.number_of(second)?;
-                Some(false)
+                let first = self.number_of(first)?;
+                let second = self.number_of(second)?;
+                if first.width == 32 && second.width == 32 {
+                    return Some(false);
+                }
+                None
+            }
+            Value::Infix(_, first, second) => {
+                let first = self.measured(first, MOST_DEPTH)?;
+                let second = self.measured(second, MOST_DEPTH)?;
+                if first.width == 32 && second.width == 32 {
+                    return Some(true);
+                }
+                None
             }
             _ => Some(true),
         }

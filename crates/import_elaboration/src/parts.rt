@@ -78,6 +78,7 @@ impl<'f, 't> Opener<'f, 't> {
         }
         self.need_clock();
         let value = self.value(id, environment, depth - 1)?;
+        let value = self.settled(value)?;
         self.keep_part(Part::Boolean(value), true, at)
     }
 
