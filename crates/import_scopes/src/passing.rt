@@ -397,7 +397,7 @@ fn else_or_end(tokens: &[Token], start: usize) -> usize {
     let follows = is_symbol(tokens, end, Symbol::Semicolon)
         && is_keyword(tokens, next, Keyword::Else);
     match kind_at(tokens, start) {
-        Kind::Keyword(_) => after,
+        Kind::Keyword(_) | Kind::Symbol(_) => after,
         _ if follows => next,
         _ => after,
     }
