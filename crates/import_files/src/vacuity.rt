@@ -76,9 +76,9 @@ fn is_known(booleans: &[bool], id: PartId) -> bool {
     }
 }
 
-/// Whether a count is one number, and that one.
-fn is_exactly(count: Count, number: u32) -> bool {
-    count.least == number && count.most == Some(number)
+/// Whether a count is the number 1.
+fn is_once(count: Count) -> bool {
+    count.least == 1 && count.most == Some(1)
 }
 
 /// Whether a part is a boolean, or booleans that are joined to one.
@@ -87,11 +87,7 @@ fn is_boolean(booleans: &[bool], part: Part) -> bool {
         Part::Boolean(_) => true,
         Part::Not(body) | Part::Strength(body) | Part::FirstMatch(body) | Part::Assigned(body, _) =>
             is_known(booleans, body),
-        Part::Repeat(body, count) => is_exactly(count, 1) && is_known(booleans, body),
-        Part::Lead(count, body) => is_exactly(count, 0) && is_known(booleans, body),
-        Part::Delay(first, count, second) => {
-            is_exactly(count, 0) && is_known(booleans, first) && is_known(booleans, second)
-        }
+        Part::Repeat(body, count) => is_once(count) && is_known(booleans, body),
         Part::And(first, second)
         | Part::Or(first, second)
         | Part::Intersect(first, second)

@@ -332,7 +332,7 @@ pub(crate) fn past_left_out(tokens: &[Token], word: usize) -> usize {
     for open in word..word.saturating_add(4) {
         if is_symbol(tokens, open, Symbol::OpenRound) {
             return match assertion_brackets(tokens, open) {
-                Brackets::Closed(end) => match past_bare_macros(tokens, end) {
+                Brackets::Closed(end) => match past_bare_macro(tokens, end) {
                     Some(after) => after,
                     None => past_statement(tokens, word),
                 },
@@ -385,10 +385,28 @@ fn ends_action(tokens: &[Token], index: usize) -> bool {
     ends || begins_item(tokens, index)
 }
 
-/// The place after an action block whose statements are uses of macros alone, which stay as they
-/// are, and whose semicolon is theirs: another item follows.
-fn past_bare_macros(tokens: &[Token], start: usize) -> Option<usize> {
-    let first = past_macro(tokens, start).unwrap_or(start);
+/// The place of the `else` of an action block, or that after the macro which stands before none. A
+/// statement before `else` is a macro, or one that begins with no keyword and has its semicolon.
+fn else_or_end(tokens: &[Token], start: usize) -> usize {
+    let after = past_macro(tokens, start).unwrap_or(start);
+    if is_keyword(tokens, after, Keyword::Else) {
+        return after;
+    }
+    let end = value_end(tokens, start);
+    let next = end.saturating_add(1);
+    let follows = is_symbol(tokens, end, Symbol::Semicolon)
+        && is_keyword(tokens, next, Keyword::Else);
+    match kind_at(tokens, start) {
+        Kind::Keyword(_) | Kind::Symbol(_) => after,
+        _ if follows => next,
+        _ => after,
+    }
+}
+
+/// The place after an action block at whose end the use of a macro stands that stays as it is, and
+/// whose semicolon is the macro's: another item follows.
+fn past_bare_macro(tokens: &[Token], start: usize) -> Option<usize> {
+    let first = else_or_end(tokens, start);
     let end = if is_keyword(tokens, first, Keyword::Else) {
         past_macro(tokens, first.saturating_add(1))?
     } else {
@@ -408,7 +426,7 @@ pub(crate) fn past_action(tokens: &[Token], start: usize) -> Option<usize> {
     if begins_item(tokens, start) || begins_no_statement(kind_at(tokens, start)) {
         return None;
     }
-    if let Some(end) = past_bare_macros(tokens, start) {
+    if let Some(end) = past_bare_macro(tokens, start) {
         return Some(end);
     }
     if is_keyword(tokens, start, Keyword::Else) {

@@ -44,21 +44,13 @@ fn alone(tokens: &[Token], start: usize) -> Body {
     }
 }
 
-/// Whether a word may stand in the action block of an assertion that is a body of its own: none
-/// that begins or ends another block, statement or item.
+/// Whether a token may stand in the action block of an assertion that is a body of its own: no
+/// keyword but `else`, so no other block, statement or item begins or ends there.
 fn is_simple(kind: Kind) -> bool {
     match kind {
-        Kind::Keyword(
-            Keyword::Begin
-            | Keyword::End
-            | Keyword::Fork
-            | Keyword::Case
-            | Keyword::CaseX
-            | Keyword::CaseZ
-            | Keyword::If
-            | Keyword::For,
-        ) => false,
-        _ => !begins_assertion(kind) && !ends_scope(kind),
+        Kind::Keyword(keyword) => keyword == Keyword::Else,
+        Kind::End => false,
+        _ => true,
     }
 }
 

@@ -89,16 +89,38 @@ fn other_case(row: usize) -> (&'static [u8], &'static [u8]) {
             b"case (1) 1: begin x; end endcase if (a) begin y; end",
             b"case ( 1 ) 1 : begin x ; end endcase if ( a ) begin y ; end  ",
         ),
-        _ => (
+        11 => (
             b"module m; for (i = 0; i < 2; i++) begin x; endmodule",
             b"module m ; for ( i = 0 ; i < 2 ; i ++ ) begin x ; endmodule  ",
+        ),
+        _ => lone_case(row),
+    }
+}
+
+/// Conditions of assertions without `begin` and `end`; an `else` that may be an assertion's own
+/// leaves them as they are.
+fn lone_case(row: usize) -> (&'static [u8], &'static [u8]) {
+    match row {
+        12 => (
+            b"if (1) r: assert property (a) else b; else s: assert property (c);",
+            b"begin : if r : assert property ( a ) else b ; end begin : else s : assert \
+              property ( c ) ; end  ",
+        ),
+        13 => (
+            b"if (0) assert property (a); else if (1) s: assert property (c);",
+            b"begin : else assert property ( a ) ; end begin : if begin : if s : assert \
+              property ( c ) ; end end  ",
+        ),
+        _ => (
+            b"if (1) r: assert property (a) b; else c;",
+            b"if ( 1 ) r : assert property ( a ) b ; else c ;  ",
         ),
     }
 }
 
 #[test]
 fn writes_constructs_out(rt: HostRuntime) -> Result<(), Fail> {
-    for row in 0..12 {
+    for row in 0..15 {
         let (text, wanted) = case(row);
         let found = written(rt.alloc(), text)?;
         assert!(rt; found.as_slice() == wanted, "row {row}");
