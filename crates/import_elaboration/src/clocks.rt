@@ -60,6 +60,13 @@ impl<'f, 't> Opener<'f, 't> {
         }
     }
 
+    /// Takes note of a form that needs a clock.
+    pub(crate) fn note_clock(&mut self, form: Form) {
+        if needs_clock(form) {
+            self.need_clock();
+        }
+    }
+
     /// The clock of an assertion that was opened. The default one stands before all that no clock
     /// was written for (16.16), and may be no second one.
     pub(crate) fn whole_clock(&mut self, scope: ScopeId, at: usize) -> Result<Path<'t>, Refused> {
@@ -168,7 +175,7 @@ impl<'f, 't> Opener<'f, 't> {
 }
 
 /// Whether a form counts clocks itself, or looks at a boolean.
-pub(crate) fn needs_clock(form: Form) -> bool {
+fn needs_clock(form: Form) -> bool {
     matches!(
         form,
         Form::Lead(_, _)

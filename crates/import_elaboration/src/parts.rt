@@ -1,6 +1,5 @@
 //! Sequences and properties, opened.
 
-use crate::clocks::needs_clock;
 use crate::environment::{EnvironmentId, declaration_at};
 use crate::meaning::Meaning;
 use crate::opener::{Opener, placed, refused};
@@ -168,6 +167,24 @@ impl<'f, 't> Opener<'f, 't> {
         })
     }
 
+    /// How many clocks lie between two sequences; no more than one is counted by these themselves.
+    #[cycle(opened)]
+    fn delay(
+        &mut self,
+        range: Range,
+        environment: EnvironmentId,
+        depth: usize,
+    ) -> Result<Count, Refused> {
+        if !self.may_go_on(depth) {
+            return Err(refused(Refusal::TooHeavy, 0));
+        }
+        let count = self.count(range, environment, depth - 1)?;
+        if !matches!(count.most, Some(0 | 1)) {
+            self.need_clock();
+        }
+        Ok(count)
+    }
+
     /// A sequence or a property that was read, by its place.
     fn form_at(&self, id: FormId) -> FormNode {
         match self.parser.trees().forms.get(id.0) {
@@ -210,9 +227,7 @@ impl<'f, 't> Opener<'f, 't> {
         if !self.may_go_on(depth) {
             return Err(refused(Refusal::TooHeavy, at));
         }
-        if needs_clock(node.form) {
-            self.need_clock();
-        }
+        self.note_clock(node.form);
         let part = match node.form {
             Form::Boolean(expression) => {
                 return self.boolean(expression, environment, false, depth - 1);
@@ -223,10 +238,7 @@ impl<'f, 't> Opener<'f, 't> {
             }
             Form::Delay(first, range, second) => {
                 let first = self.sequence(first, environment, depth - 1)?;
-                let count = self.count(range, environment, depth - 1)?;
-                if !matches!(count.most, Some(0 | 1)) {
-                    self.need_clock();
-                }
+                let count = self.delay(range, environment, depth - 1)?;
                 Part::Delay(first, count, self.sequence(second, environment, depth - 1)?)
             }
             Form::Repeat(body, range) => {

@@ -75,19 +75,16 @@ impl<'f, 't> Opener<'f, 't> {
                 self.keep_conditional(condition, first, second, at)
             }
             Expression::System(name, list) => {
-                let list = self.values(list, environment, at, depth - 1)?;
-                self.settle_list(list)?;
+                let list = self.lone_values(list, environment, at, depth - 1)?;
                 self.keep_system(name, list, at)
             }
             Expression::Concatenation(list) => {
-                let list = self.values(list, environment, at, depth - 1)?;
-                self.settle_list(list)?;
+                let list = self.lone_values(list, environment, at, depth - 1)?;
                 self.keep(Value::Concatenation(list), at)
             }
             Expression::Replication(count, list) => {
                 let count = self.constant(count, environment, depth - 1)?;
-                let list = self.values(list, environment, at, depth - 1)?;
-                self.settle_list(list)?;
+                let list = self.lone_values(list, environment, at, depth - 1)?;
                 self.keep(Value::Replication(count, list), at)
             }
             Expression::Inside(value, list) => {
@@ -123,8 +120,7 @@ impl<'f, 't> Opener<'f, 't> {
             }
             Expression::Index(base, index) => {
                 let base = self.base(base, environment, depth - 1)?;
-                let index = self.value(index, environment, depth - 1)?;
-                Value::Index(base, self.settled(index)?)
+                Value::Index(base, self.lone_value(index, environment, depth - 1)?)
             }
             Expression::Slice(base, high, low) => {
                 let base = self.base(base, environment, depth - 1)?;
@@ -133,14 +129,12 @@ impl<'f, 't> Opener<'f, 't> {
             }
             Expression::PartUp(base, start, width) => {
                 let base = self.base(base, environment, depth - 1)?;
-                let start = self.value(start, environment, depth - 1)?;
-                let start = self.settled(start)?;
+                let start = self.lone_value(start, environment, depth - 1)?;
                 Value::PartUp(base, start, self.constant(width, environment, depth - 1)?)
             }
             Expression::PartDown(base, start, width) => {
                 let base = self.base(base, environment, depth - 1)?;
-                let start = self.value(start, environment, depth - 1)?;
-                let start = self.settled(start)?;
+                let start = self.lone_value(start, environment, depth - 1)?;
                 Value::PartDown(base, start, self.constant(width, environment, depth - 1)?)
             }
             _ => return Err(refused(Refusal::Outside, at)),
@@ -166,6 +160,38 @@ impl<'f, 't> Opener<'f, 't> {
             return Err(refused(Refusal::Outside, at));
         }
         Ok(base)
+    }
+
+    /// A value that stands alone (11.6.1).
+    #[cycle(opened)]
+    fn lone_value(
+        &mut self,
+        id: ExpressionId,
+        environment: EnvironmentId,
+        depth: usize,
+    ) -> Result<ValueId, Refused> {
+        if !self.may_go_on(depth) {
+            return Err(refused(Refusal::TooHeavy, self.expression_at(id).at));
+        }
+        let value = self.value(id, environment, depth - 1)?;
+        self.settled(value)
+    }
+
+    /// The members of a list, of which each stands alone.
+    #[cycle(opened)]
+    fn lone_values(
+        &mut self,
+        list: ExpressionList,
+        environment: EnvironmentId,
+        at: usize,
+        depth: usize,
+    ) -> Result<ValueList, Refused> {
+        if !self.may_go_on(depth) {
+            return Err(refused(Refusal::TooHeavy, at));
+        }
+        let list = self.values(list, environment, at, depth - 1)?;
+        self.settle_list(list)?;
+        Ok(list)
     }
 
     /// The members of a list.

@@ -110,3 +110,12 @@ decreases-shape l = l.depth
 
 abbrev pub decreases-whole_shape : goal.decreases-whole_shape
 decreases-whole_shape l = l.depth
+
+abbrev pub decreases-lone_value : goal.decreases-lone_value
+decreases-lone_value l = l.depth
+
+abbrev pub decreases-lone_values : goal.decreases-lone_values
+decreases-lone_values l = l.depth
+
+abbrev pub decreases-delay : goal.decreases-delay
+decreases-delay l = l.depth
