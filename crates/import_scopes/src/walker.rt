@@ -161,18 +161,35 @@ impl<'t> Walker<'t> {
         self.text(self.at) == b"defparam".as_slice()
     }
 
+    /// Whether names of packages are imported there (26.3).
+    fn imports_names(&self) -> bool {
+        self.text(self.at) == b"import".as_slice()
+    }
+
+    /// The import of a package that begins at a name, if one does.
+    fn import_at(&self, index: usize) -> Option<Import<'t>> {
+        let mark = index.saturating_add(1);
+        let named = mark.saturating_add(1);
+        if !self.is_name(index) || !is_symbol(self.tokens, mark, Symbol::Scope) {
+            return None;
+        }
+        let name = if self.is_name(named) {
+            Some(self.text(named))
+        } else {
+            None
+        };
+        Some(Import {
+            into: self.scope,
+            package: self.text(index),
+            name,
+        })
+    }
+
     /// Takes note of what is imported from one place up to another.
     fn imports(&mut self, start: usize, end: usize) -> Result<(), AllocError> {
         for index in start..end {
-            let mark = index.saturating_add(1);
-            let named = mark.saturating_add(1);
-            if self.is_name(index) && is_symbol(self.tokens, mark, Symbol::Scope) {
-                let name = self.is_name(named).then_some(self.text(named));
-                self.found.imports.push(Import {
-                    into: self.scope,
-                    package: self.text(index),
-                    name,
-                })?;
+            if let Some(import) = self.import_at(index) {
+                self.found.imports.push(import)?;
             }
         }
         Ok(())
@@ -180,9 +197,10 @@ impl<'t> Walker<'t> {
 
     /// One item of a scope (annex A.1.4).
     fn item(&mut self, kind: Kind) -> Result<(), AllocError> {
-        if self.text(self.at) == b"import".as_slice() {
-            let end = past_item(self.tokens, self.at);
-            self.imports(self.at, end)?;
+        if self.imports_names() {
+            let start = self.at;
+            let end = past_item(self.tokens, start);
+            self.imports(start, end)?;
             self.at = end;
             return Ok(());
         }
