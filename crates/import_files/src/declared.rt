@@ -78,8 +78,14 @@ fn range_cause(
     }
 }
 
+/// Whether two ranges have the same lowest bit, and at the same end.
+fn ends_alike(first: (u32, u32), second: (u32, u32)) -> bool {
+    let turned = (first.0 < first.1) == (second.0 < second.1);
+    turned && first.0.min(first.1) == second.0.min(second.1)
+}
+
 /// Why selects of a vector whose range is by a parameter or a type can't be read, if they can't:
-/// an instance may have other numbers, and has the same end at the left.
+/// an instance may have another width, and has the same lowest bit.
 fn direction_cause(
     range: (u32, u32),
     known: Option<DumpSignal<'_>>,
@@ -90,10 +96,10 @@ fn direction_cause(
         None => None,
     };
     match told {
-        Some(found) if (found.0 < found.1) == (range.0 < range.1) => None,
+        Some(found) if ends_alike(found, range) => None,
         Some(_) => Some((
             "Range",
-            "the file declares it with its lowest bit at the other end: give its bits wires",
+            "the file declares it with another lowest bit than the dump: give its bits wires",
         )),
         None if range.1 == 0 => None,
         None => Some((
