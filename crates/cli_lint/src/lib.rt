@@ -3,7 +3,7 @@
 //! ```text
 //! let refused = lint_one(alloc, &mut dump, text, &origin, &ports, &mut out)?;
 //! let rest = rest_over(alloc, &dump, text, &origin)?;  // rest.told, and rest.text: what is left
-//! let why = unjudged(text, left);                      // why that isn't to be judged
+//! let why = why_not_judged(text, left);                // why that isn't to be judged
 //! ```
 //!
 //! Which refusals there are is said by `lint_refusals`; here they are told in the order of their
@@ -28,4 +28,4 @@ mod unjudged;
 pub use fault::LintFault;
 pub use lint::{Rest, lint_one, rest_over};
 pub use lint_notes::PortSaid;
-pub use unjudged::{Unjudged, unjudged};
+pub use unjudged::{Unjudged, why_not_judged};

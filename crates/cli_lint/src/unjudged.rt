@@ -97,6 +97,16 @@ fn has_name(text: &str, name: &str) -> bool {
     false
 }
 
+/// Whether a text is one of some words.
+fn is_one(words: &[&str], text: &str) -> bool {
+    for word in words {
+        if *word == text {
+            return true;
+        }
+    }
+    false
+}
+
 /// How many words of a text are one of these.
 fn count_of(text: &str, words: &[&str]) -> usize {
     let mut from = 0;
@@ -105,7 +115,7 @@ fn count_of(text: &str, words: &[&str]) -> usize {
         let Some(word) = word_from(text, from) else {
             return count;
         };
-        if words.contains(&word.text) {
+        if is_one(words, word.text) {
             count = count.saturating_add(1);
         }
         from = end_of(word);
@@ -113,10 +123,8 @@ fn count_of(text: &str, words: &[&str]) -> usize {
     count
 }
 
-/// Whether a word is a conditional directive.
-fn is_conditional(word: &str) -> bool {
-    ["`ifdef", "`ifndef", "`elsif", "`else", "`endif"].contains(&word)
-}
+/// The words of conditional directives.
+const CONDITIONALS: [&str; 5] = ["`ifdef", "`ifndef", "`elsif", "`else", "`endif"];
 
 /// Whether one word stands right after another, white space between.
 fn follows(text: &str, first: Word<'_>, second: Word<'_>) -> bool {
@@ -126,7 +134,7 @@ fn follows(text: &str, first: Word<'_>, second: Word<'_>) -> bool {
 
 /// What a word that is blanked in what is left changes there, by the word before it.
 fn changed_by(whole: &str, left: &str, before: Word<'_>, word: Word<'_>) -> Option<Unjudged> {
-    if is_conditional(word.text) {
+    if is_one(&CONDITIONALS, word.text) {
         return Some(Unjudged::Conditional);
     }
     if !follows(whole, before, word) {
@@ -144,7 +152,7 @@ fn changed_by(whole: &str, left: &str, before: Word<'_>, word: Word<'_>) -> Opti
 
 /// Why what is left of a text, which has blanks in place of what is refused, isn't judged; none
 /// where it may be.
-pub fn unjudged(whole: &str, left: &str) -> Option<Unjudged> {
+pub fn why_not_judged(whole: &str, left: &str) -> Option<Unjudged> {
     let mut before = Word { at: 0, text: "" };
     for _round in 0..whole.len() {
         let word = word_from(whole, end_of(before))?;

@@ -1,6 +1,6 @@
 //! What is refused of a text, item by item, for reports in other forms.
 
-use cli_lint::{Rest, unjudged};
+use cli_lint::{Rest, why_not_judged};
 use cli_shell::{Refused, shown_lines};
 use std::alloc::{AllocError, Global};
 use std::io::Eprint;
@@ -38,7 +38,7 @@ fn why_unjudged(whole: &str, rest: &Rest) -> Option<&'static str> {
     let Some(left) = &rest.text else {
         return Some(UNCUT);
     };
-    match unjudged(whole, left.as_str()) {
+    match why_not_judged(whole, left.as_str()) {
         None => None,
         Some(why) => Some(why.text()),
     }
