@@ -339,7 +339,7 @@ fn refusal(row: usize) -> Option<(&'static [u8], &'static [u8])> {
         2 => (b"v == 'x", b"XLiteral"),
         3 => (b"$signed(v) > 1", b"Signed"),
         4 => (b"$countones(v) - 3 < 0", b"Signed"),
-        5 => (b"-8'sd1 < 4'sd2", b"Signed"),
+        5 => (b"(a ? -8'sd1 : 8'sd1) < 4'sd2", b"Signed"),
         6 => (b"4'sd15 == $countones(v[3:0])", b"Signed"),
         7 => (b"1.5 < v", b"Real"),
         8 => (b"v == \"abc\"", b"String"),
