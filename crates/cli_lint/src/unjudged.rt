@@ -7,7 +7,7 @@ pub enum Unjudged {
     Conditional,
     /// `default disable iff`, where an assertion has no `disable iff` of its own.
     Disabling,
-    /// A sequence or a counter of which what is left has the name.
+    /// A declaration, as of a sequence, of which what is left has the name.
     Name,
 }
 
@@ -24,8 +24,8 @@ impl Unjudged {
                  assertion, or read the file by --sv"
             }
             Unjudged::Name => {
-                "nothing is judged: the name of a refused sequence or counter is left in the text, \
-                 and would mean something else"
+                "nothing is judged: the name of a refused declaration is left in the text, and \
+                 would mean something else"
             }
         }
     }
@@ -123,6 +123,24 @@ fn count_of(text: &str, words: &[&str]) -> usize {
     count
 }
 
+/// The words before a name that is declared.
+const DECLARERS: [&str; 14] = [
+    "sequence",
+    "counter",
+    "property",
+    "let",
+    "localparam",
+    "parameter",
+    "genvar",
+    "wire",
+    "logic",
+    "reg",
+    "bit",
+    "int",
+    "integer",
+    "byte",
+];
+
 /// The words of conditional directives.
 const CONDITIONALS: [&str; 5] = ["`ifdef", "`ifndef", "`elsif", "`else", "`endif"];
 
@@ -145,7 +163,9 @@ fn changed_by(whole: &str, left: &str, before: Word<'_>, word: Word<'_>) -> Opti
             let judged = count_of(left, &["assert", "assume"]);
             (judged > count_of(left, &["disable"])).then_some(Unjudged::Disabling)
         }
-        "sequence" | "counter" => has_name(left, word.text).then_some(Unjudged::Name),
+        declarer if is_one(&DECLARERS, declarer) => {
+            has_name(left, word.text).then_some(Unjudged::Name)
+        }
         _ => None,
     }
 }

@@ -86,24 +86,39 @@ holders =
     codes "if" ∷ codes "else" ∷ codes "for" ∷ codes "while" ∷ codes "case" ∷ codes "casex"
     ∷ codes "casez" ∷ codes "unique" ∷ codes "priority" ∷ codes "always" ∷ codes "always_comb"
     ∷ codes "always_ff" ∷ codes "always_latch" ∷ codes "initial" ∷ codes "final"
-    ∷ codes "generate" ∷ codes "begin" ∷ codes "class" ∷ codes "function" ∷ codes "task" ∷ []
+    ∷ codes "generate" ∷ codes "begin" ∷ codes "class" ∷ codes "function" ∷ codes "task"
+    ∷ codes "foreach" ∷ codes "fork" ∷ codes "checker" ∷ []
 
 -- what opens a block, which may stand in another
 unfoldable pub block_starts : List (List ℕ)
 block_starts =
     codes "begin" ∷ codes "case" ∷ codes "casex" ∷ codes "casez" ∷ codes "generate"
-    ∷ codes "class" ∷ codes "function" ∷ codes "task" ∷ []
+    ∷ codes "class" ∷ codes "function" ∷ codes "task" ∷ codes "fork" ∷ codes "checker" ∷ []
 
 -- what closes one
 unfoldable pub block_ends : List (List ℕ)
 block_ends =
     codes "end" ∷ codes "endcase" ∷ codes "endgenerate" ∷ codes "endclass"
-    ∷ codes "endfunction" ∷ codes "endtask" ∷ []
+    ∷ codes "endfunction" ∷ codes "endtask" ∷ codes "endchecker" ∷ codes "join"
+    ∷ codes "join_any" ∷ codes "join_none" ∷ []
 
--- how many blocks are open after a token
+-- a bracket, in which a `;` ends nothing
+abbrev pub left_bracket : List (List ℕ)
+left_bracket = codes "(" ∷ []
+
+abbrev pub right_bracket : List (List ℕ)
+right_bracket = codes ")" ∷ []
+
+-- whether a token opens a block or a bracket, and whether it closes one
+abbrev pub opens : Token → Bool
+opens t = is_one block_starts t || is_one left_bracket t
+
+abbrev pub closes : Token → Bool
+closes t = is_one block_ends t || is_one right_bracket t
+
+-- how many blocks and brackets are open after a token
 abbrev pub open_after : ℕ → Token → ℕ
-open_after k t =
-    if is_one block_starts t then k + 1 else (if is_one block_ends t then k - 1 else k)
+open_after k t = if opens t then k + 1 else (if closes t then k - 1 else k)
 
 -- whether what holds items ends with a token: all its blocks are closed
 abbrev pub is_held_end : ℕ → Token → Bool

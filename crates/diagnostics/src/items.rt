@@ -7,7 +7,7 @@ ghost use Rattle.diagnostics.specs.Items.{through, closing_name, block_length, i
 ghost use Rattle.diagnostics.specs.Items.{item_end, is_over, AreEnds, AreItemEnds, item_at};
 ghost use Rattle.diagnostics.specs.Items.{is_start, is_labelled, begins, ends_after};
 ghost use Rattle.diagnostics.specs.Items.{open_after, is_held_end, held_from, is_one, holders};
-ghost use Rattle.diagnostics.specs.Items.{free_length, block_starts, block_ends};
+ghost use Rattle.diagnostics.specs.Items.{free_length, block_starts, block_ends, opens, closes};
 ghost use Rattle.lexer.specs.Cutting.{tokens_of};
 
 use crate::lexable::ends_beside;
@@ -41,7 +41,7 @@ const COLON: [&str; 1] = [":"];
 const JOINTS: [&str; 7] = [":", ".", "-", "(", "assert", "assume", "cover"];
 
 /// What holds other items: they are part of it.
-const HOLDERS: [&str; 20] = [
+const HOLDERS: [&str; 23] = [
     "if",
     "else",
     "for",
@@ -62,22 +62,35 @@ const HOLDERS: [&str; 20] = [
     "class",
     "function",
     "task",
+    "foreach",
+    "fork",
+    "checker",
 ];
 
 /// What opens a block, which may stand in another.
-const BLOCK_STARTS: [&str; 8] = [
-    "begin", "case", "casex", "casez", "generate", "class", "function", "task",
+const BLOCK_STARTS: [&str; 10] = [
+    "begin", "case", "casex", "casez", "generate", "class", "function", "task", "fork", "checker",
 ];
 
 /// What closes one.
-const BLOCK_ENDS: [&str; 6] = [
+const BLOCK_ENDS: [&str; 10] = [
     "end",
     "endcase",
     "endgenerate",
     "endclass",
     "endfunction",
     "endtask",
+    "endchecker",
+    "join",
+    "join_any",
+    "join_none",
 ];
+
+/// A bracket, in which a `;` ends nothing.
+const LEFT_BRACKET: [&str; 1] = ["("];
+
+/// The bracket that closes it.
+const RIGHT_BRACKET: [&str; 1] = [")"];
 
 /// What ends what holds items, where it has no block.
 const SEMICOLON: [&str; 1] = [";"];
@@ -186,15 +199,29 @@ fn closes_block(token: &Token) -> bool
     is_among(&BLOCK_ENDS, token.text)
 }
 
-/// How many blocks are open after a token.
+/// Whether a token opens a block or a bracket.
+fn opens(token: &Token) -> bool
+    ensures { result ≡ opens token.now }
+{
+    opens_block(token) || is_among(&LEFT_BRACKET, token.text)
+}
+
+/// Whether a token closes one.
+fn closes(token: &Token) -> bool
+    ensures { result ≡ closes token.now }
+{
+    closes_block(token) || is_among(&RIGHT_BRACKET, token.text)
+}
+
+/// How many blocks and brackets are open after a token.
 fn open_after(blocks: usize, token: &Token) -> usize
     requires { blocks < 2 ^ 63 }
     ensures { result ≡ open_after blocks token.now }
 {
-    if opens_block(token) {
+    if opens(token) {
         return blocks + 1;
     }
-    if closes_block(token) {
+    if closes(token) {
         return blocks.saturating_sub(1);
     }
     blocks

@@ -110,6 +110,7 @@ fn items_end(rt: HostRuntime) -> Result<(), Fail> {
     assert!(rt; are_ends(alloc, "sequence s; a assert b;", &[13, 23])?);
     assert!(rt; are_ends(alloc, "a.assert b;", &[11])?);
     assert!(rt; are_ends(alloc, "if (a) assert b; assert c;", &[16, 26])?);
+    assert!(rt; are_ends(alloc, "for (a; b; c) assert d; assert e;", &[23, 33])?);
     assert!(rt; are_ends(alloc, "initial begin assert b; end assert c;", &[27, 37])?);
     assert!(rt;
         are_ends(

@@ -159,10 +159,19 @@ impl<'t> File<'t> {
         None
     }
 
-    /// The declaration of a name that is imported into a scope.
+    /// The declaration of a name that is imported into a scope: by itself, or else with all of a
+    /// package (26.3).
     fn imported(&self, scope: ScopeId, name: &str) -> Option<DeclarationId> {
+        match self.brought(scope, name, true) {
+            Some(id) => Some(id),
+            None => self.brought(scope, name, false),
+        }
+    }
+
+    /// The same by imports of names, or by those of packages.
+    fn brought(&self, scope: ScopeId, name: &str, is_named: bool) -> Option<DeclarationId> {
         for import in self.imports.as_slice() {
-            if import.brings(name.as_bytes(), scope) {
+            if import.name.is_some() == is_named && import.brings(name.as_bytes(), scope) {
                 if let Some(id) = self.declared_in(import.package, name) {
                     return Some(id);
                 }

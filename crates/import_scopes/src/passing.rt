@@ -376,11 +376,29 @@ fn past_macro(tokens: &[Token], start: usize) -> Option<usize> {
     }
 }
 
+/// The same, maybe under a condition.
+fn past_guarded_macro(tokens: &[Token], start: usize) -> Option<usize> {
+    if !is_keyword(tokens, start, Keyword::If) {
+        return past_macro(tokens, start);
+    }
+    match assertion_brackets(tokens, start.saturating_add(1)) {
+        Brackets::Closed(end) => past_macro(tokens, end),
+        Brackets::Open(_) => None,
+    }
+}
+
 /// Whether what stands there begins another item, or ends the block round an assertion.
 fn ends_action(tokens: &[Token], index: usize) -> bool {
     let ends = matches!(
         kind_at(tokens, index),
-        Kind::Keyword(Keyword::End | Keyword::EndGenerate | Keyword::Always | Keyword::Default)
+        Kind::Keyword(
+            Keyword::End
+                | Keyword::EndGenerate
+                | Keyword::Always
+                | Keyword::Default
+                | Keyword::If
+                | Keyword::For
+        )
     );
     ends || begins_item(tokens, index)
 }
@@ -388,7 +406,7 @@ fn ends_action(tokens: &[Token], index: usize) -> bool {
 /// The place of the `else` of an action block, or that after the macro which stands before none. A
 /// statement before `else` is a macro, or one that begins with no keyword and has its semicolon.
 fn else_or_end(tokens: &[Token], start: usize) -> usize {
-    let after = past_macro(tokens, start).unwrap_or(start);
+    let after = past_guarded_macro(tokens, start).unwrap_or(start);
     if is_keyword(tokens, after, Keyword::Else) {
         return after;
     }
@@ -403,15 +421,26 @@ fn else_or_end(tokens: &[Token], start: usize) -> usize {
     }
 }
 
+/// How many branches an action block of macros may have.
+const MOST_BRANCHES: usize = 16;
+
+/// The place after the branches of `else` that stand there, each the use of a macro, maybe under a
+/// condition.
+fn past_branches(tokens: &[Token], start: usize) -> Option<usize> {
+    let mut end = start;
+    for _ in 0..MOST_BRANCHES {
+        if !is_keyword(tokens, end, Keyword::Else) {
+            break;
+        }
+        end = past_guarded_macro(tokens, end.saturating_add(1))?;
+    }
+    Some(end)
+}
+
 /// The place after an action block at whose end the use of a macro stands that stays as it is, and
 /// whose semicolon is the macro's: another item follows.
 fn past_bare_macro(tokens: &[Token], start: usize) -> Option<usize> {
-    let first = else_or_end(tokens, start);
-    let end = if is_keyword(tokens, first, Keyword::Else) {
-        past_macro(tokens, first.saturating_add(1))?
-    } else {
-        first
-    };
+    let end = past_branches(tokens, else_or_end(tokens, start))?;
     if end > start && ends_action(tokens, end) {
         return Some(end);
     }

@@ -2,7 +2,8 @@
 
 use crate::declaration::DeclarationKind;
 use crate::passing::{
-    closes, first_symbol, is_symbol, kind_at, opens, past_brackets, past_item, value_end,
+    closes, first_symbol, is_keyword, is_symbol, kind_at, opens, past_brackets, past_item,
+    value_end,
 };
 use crate::walker::Walker;
 use import_tokens::{Keyword, Kind, Symbol, Token};
@@ -127,6 +128,14 @@ impl<'t> Walker<'t> {
         };
         let end = past_item(self.tokens(), start);
         self.declarators(kind, start, end)?;
+        if is_keyword(self.tokens(), start, Keyword::Enum) {
+            let first = start.saturating_add(1);
+            let open = first_symbol(self.tokens(), first, end, Symbol::OpenBrace);
+            let own = self.between(first, open);
+            if is_symbol(self.tokens(), open, Symbol::OpenBrace) {
+                self.members(own, open.saturating_add(1))?;
+            }
+        }
         self.at = end;
         Ok(())
     }

@@ -557,8 +557,18 @@ impl<'t> Walker<'t> {
         Ok(())
     }
 
+    /// What a member of an enumeration is given. A range (6.19.2) stays with its brackets, which
+    /// are no value, so that its uses are refused, and those of the members after it.
+    fn member_body(&self, name: usize, end: usize) -> &'t [Token<'t>] {
+        let sign = name.saturating_add(1);
+        if is_symbol(self.tokens, sign, Symbol::Assign) {
+            return self.between(sign.saturating_add(1), end);
+        }
+        self.between(sign, end)
+    }
+
     /// The members of an enumeration of a type, from a place on.
-    fn members(&mut self, own: &'t [Token<'t>], first: usize) -> Result<(), AllocError> {
+    pub(crate) fn members(&mut self, own: &'t [Token<'t>], first: usize) -> Result<(), AllocError> {
         let mut start = first;
         let mut before = None;
         for _ in first..self.tokens.len() {
@@ -566,7 +576,7 @@ impl<'t> Walker<'t> {
             if !self.is_name(start) {
                 break;
             }
-            let body = self.between(start.saturating_add(2), end);
+            let body = self.member_body(start, end);
             let place = self.found.declarations.len();
             self.declare(DeclarationKind::Member(before), start, own, body)?;
             before = Some(DeclarationId(place));
