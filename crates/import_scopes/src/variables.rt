@@ -70,14 +70,14 @@ fn begins_members(word: &[u8]) -> bool {
 
 /// Where a name stands that is declared, and where what is said of it before its value ends.
 #[derive(Clone, Copy)]
-struct Declarator {
-    name: usize,
-    sign: usize,
+pub(crate) struct Declarator {
+    pub(crate) name: usize,
+    pub(crate) sign: usize,
 }
 
 /// The last name before a place, or before the first `=`, that stands in no brackets; that place
 /// where there is none.
-fn declarator_in(tokens: &[Token], start: usize, end: usize) -> Declarator {
+pub(crate) fn declarator_in(tokens: &[Token], start: usize, end: usize) -> Declarator {
     let mut depth = 0u64;
     let mut name = end;
     for index in start..end {

@@ -9,7 +9,7 @@ use crate::passing::{
 };
 use crate::scope::{DefaultClock, Import, Scope, ScopeId};
 use crate::status::{Assertion, AssertionId, Mark, Note, NoteKind, Status};
-use crate::variables::is_lifetime;
+use crate::variables::{declarator_in, is_lifetime};
 use import_tokens::{Keyword, Kind, Symbol, Token};
 use import_trees::{Expected, Refusal};
 use std::alloc::{AllocError, Global};
@@ -457,14 +457,14 @@ impl<'t> Walker<'t> {
         for _ in first..self.tokens.len() {
             let sign = value_start(self.tokens, start);
             let end = value_end(self.tokens, sign.saturating_add(1));
-            let name = sign.saturating_sub(1);
+            let name = declarator_in(self.tokens, start, sign).name;
             if !is_symbol(self.tokens, sign, Symbol::Assign) || !self.is_name(name) {
                 return Ok(value_end(self.tokens, start));
             }
             if name > start {
                 own = self.between(start, name);
             }
-            let body = self.between(sign.saturating_add(1), end);
+            let body = self.constant_body(name, sign, end);
             self.declare(DeclarationKind::Constant, name, own, body)?;
             if !is_symbol(self.tokens, end, Symbol::Comma) {
                 return Ok(end);
@@ -475,6 +475,16 @@ impl<'t> Walker<'t> {
             }
         }
         Ok(start)
+    }
+
+    /// What a constant is given; of an array its dimensions, which are no value, so that its uses
+    /// are refused.
+    fn constant_body(&self, name: usize, sign: usize, end: usize) -> &'t [Token<'t>] {
+        let after = name.saturating_add(1);
+        if after < sign {
+            return self.between(after, sign);
+        }
+        self.between(sign.saturating_add(1), end)
     }
 
     /// Keeps a declaration whose name stands at a place.
