@@ -68,7 +68,10 @@ const HEADS: [Hint; 44] = [
     ("input", BENCH),
     ("output", BENCH),
     ("expect", "write assert property (@(posedge clk) ..)"),
-    ("endtask", "leave out the word before: it closes nothing here"),
+    (
+        "endtask",
+        "leave out the word before: it closes nothing here",
+    ),
 ];
 
 /// What stands for a file's own frame.
