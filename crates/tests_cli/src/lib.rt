@@ -1,9 +1,8 @@
-//! Tests of `cli`: devices that fail, words, and the lines of faults that no small text or dump
-//! brings. What reports say of dumps and texts is a table, that of `answers_reports`; files of
-//! bytecode are tried in `tests_bytecode`. And tests of compiled assertions: refusals at their
-//! borders (128 booleans, 4,096 instructions, 256 slots, names of 65,535 bytes, 4,096 programs of a
-//! job), programs that are built and run over the same dump, which tell what `check` tells, and
-//! monitors through windows of all sizes.
+//! Tests of `cli`: devices that fail, words, the lines of faults that no small text or dump brings,
+//! and eight assertions by teams and windows of all sizes. What reports say of dumps and texts is a
+//! table, that of `answers_reports`; files of bytecode are tried in `tests_bytecode`. What an
+//! assertion may hold at the most is tried from outside, over the built program
+//! (`scripts/tools/borders.py`).
 //!
 //! They stand above `cli`, so that the gate proves that crate once, and not once more beside its
 //! tests. A test is proved, too, and one that holds a value of many variants over a `?` is dear: it
@@ -23,9 +22,9 @@
 #![tactic(auto)]
 
 #[cfg(test)]
-mod compiled;
-#[cfg(test)]
 mod reports;
+#[cfg(test)]
+mod teams;
 #[cfg(test)]
 mod waves;
 #[cfg(test)]
