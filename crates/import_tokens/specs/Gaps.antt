@@ -27,13 +27,20 @@ IsRun test text from to =
 abbrev pub StaysOnLine : List ℕ → ℕ → ℕ → Type 0
 StaysOnLine text from to = (k : ℕ) → from ≤ k → k < to → slice_index text k ≡ 10 → ⊥
 
+-- The bytes from one place up to another end a line: a line feed, or a carriage return and one.
+pub data IsLineEnd : List ℕ → ℕ → ℕ → Type 0 where
+  line_feed : {text : List ℕ} {from : ℕ} → slice_index text from ≡ 10
+      → IsLineEnd text from (from + 1)
+  with_return : {text : List ℕ} {from : ℕ} → HasPair text from 13 10
+      → IsLineEnd text from (from + 2)
+
 -- The bytes from one place up to another are white space, a comment or an attribute, or the
--- backslash with which a line of a macro's text goes on (22.5.1).
+-- backslash by which a macro's text goes on after the end of this line, and that end (22.5.1).
 pub data IsGap : List ℕ → ℕ → ℕ → Type 0 where
   white : {text : List ℕ} {from to : ℕ} → IsTrue (is_white (slice_index text from))
       → IsRun is_white text (from + 1) to → IsGap text from to
   line_goes_on : {text : List ℕ} {from to : ℕ} → slice_index text from ≡ 92
-      → IsRun is_white text (from + 1) to → IsGap text from to
+      → IsLineEnd text (from + 1) to → IsGap text from to
   line_comment : {text : List ℕ} {from to : ℕ} → HasPair text from 47 47
       → StaysOnLine text (from + 2) to → IsGap text from to
   block_comment : {text : List ℕ} {from to : ℕ} → HasPair text from 47 42 → from + 4 ≤ to

@@ -19,6 +19,14 @@ pub(crate) fn next_piece(pieces: &[Piece], start: usize) -> Option<usize>
     None
 }
 
+/// The name that a token spells: that of an escaped identifier has no backslash (5.6.1).
+pub(crate) fn plain_name(text: &[u8]) -> &[u8] {
+    if text.first() == Some(&b'\\') {
+        return text.get(1..).unwrap_or(b"");
+    }
+    text
+}
+
 /// The place of the name that stands after a directive, if one does.
 fn name_after(pieces: &[Piece], index: usize) -> Option<usize>
     ensures { IfSome result (λ name. (index < name) × (name < length pieces.now)) }
@@ -36,13 +44,13 @@ fn name_after(pieces: &[Piece], index: usize) -> Option<usize>
 /// Whether the macro is defined whose name stands after a directive.
 fn is_defined(pieces: &[Piece], index: usize, macros: &Macros) -> bool {
     match name_after(pieces, index) {
-        Some(name) => macros.has(pieces[name].text),
+        Some(name) => macros.has(plain_name(pieces[name].text)),
         None => false,
     }
 }
 
-/// The place after the name that stands after a directive.
-fn after_name(pieces: &[Piece], index: usize) -> usize
+/// The place after the name or the word that stands after a directive.
+pub(crate) fn after_name(pieces: &[Piece], index: usize) -> usize
     requires { index < length pieces.now }
     ensures { (index < result) × (result ≤ length pieces.now) }
 {

@@ -9,7 +9,7 @@ use crate::keyword::{KEYWORDS, Keyword};
 use crate::number::number_at;
 use crate::piece::{Mark, Shape};
 use crate::runs::{
-    Class, byte_at, close_of, goes_on, is_letter, is_pair, is_white, line_end, name_end, run_end,
+    Class, byte_at, close_of, is_letter, is_pair, is_white, joint_end, line_end, name_end, run_end,
     white_end,
 };
 use crate::symbol::{SYMBOLS, Symbol};
@@ -73,8 +73,8 @@ fn gap_at(text: &[u8], at: usize) -> GapEnd
     if is_white(text[at]) {
         return GapEnd::Ends(white_end(text, at + 1));
     }
-    if goes_on(text, at) {
-        return GapEnd::Ends(white_end(text, at + 1));
+    if let Some(end) = joint_end(text, at) {
+        return GapEnd::Ends(end);
     }
     if is_pair(text, at, b'/', b'/') {
         return GapEnd::Ends(line_end(text, at + 2));

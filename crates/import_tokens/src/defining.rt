@@ -3,7 +3,7 @@
 ghost use Rattle.std.specs.Prelude.{◌+◌, ◌<◌, ◌≤◌, length, IfOk};
 
 use crate::arguments::{arguments_at, symbol_at, text_between};
-use crate::condition::next_piece;
+use crate::condition::{next_piece, plain_name};
 use crate::definition::{Definition, Formal};
 use crate::macros::Macros;
 use crate::nesting::ends_line;
@@ -89,7 +89,7 @@ fn definition_between<'a>(
     let open = name.saturating_add(1);
     if symbol_at(pieces, open) != Some(Symbol::OpenRound) {
         return Ok(Some(Definition {
-            name: named.text,
+            name: plain_name(named.text),
             body: text_between(text, pieces, open, end),
             formals: None,
         }));
@@ -98,7 +98,7 @@ fn definition_between<'a>(
         return Ok(None);
     };
     Ok(Some(Definition {
-        name: named.text,
+        name: plain_name(named.text),
         body: text_between(text, pieces, arguments.after, end),
         formals: Some(formals_of(alloc, arguments.texts.as_slice())?),
     }))
@@ -129,6 +129,6 @@ pub(crate) fn define_at<'a>(
 /// Forgets the macro whose name stands after the directive.
 pub(crate) fn undefine_at(pieces: &[Piece], index: usize, macros: &mut Macros) {
     if let Some(name) = next_piece(pieces, index.saturating_add(1)) {
-        macros.remove(pieces[name].text);
+        macros.remove(plain_name(pieces[name].text));
     }
 }

@@ -14,6 +14,8 @@ pub(crate) enum Directive {
     Undefine,
     UndefineAll,
     Include,
+    /// One that says nothing about assertions, with the word after it.
+    Word,
     /// One that says nothing about assertions, with the rest of its line.
     Line,
     /// One that says nothing, alone.
@@ -33,8 +35,8 @@ pub(crate) fn directive_of(name: &[u8]) -> Directive {
         b"`undef" => Directive::Undefine,
         b"`undefineall" => Directive::UndefineAll,
         b"`include" => Directive::Include,
-        b"`timescale" | b"`default_nettype" | b"`line" | b"`pragma" => Directive::Line,
-        b"`begin_keywords" | b"`unconnected_drive" => Directive::Line,
+        b"`default_nettype" | b"`begin_keywords" | b"`unconnected_drive" => Directive::Word,
+        b"`timescale" | b"`line" | b"`pragma" => Directive::Line,
         b"`resetall" | b"`celldefine" | b"`endcelldefine" => Directive::Alone,
         b"`end_keywords" | b"`nounconnected_drive" => Directive::Alone,
         _ => Directive::Use,

@@ -3,7 +3,7 @@
 ghost use Rattle.std.specs.Prelude.{◌+◌, ◌<◌, ◌≤◌, length, IfOk, IfSome};
 
 use crate::arguments::arguments_at;
-use crate::condition::{after_condition, next_piece};
+use crate::condition::{after_condition, after_name, next_piece};
 use crate::defining::{line_end_from, rest_end};
 use crate::definition::{Definition, Formal};
 use crate::directive::{Directive, directive_at};
@@ -194,7 +194,8 @@ pub(crate) fn after_directive(
     match directive {
         Directive::Alone => index + 1,
         Directive::Define => line_end_from(pieces, index + 1),
-        Directive::Undefine | Directive::Include | Directive::Line => rest_end(pieces, index + 1),
+        Directive::Undefine | Directive::Word => after_name(pieces, index),
+        Directive::Include | Directive::Line => rest_end(pieces, index + 1),
         _ => after_condition(pieces, index, directive, macros),
     }
 }

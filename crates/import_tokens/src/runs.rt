@@ -5,6 +5,7 @@ ghost use Rattle.std.specs.Prelude.{IfSome, false};
 ghost use Rattle.std.specs.List.{list_any};
 ghost use Rattle.std.specs.Bool.{OnTrue};
 ghost use Rattle.import_tokens.specs.Gaps.{is_white, is_name_part, IsRun, StaysOnLine, HasPair};
+ghost use Rattle.import_tokens.specs.Gaps.{IsLineEnd};
 
 /// A class of bytes.
 #[derive(Clone, Copy)]
@@ -136,22 +137,42 @@ pub(crate) fn line_end(text: &[u8], start: usize) -> usize
     ensures stays { StaysOnLine text.now start result }
 {
     for at in start..text.len() {
-        if text[at] == b'\n' || goes_on(text, at) {
+        if text[at] == b'\n' || joint_end(text, at).is_some() {
             return at;
         }
     }
     text.len()
 }
 
-/// Whether a backslash stands there at the end of a line.
-pub(crate) fn goes_on(text: &[u8], at: usize) -> bool
-    requires { at < length text.now }
-    ensures { OnTrue result (slice_index text.now at ≡ 92) }
+/// The byte after the end of a line that stands there.
+fn after_line(text: &[u8], at: usize) -> Option<usize>
+    requires { at ≤ length text.now }
+    ensures inside { IfSome result (λ end. (at < end) × (end ≤ length text.now)) }
+    ensures ends { IfSome result (λ end. IsLineEnd text.now at end) }
 {
-    text[at] == b'\\'
-        && (byte_at(text, at.saturating_add(1)) == b'\n'
-            || byte_at(text, at.saturating_add(1)) == b'\r'
-                && byte_at(text, at.saturating_add(2)) == b'\n')
+    if at >= text.len() {
+        return None;
+    }
+    if text[at] == b'\n' {
+        return Some(at + 1);
+    }
+    if is_pair(text, at, b'\r', b'\n') {
+        return Some(at + 2);
+    }
+    None
+}
+
+/// The byte after a backslash and the end of its line, with which a macro's text goes on.
+pub(crate) fn joint_end(text: &[u8], at: usize) -> Option<usize>
+    requires { at < length text.now }
+    ensures inside { IfSome result (λ end. (at < end) × (end ≤ length text.now)) }
+    ensures backslash { IfSome result (λ end. slice_index text.now at ≡ 92) }
+    ensures ends { IfSome result (λ end. IsLineEnd text.now (at + 1) end) }
+{
+    if text[at] != b'\\' {
+        return None;
+    }
+    after_line(text, at + 1)
 }
 
 /// The end of the first such pair.

@@ -71,16 +71,25 @@ fn case(row: usize) -> (&'static [u8], &'static [u8]) {
             b"// `else\n/* `endif */ \"`ifdef\" `ifdef NO\n`define D `endif\ng `endif h",
             b"\"`ifdef\" h  ",
         ),
-        _ => (
+        14 => (
             b"`define E(x) x\n`E(a `ifdef SIZE , b) `endif",
             b"`E ( a , b )  ",
+        ),
+        15 => (b"`define M(x) x y \\\n\n`M(a) z", b"a y z  "),
+        16 => (
+            b"`define N p \\\r\n q \\\n  \r\nr `N `define O \\\n// c \\\n s\n`O",
+            b"r p q s  ",
+        ),
+        _ => (
+            b"`define T 1\n`undef T `T `default_nettype none w `ifdef \\SIZE v `endif",
+            b"`T w v  ",
         ),
     }
 }
 
 #[test]
 fn cuts_texts(rt: HostRuntime) -> Result<(), Fail> {
-    for row in 0..15 {
+    for row in 0..18 {
         let (text, wanted) = case(row);
         let found = read(rt.alloc(), text)?;
         assert!(rt; found.as_slice() == wanted, "row {row}");

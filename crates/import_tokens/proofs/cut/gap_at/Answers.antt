@@ -9,11 +9,11 @@ returns-then-is_white c = (
   white (search rules) c.white_end.ensures.run,
 )
 
-pub returns-then-goes_on : goal.returns-then-goes_on
-returns-then-goes_on c = (
-  omega (arith, c.white_end-then-goes_on.ensures.inside),
-  c.white_end-then-goes_on.ensures.inside.1,
-  line_goes_on (search rules) c.white_end-then-goes_on.ensures.run,
+pub returns-in-Some : goal.returns-in-Some
+returns-in-Some c = (
+  omega (arith, c.in-Some.ensures.inside),
+  c.in-Some.ensures.inside.1,
+  line_goes_on c.in-Some.ensures.backslash c.in-Some.ensures.ends,
 )
 
 pub returns-then-is_pair : goal.returns-then-is_pair
