@@ -66,6 +66,3 @@ pub use macros::Macros;
 pub use place::{Place, place_of};
 pub use symbol::Symbol;
 pub use token::{Kind, MacroFault, Token};
-
-#[cfg(test)]
-mod tests;
