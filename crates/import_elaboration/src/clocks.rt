@@ -141,8 +141,9 @@ impl<'f, 't> Opener<'f, 't> {
         match clock {
             DefaultClock::Event(tokens) => self.event_path(tokens, at),
             DefaultClock::Block(name) => match self.file.declaration_of(owner, name) {
-                Some(id) => self.block_path(id, at),
-                None => Err(refused(Refusal::ClockForm, at)),
+                Ok(Some(id)) => self.block_path(id, at),
+                Ok(None) => Err(refused(Refusal::ClockForm, at)),
+                Err(refusal) => Err(refused(refusal, at)),
             },
         }
     }

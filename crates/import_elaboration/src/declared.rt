@@ -72,6 +72,7 @@ impl<'f, 't> Opener<'f, 't> {
             }
             Meaning::NoActual => Err(refused(Refusal::Arguments, at)),
             Meaning::LocalFormal => Err(refused(Refusal::Outside, at)),
+            Meaning::Refused(refusal) => Err(refused(refusal, at)),
             Meaning::Declared(id) => {
                 self.declared_value(id, actuals, environment, at, depth - 1)
             }
@@ -223,6 +224,7 @@ impl<'f, 't> Opener<'f, 't> {
             DeclarationKind::Property | DeclarationKind::Sequence => {
                 Err(refused(Refusal::Expected(Expected::Expression), at))
             }
+            DeclarationKind::Function => Err(refused(Refusal::Function, at)),
             DeclarationKind::Clocking
             | DeclarationKind::Type
             | DeclarationKind::Port
@@ -320,6 +322,9 @@ impl<'f, 't> Opener<'f, 't> {
     ) -> Result<Number, Refused> {
         if !self.may_go_on(depth) {
             return Err(refused(Refusal::TooHeavy, at));
+        }
+        if declaration.body.is_empty() {
+            return Err(refused(Refusal::NoValue, at));
         }
         let inside = self.enter_scope(declaration, caller, at)?;
         let (expression, _taken) = self.expression(declaration.body, at)?;

@@ -6,7 +6,7 @@ use crate::locals::local_in;
 use crate::opener::Opener;
 use import_scopes::{DeclarationId, DeclarationKind};
 use import_tokens::Token;
-use import_trees::{Path, plain_name};
+use import_trees::{Path, Refusal, plain_name};
 
 /// What is given for a formal argument.
 #[derive(Clone, Copy)]
@@ -33,6 +33,8 @@ pub(crate) enum Meaning<'t> {
     Variable(DeclarationId),
     /// Nothing that the file declares.
     Signal,
+    /// What the file declares in a way that isn't taken.
+    Refused(Refusal),
 }
 
 impl<'f, 't> Opener<'f, 't> {
@@ -51,8 +53,10 @@ impl<'f, 't> Opener<'f, 't> {
         if let Some(place) = formal_place(here.formals, name) {
             return self.actual(place, name, environment);
         }
-        let Some(id) = self.file.declaration_of(here.scope, name) else {
-            return Meaning::Signal;
+        let id = match self.file.declaration_of(here.scope, name) {
+            Ok(Some(id)) => id,
+            Ok(None) => return Meaning::Signal,
+            Err(refusal) => return Meaning::Refused(refusal),
         };
         match declaration_at(self.file, id) {
             Some(declaration) if is_variable(declaration.kind) => Meaning::Variable(id),

@@ -238,7 +238,9 @@ impl<'f, 't> Opener<'f, 't> {
             return None;
         };
         let here = self.environment(environment)?;
-        let id = self.file.declaration_of(here.scope, name.text)?;
+        let Ok(Some(id)) = self.file.declaration_of(here.scope, name.text) else {
+            return None;
+        };
         let declaration = declaration_at(self.file, id)?;
         if declaration.kind == DeclarationKind::Type {
             return Some(declaration);

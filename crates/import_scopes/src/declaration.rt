@@ -16,11 +16,14 @@ pub enum DeclarationKind {
     Sequence,
     /// Its body is an expression (11.12).
     Let,
-    /// A parameter, whose body is its value, and whose formals are the tokens of its type (6.20).
+    /// A parameter, whose body is its value, if it has one, and whose formals are the tokens of its
+    /// type (6.20).
     Constant,
     /// A member of an enumeration: its value, or none where it is one more than that of the member
     /// before it (6.19). Its formals are the tokens of the enumeration's type.
     Member(Option<DeclarationId>),
+    /// A function, which no expression may call (13.4).
+    Function,
     /// A clocking block, whose body is its event, after the `@` (14.3).
     Clocking,
     /// A type of a name: its formals are the tokens of the type, its body is the ranges after the

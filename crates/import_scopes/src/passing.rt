@@ -66,7 +66,7 @@ pub(crate) fn closes(symbol: Symbol) -> bool {
 }
 
 /// The depth of brackets after a token.
-fn deeper(depth: u64, kind: Kind) -> u64 {
+pub(crate) fn deeper(depth: u64, kind: Kind) -> u64 {
     match kind {
         Kind::Symbol(symbol) if opens(symbol) => depth.saturating_add(1),
         Kind::Symbol(symbol) if closes(symbol) => depth.saturating_sub(1),
@@ -148,79 +148,6 @@ pub(crate) fn past_item(tokens: &[Token], start: usize) -> usize
     tokens.len()
 }
 
-/// How a word nests statements: begins a block, ends one, or neither.
-#[derive(Clone, Copy)]
-enum Nesting {
-    Begins,
-    Ends,
-    Neither,
-}
-
-/// Whether `fork` stands there as the end of `wait fork` or `disable fork` (9.6.1, 9.6.3).
-fn ends_fork(tokens: &[Token], index: usize) -> bool {
-    let before = index.saturating_sub(1);
-    match tokens.get(before) {
-        Some(token) if before < index && is_keyword(tokens, index, Keyword::Fork) => {
-            token.text == b"wait".as_slice() || token.text == b"disable".as_slice()
-        }
-        _ => false,
-    }
-}
-
-/// How the token at a place nests statements.
-fn nesting_at(tokens: &[Token], index: usize) -> Nesting {
-    if ends_fork(tokens, index) {
-        return Nesting::Neither;
-    }
-    nesting_of(kind_at(tokens, index))
-}
-
-fn nesting_of(kind: Kind) -> Nesting {
-    match kind {
-        Kind::Keyword(
-            Keyword::Begin | Keyword::Fork | Keyword::Case | Keyword::CaseX | Keyword::CaseZ,
-        ) => Nesting::Begins,
-        Kind::Keyword(
-            Keyword::End | Keyword::Join | Keyword::JoinAny | Keyword::JoinNone | Keyword::EndCase,
-        ) => Nesting::Ends,
-        _ => Nesting::Neither,
-    }
-}
-
-/// Whether a statement ends with a token, where blocks and brackets lie so deep after it.
-fn ends_statement(kind: Kind, blocks: u64, brackets: u64) -> bool {
-    let last = match kind {
-        Kind::Symbol(symbol) => symbol == Symbol::Semicolon,
-        _ => matches!(nesting_of(kind), Nesting::Ends),
-    };
-    last && blocks == 0 && brackets == 0
-}
-
-/// The place after a statement, with its `else` (12.4) and the name of its block.
-pub fn past_statement(tokens: &[Token], start: usize) -> usize
-    ensures { result ≤ length tokens.now }
-{
-    let mut blocks = 0u64;
-    let mut brackets = 0u64;
-    for index in start..tokens.len() {
-        let kind = tokens[index].kind;
-        if ends_scope(kind) {
-            return index;
-        }
-        brackets = deeper(brackets, kind);
-        match nesting_at(tokens, index) {
-            Nesting::Begins => blocks = blocks.saturating_add(1),
-            Nesting::Ends => blocks = blocks.saturating_sub(1),
-            Nesting::Neither => {}
-        }
-        let next = after_name(tokens, index.saturating_add(1));
-        if ends_statement(kind, blocks, brackets) && !is_keyword(tokens, next, Keyword::Else) {
-            return next;
-        }
-    }
-    tokens.len()
-}
-
 /// The place after a colon and a name, if they stand there (9.3.4).
 pub fn after_name(tokens: &[Token], index: usize) -> usize
     ensures { result ≤ length tokens.now }
@@ -282,7 +209,7 @@ fn declares(keyword: Keyword) -> bool {
 }
 
 /// Whether an assertion begins there, or a word that is misspelt for one.
-fn is_begun_at(tokens: &[Token], index: usize) -> bool {
+pub(crate) fn is_begun_at(tokens: &[Token], index: usize) -> bool {
     index < tokens.len() && is_begun(tokens, index)
 }
 
@@ -296,7 +223,7 @@ fn gives_default(tokens: &[Token], index: usize) -> bool {
 
 /// Whether an item of its own begins there, so that no assertion goes on, and no action block
 /// begins.
-fn begins_item(tokens: &[Token], index: usize) -> bool {
+pub(crate) fn begins_item(tokens: &[Token], index: usize) -> bool {
     let kind = kind_at(tokens, index);
     let declared = match kind {
         Kind::Keyword(keyword) => declares(keyword),
@@ -324,142 +251,4 @@ pub(crate) fn assertion_brackets(tokens: &[Token], open: usize) -> Brackets {
         }
     }
     Brackets::Open(tokens.len())
-}
-
-/// The place after an assertion that is not read, or at the item that begins before its brackets
-/// close.
-pub(crate) fn past_left_out(tokens: &[Token], word: usize) -> usize {
-    for open in word..word.saturating_add(4) {
-        if is_symbol(tokens, open, Symbol::OpenRound) {
-            return match assertion_brackets(tokens, open) {
-                Brackets::Closed(end) => match past_bare_macro(tokens, end) {
-                    Some(after) => after,
-                    None => past_statement(tokens, word),
-                },
-                Brackets::Open(next) => next,
-            };
-        }
-    }
-    past_statement(tokens, word)
-}
-
-/// Whether a sign that can begin no statement stands there (annex A.6.4).
-fn begins_no_statement(kind: Kind) -> bool {
-    match kind {
-        Kind::Symbol(symbol) => !matches!(
-            symbol,
-            Symbol::Semicolon
-                | Symbol::OpenBrace
-                | Symbol::OpenPattern
-                | Symbol::Increment
-                | Symbol::Decrement
-                | Symbol::Arrow
-                | Symbol::AtSign
-                | Symbol::Hash
-                | Symbol::Delay
-        ),
-        _ => false,
-    }
-}
-
-/// The place after the use of a macro that stays as it is and what is given to it, if one stands
-/// there.
-fn past_macro(tokens: &[Token], start: usize) -> Option<usize> {
-    let open = start.saturating_add(1);
-    match kind_at(tokens, start) {
-        Kind::Macro(_) if !is_symbol(tokens, open, Symbol::OpenRound) => Some(open),
-        Kind::Macro(_) => match assertion_brackets(tokens, open) {
-            Brackets::Closed(end) => Some(end),
-            Brackets::Open(_) => None,
-        },
-        _ => None,
-    }
-}
-
-/// The same, maybe under a condition.
-fn past_guarded_macro(tokens: &[Token], start: usize) -> Option<usize> {
-    if !is_keyword(tokens, start, Keyword::If) {
-        return past_macro(tokens, start);
-    }
-    match assertion_brackets(tokens, start.saturating_add(1)) {
-        Brackets::Closed(end) => past_macro(tokens, end),
-        Brackets::Open(_) => None,
-    }
-}
-
-/// Whether what stands there begins another item, or ends the block round an assertion.
-fn ends_action(tokens: &[Token], index: usize) -> bool {
-    let ends = matches!(
-        kind_at(tokens, index),
-        Kind::Keyword(
-            Keyword::End
-                | Keyword::EndGenerate
-                | Keyword::Always
-                | Keyword::Default
-                | Keyword::If
-                | Keyword::For
-        )
-    );
-    ends || begins_item(tokens, index)
-}
-
-/// The place of the `else` of an action block, or that after the macro which stands before none. A
-/// statement before `else` is a macro, or one that begins with no keyword and has its semicolon.
-fn else_or_end(tokens: &[Token], start: usize) -> usize {
-    let after = past_guarded_macro(tokens, start).unwrap_or(start);
-    if is_keyword(tokens, after, Keyword::Else) {
-        return after;
-    }
-    let end = value_end(tokens, start);
-    let next = end.saturating_add(1);
-    let follows = is_symbol(tokens, end, Symbol::Semicolon)
-        && is_keyword(tokens, next, Keyword::Else);
-    match kind_at(tokens, start) {
-        Kind::Keyword(_) | Kind::Symbol(_) => after,
-        _ if follows => next,
-        _ => after,
-    }
-}
-
-/// How many branches an action block of macros may have.
-const MOST_BRANCHES: usize = 16;
-
-/// The place after the branches of `else` that stand there, each the use of a macro, maybe under a
-/// condition.
-fn past_branches(tokens: &[Token], start: usize) -> Option<usize> {
-    let mut end = start;
-    for _ in 0..MOST_BRANCHES {
-        if !is_keyword(tokens, end, Keyword::Else) {
-            break;
-        }
-        end = past_guarded_macro(tokens, end.saturating_add(1))?;
-    }
-    Some(end)
-}
-
-/// The place after an action block at whose end the use of a macro stands that stays as it is, and
-/// whose semicolon is the macro's: another item follows.
-fn past_bare_macro(tokens: &[Token], start: usize) -> Option<usize> {
-    let end = past_branches(tokens, else_or_end(tokens, start))?;
-    if end > start && ends_action(tokens, end) {
-        return Some(end);
-    }
-    None
-}
-
-/// The place after the action block of an assertion (16.14.1); none where its semicolon is missing.
-pub(crate) fn past_action(tokens: &[Token], start: usize) -> Option<usize> {
-    if is_symbol(tokens, start, Symbol::Semicolon) {
-        return Some(start.saturating_add(1));
-    }
-    if begins_item(tokens, start) || begins_no_statement(kind_at(tokens, start)) {
-        return None;
-    }
-    if let Some(end) = past_bare_macro(tokens, start) {
-        return Some(end);
-    }
-    if is_keyword(tokens, start, Keyword::Else) {
-        return Some(past_statement(tokens, start.saturating_add(1)));
-    }
-    Some(past_statement(tokens, start))
 }

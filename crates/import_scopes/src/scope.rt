@@ -29,9 +29,12 @@ pub struct Scope<'t> {
     pub disable: Option<&'t [Token<'t>]>,
     /// Whether it is a block.
     pub is_block: bool,
+    /// Whether it is a package.
+    pub is_package: bool,
 }
 
-/// An import of a package into a scope: of one name, or of all (IEEE 1800-2017, 26.3).
+/// An import of a package into a scope: of one name, or of all (IEEE 1800-2017, 26.3); or an export
+/// of what a package has from another one, `*` where that may be any (26.6).
 #[derive(Clone, Copy)]
 pub(crate) struct Import<'t> {
     pub into: ScopeId,

@@ -1,6 +1,7 @@
 //! Nets, variables and ports of a scope (IEEE 1800-2017, 6.5 to 6.8 and 23.2).
 
 use crate::declaration::DeclarationKind;
+use crate::packages::past_imports;
 use crate::passing::{
     closes, first_symbol, is_keyword, is_symbol, kind_at, opens, past_brackets, past_item,
     value_end,
@@ -68,6 +69,34 @@ fn begins_members(word: &[u8]) -> bool {
     word == b"struct".as_slice() || word == b"union".as_slice()
 }
 
+/// Whether a word before a name is that of an item which declares nothing (10.3, 10.11).
+fn is_no_type(word: &[u8]) -> bool {
+    word == b"assign".as_slice() || word == b"alias".as_slice()
+}
+
+/// The place after all ranges that stand there.
+fn past_ranges(tokens: &[Token], start: usize) -> usize {
+    let mut at = start;
+    for _ in start..tokens.len() {
+        if !is_symbol(tokens, at, Symbol::OpenSquare) {
+            break;
+        }
+        at = past_brackets(tokens, at);
+    }
+    at
+}
+
+/// The place after the name of a type, which may be a package's, and its ranges (6.18, 26.3).
+fn past_type(tokens: &[Token], start: usize) -> usize {
+    let mark = start.saturating_add(1);
+    let end = if is_symbol(tokens, mark, Symbol::Scope) {
+        mark.saturating_add(2)
+    } else {
+        mark
+    };
+    past_ranges(tokens, end)
+}
+
 /// Where a name stands that is declared, and where what is said of it before its value ends.
 #[derive(Clone, Copy)]
 pub(crate) struct Declarator {
@@ -106,15 +135,15 @@ impl<'t> Walker<'t> {
         }
     }
 
-    /// Whether two names stand there of which the second one is declared, and no instance.
+    /// Whether the name of a type and another name stand there, and no instance.
     fn names_type(&self) -> bool {
-        let name = self.at.saturating_add(1);
-        let next = name.saturating_add(1);
+        let name = past_type(self.tokens(), self.at);
+        let next = past_ranges(self.tokens(), name.saturating_add(1));
         let ends = matches!(
             kind_at(self.tokens(), next),
             Kind::Symbol(Symbol::Semicolon | Symbol::Comma | Symbol::Assign)
         );
-        self.is_name(name) && ends
+        self.is_name(name) && ends && !is_no_type(self.text(self.at))
     }
 
     /// An item that declares nets, variables, or ports in a body.
@@ -128,15 +157,28 @@ impl<'t> Walker<'t> {
         };
         let end = past_item(self.tokens(), start);
         self.declarators(kind, start, end)?;
-        if is_keyword(self.tokens(), start, Keyword::Enum) {
-            let first = start.saturating_add(1);
-            let open = first_symbol(self.tokens(), first, end, Symbol::OpenBrace);
-            let own = self.between(first, open);
-            if is_symbol(self.tokens(), open, Symbol::OpenBrace) {
-                self.members(own, open.saturating_add(1))?;
+        self.at = end;
+        self.enumerations(start, end)
+    }
+
+    /// The members of the enumeration that begins at a place, before another one (6.19).
+    fn enumeration(&mut self, word: usize, end: usize) -> Result<(), AllocError> {
+        let first = word.saturating_add(1);
+        let open = first_symbol(self.tokens(), first, end, Symbol::OpenBrace);
+        let own = self.between(first, open);
+        if is_symbol(self.tokens(), open, Symbol::OpenBrace) {
+            self.members(own, open.saturating_add(1))?;
+        }
+        Ok(())
+    }
+
+    /// The members of all enumerations from one place up to another, also inside other types.
+    pub(crate) fn enumerations(&mut self, start: usize, end: usize) -> Result<(), AllocError> {
+        for index in start..end {
+            if is_keyword(self.tokens(), index, Keyword::Enum) {
+                self.enumeration(index, end)?;
             }
         }
-        self.at = end;
         Ok(())
     }
 
@@ -145,7 +187,7 @@ impl<'t> Walker<'t> {
         let first = first_symbol(self.tokens(), start, end, Symbol::OpenRound);
         let has_parameters = is_symbol(self.tokens(), first.saturating_sub(1), Symbol::Hash);
         let open = if has_parameters {
-            past_brackets(self.tokens(), first)
+            past_imports(self.tokens(), past_brackets(self.tokens(), first))
         } else {
             first
         };

@@ -3,11 +3,13 @@
 use crate::brackets::Brackets;
 use crate::construct::{Block, Construct, block_at};
 use crate::declaration::{Declaration, DeclarationId, DeclarationKind};
+use crate::packages::{header_end, past_imports};
 use crate::passing::{
-    after_name, assertion_brackets, first_symbol, is_keyword, is_symbol, kind_at, past_action,
-    past_brackets, past_item, past_left_out, past_statement, past_word, value_end, value_start,
+    after_name, assertion_brackets, is_keyword, is_symbol, kind_at, past_brackets, past_item,
+    past_word, value_end, value_start,
 };
 use crate::scope::{DefaultClock, Import, Scope, ScopeId};
+use crate::statements::{past_action, past_left_out, past_statement};
 use crate::status::{Assertion, AssertionId, Mark, Note, NoteKind, Status};
 use crate::variables::{declarator_in, is_lifetime};
 use import_tokens::{Keyword, Kind, Symbol, Token};
@@ -19,6 +21,7 @@ use std::alloc::{AllocError, Global};
 pub(crate) struct Found<'t> {
     pub scopes: Vec<Scope<'t>>,
     pub imports: Vec<Import<'t>>,
+    pub exports: Vec<Import<'t>>,
     pub declarations: Vec<Declaration<'t>>,
     pub assertions: Vec<Assertion<'t>>,
     pub notes: Vec<Note<'t>>,
@@ -35,8 +38,8 @@ pub(crate) struct Found<'t> {
 pub(crate) struct Walker<'t> {
     tokens: &'t [Token<'t>],
     pub(crate) at: usize,
-    scope: ScopeId,
-    found: Found<'t>,
+    pub(crate) scope: ScopeId,
+    pub(crate) found: Found<'t>,
 }
 
 /// The place after `automatic` or `static`, if one stands there (6.21).
@@ -45,18 +48,6 @@ fn past_lifetime(tokens: &[Token], index: usize) -> usize {
         Some(token) if is_lifetime(token.text) => index.saturating_add(1),
         _ => index,
     }
-}
-
-/// The place after the imports of a header, before its parameters (23.2.1, 26.4).
-fn past_imports(tokens: &[Token], start: usize) -> usize {
-    let mut at = start;
-    for _ in start..tokens.len() {
-        match tokens.get(at) {
-            Some(token) if token.text == b"import".as_slice() => at = past_item(tokens, at),
-            _ => break,
-        }
-    }
-    at
 }
 
 impl<'t> Walker<'t> {
@@ -68,6 +59,7 @@ impl<'t> Walker<'t> {
             clock: None,
             disable: None,
             is_block: false,
+            is_package: false,
         })?;
         Ok(Walker {
             tokens,
@@ -76,6 +68,7 @@ impl<'t> Walker<'t> {
             found: Found {
                 scopes,
                 imports: Vec::new(alloc),
+                exports: Vec::new(alloc),
                 declarations: Vec::new(alloc),
                 assertions: Vec::new(alloc),
                 notes: Vec::new(alloc),
@@ -161,48 +154,13 @@ impl<'t> Walker<'t> {
         self.text(self.at) == b"defparam".as_slice()
     }
 
-    /// Whether names of packages are imported there (26.3).
-    fn imports_names(&self) -> bool {
-        self.text(self.at) == b"import".as_slice()
-    }
-
-    /// The import of a package that begins at a name, if one does.
-    fn import_at(&self, index: usize) -> Option<Import<'t>> {
-        let mark = index.saturating_add(1);
-        let named = mark.saturating_add(1);
-        if !self.is_name(index) || !is_symbol(self.tokens, mark, Symbol::Scope) {
-            return None;
-        }
-        let name = if self.is_name(named) {
-            Some(self.text(named))
-        } else {
-            None
-        };
-        Some(Import {
-            into: self.scope,
-            package: self.text(index),
-            name,
-        })
-    }
-
-    /// Takes note of what is imported from one place up to another.
-    fn imports(&mut self, start: usize, end: usize) -> Result<(), AllocError> {
-        for index in start..end {
-            if let Some(import) = self.import_at(index) {
-                self.found.imports.push(import)?;
-            }
-        }
-        Ok(())
-    }
-
     /// One item of a scope (annex A.1.4).
     fn item(&mut self, kind: Kind) -> Result<(), AllocError> {
         if self.imports_names() {
-            let start = self.at;
-            let end = past_item(self.tokens, start);
-            self.imports(start, end)?;
-            self.at = end;
-            return Ok(());
+            return self.import_item();
+        }
+        if self.exports_names() {
+            return self.export_item();
         }
         if self.overrides_parameters() {
             self.note(NoteKind::Parameters)?;
@@ -271,10 +229,10 @@ impl<'t> Walker<'t> {
                 Ok(())
             }
             Keyword::Parameter | Keyword::LocalParam => {
-                let first = self.at.saturating_add(1);
-                self.at = self.constants(first)?;
-                self.at = past_item(self.tokens, self.at);
-                Ok(())
+                let start = self.at;
+                let last = self.constants(start.saturating_add(1))?;
+                self.at = past_item(self.tokens, last);
+                self.enumerations(start, self.at)
             }
             Keyword::Property => self.declared(DeclarationKind::Property, Keyword::EndProperty),
             Keyword::Sequence => self.declared(DeclarationKind::Sequence, Keyword::EndSequence),
@@ -342,7 +300,10 @@ impl<'t> Walker<'t> {
     fn left_out(&mut self, keyword: Keyword) -> Result<(), AllocError> {
         let start = self.at.saturating_add(1);
         let end = match keyword {
-            Keyword::Function => past_word(self.tokens, start, Keyword::EndFunction),
+            Keyword::Function => {
+                self.function(self.at)?;
+                past_word(self.tokens, start, Keyword::EndFunction)
+            }
             Keyword::Task => past_word(self.tokens, start, Keyword::EndTask),
             Keyword::Class => past_word(self.tokens, start, Keyword::EndClass),
             Keyword::CoverGroup => past_word(self.tokens, start, Keyword::EndGroup),
@@ -371,6 +332,7 @@ impl<'t> Walker<'t> {
             clock: None,
             disable: None,
             is_block,
+            is_package: false,
         })?;
         self.scope = ScopeId(place);
         Ok(())
@@ -386,14 +348,25 @@ impl<'t> Walker<'t> {
         if is_checker {
             self.found.checkers.push(name)?;
         }
+        if is_keyword(self.tokens, self.at, Keyword::Package) {
+            self.becomes_package();
+        }
         let front = place.saturating_add(1);
         let start = past_imports(self.tokens, front);
-        self.imports(front, start)?;
-        let end = past_item(self.tokens, start);
+        let end = header_end(self.tokens, front);
+        self.imports_within(front, end)?;
         self.parameters(start, end)?;
         self.ports(start, end)?;
+        self.enumerations(start, end)?;
         self.at = end;
         Ok(())
+    }
+
+    /// Takes note that the scope that is open is a package.
+    fn becomes_package(&mut self) {
+        if let Some(scope) = self.found.scopes.get_mut(self.scope.0) {
+            scope.is_package = true;
+        }
     }
 
     /// The parameters of a header, of which the first may lack its word (23.2.1).
@@ -449,17 +422,25 @@ impl<'t> Walker<'t> {
         )
     }
 
+    /// The place after the value whose sign stands at a place, or that place where none is given.
+    fn given_end(&self, sign: usize) -> usize {
+        if is_symbol(self.tokens, sign, Symbol::Assign) {
+            return value_end(self.tokens, sign.saturating_add(1));
+        }
+        sign
+    }
+
     /// Constants with their values, from a place on (6.20); where they end. One that has no type of
-    /// its own has that of the one before it.
+    /// its own has that of the one before it. A value may be left out (6.20.1).
     fn constants(&mut self, first: usize) -> Result<usize, AllocError> {
         let mut start = first;
         let mut own = self.between(first, first);
         for _ in first..self.tokens.len() {
             let sign = value_start(self.tokens, start);
-            let end = value_end(self.tokens, sign.saturating_add(1));
+            let end = self.given_end(sign);
             let name = declarator_in(self.tokens, start, sign).name;
-            if !is_symbol(self.tokens, sign, Symbol::Assign) || !self.is_name(name) {
-                return Ok(value_end(self.tokens, start));
+            if !self.is_name(name) {
+                return Ok(end);
             }
             if name > start {
                 own = self.between(start, name);
@@ -519,7 +500,8 @@ impl<'t> Walker<'t> {
         )
     }
 
-    /// A property or a sequence, up to the word that ends it.
+    /// A property or a sequence, up to the word that ends it. One without the semicolon of its
+    /// header has no body, so that its uses are refused.
     fn declared(&mut self, kind: DeclarationKind, last: Keyword) -> Result<(), AllocError> {
         let name = self.at.saturating_add(1);
         let (formals, after) = self.formals(name.saturating_add(1));
@@ -531,8 +513,12 @@ impl<'t> Walker<'t> {
                 stop = index;
             }
         }
-        if is_symbol(self.tokens, after, Symbol::Semicolon) && self.is_name(name) {
-            let body = self.between(start, stop);
+        let body = if is_symbol(self.tokens, after, Symbol::Semicolon) {
+            self.between(start, stop)
+        } else {
+            self.between(after, after)
+        };
+        if self.is_name(name) {
             self.declare(kind, name, formals, body)?;
         }
         self.at = end;
@@ -543,10 +529,9 @@ impl<'t> Walker<'t> {
     fn let_declared(&mut self) -> Result<(), AllocError> {
         let name = self.at.saturating_add(1);
         let (formals, sign) = self.formals(name.saturating_add(1));
-        let start = sign.saturating_add(1);
-        let end = value_end(self.tokens, start);
-        if is_symbol(self.tokens, sign, Symbol::Assign) && self.is_name(name) {
-            let body = self.between(start, end);
+        let end = self.given_end(sign);
+        if self.is_name(name) {
+            let body = self.between(sign.saturating_add(1), end);
             self.declare(DeclarationKind::Let, name, formals, body)?;
         }
         self.at = past_item(self.tokens, end);
@@ -555,16 +540,11 @@ impl<'t> Walker<'t> {
 
     /// A type of a name, and the members of an enumeration (6.18, 6.19).
     fn type_declared(&mut self) -> Result<(), AllocError> {
-        let end = past_item(self.tokens, self.at);
-        let first = self.at.saturating_add(2);
-        self.declarators(DeclarationKind::Type, self.at.saturating_add(1), end)?;
-        if is_keyword(self.tokens, self.at.saturating_add(1), Keyword::Enum) {
-            let open = first_symbol(self.tokens, first, end, Symbol::OpenBrace);
-            let own = self.between(first, open);
-            self.members(own, open.saturating_add(1))?;
-        }
+        let start = self.at;
+        let end = past_item(self.tokens, start);
+        self.declarators(DeclarationKind::Type, start.saturating_add(1), end)?;
         self.at = end;
-        Ok(())
+        self.enumerations(start, end)
     }
 
     /// What a member of an enumeration is given. A range (6.19.2) stays with its brackets, which

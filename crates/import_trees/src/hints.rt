@@ -58,6 +58,26 @@ fn clock_hint(refusal: Refusal) -> &'static str {
     }
 }
 
+/// What may be done about names that packages and enumerations declare.
+fn declared_hint(refusal: Refusal) -> &'static str {
+    match refusal {
+        Refusal::PackageName => "no package names: write the number, or a localparam of the file",
+        Refusal::TwoPackages => {
+            "two packages declare this name: import it from one of them by its name"
+        }
+        Refusal::NotInPackage => {
+            "its import names a package that is in no file, or that declares no such name"
+        }
+        Refusal::Exported => {
+            "a package exports this name of another one: import it from the one that declares it"
+        }
+        Refusal::MemberRange => {
+            "it is of a range of members of an enumeration: write each of them by its name"
+        }
+        _ => "this parameter has no value in the files: give it one there",
+    }
+}
+
 /// What may be done about names and what they stand for.
 fn name_hint(refusal: Refusal) -> &'static str {
     match refusal {
@@ -71,7 +91,12 @@ fn name_hint(refusal: Refusal) -> &'static str {
         Refusal::Arguments => "it has another number of arguments",
         Refusal::UnknownLocal => "no local variable of this name is declared",
         Refusal::Cast => "no casts: give its value a wire of the design",
-        Refusal::PackageName => "no package names: write the number, or a localparam of the file",
+        Refusal::PackageName
+        | Refusal::TwoPackages
+        | Refusal::NotInPackage
+        | Refusal::Exported
+        | Refusal::MemberRange
+        | Refusal::NoValue => declared_hint(refusal),
         Refusal::Function => "no functions: write their bodies, or give them a wire",
         _ => "no rule can say this: give it a wire of the design or of a checker",
     }

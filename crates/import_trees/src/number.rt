@@ -53,14 +53,18 @@ fn radix_of(base: u8) -> u128 {
     }
 }
 
-/// Whether digits are worth less than 2^32, where x and z are 0.
+/// Whether digits take no more than 32 bits, where x and z stand for the largest digit.
 fn has_32_bits(base: u8, digits: &[u8]) -> bool {
+    let radix = radix_of(base);
     let mut value = 0u128;
     for byte in digits {
         if let Some(digit) = digit_of(*byte) {
-            value = value
-                .saturating_mul(radix_of(base))
-                .saturating_add(digit.value);
+            let worth = if digit.unknown {
+                radix.saturating_sub(1)
+            } else {
+                digit.value
+            };
+            value = value.saturating_mul(radix).saturating_add(worth);
         }
     }
     value <= 0xffff_ffff

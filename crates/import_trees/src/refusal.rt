@@ -27,6 +27,14 @@ pub enum Refusal {
     Cast,
     /// The name of a package before one of its items (26.3).
     PackageName,
+    /// A name that two packages declare which are imported there (26.3).
+    TwoPackages,
+    /// A name that is imported from a package which declares no such name, or is in no file (26.3).
+    NotInPackage,
+    /// A name that a package has from another one and hands on (26.6).
+    Exported,
+    /// A member of an enumeration whose name is made of another one and a number (6.19.2).
+    MemberRange,
     /// The use of a macro that stays as it is.
     UnknownMacro(MacroFault),
     /// No clocking event, and no default clocking.
@@ -57,6 +65,8 @@ pub enum Refusal {
     Generate,
     /// A number has to stand there, and what stands there is none.
     NotConstant,
+    /// A parameter without a value (6.20.1).
+    NoValue,
     /// Bounds that are the wrong way round, or too large.
     BadBound,
     /// A declaration reaches itself.
@@ -77,6 +87,8 @@ impl Refusal {
         match self {
             Refusal::Expected(_) => "Expected",
             Refusal::Outside | Refusal::Cast | Refusal::PackageName => "Outside",
+            Refusal::TwoPackages | Refusal::NotInPackage | Refusal::Exported => "Outside",
+            Refusal::MemberRange => "Outside",
             Refusal::UnknownMacro(_) => "UnknownMacro",
             Refusal::NoClock => "NoClock",
             Refusal::SecondClock => "SecondClock",
@@ -91,7 +103,7 @@ impl Refusal {
             Refusal::TooHeavy => "TooHeavy",
             Refusal::Immediate => "Immediate",
             Refusal::Generate => "Generate",
-            Refusal::NotConstant => "NotConstant",
+            Refusal::NotConstant | Refusal::NoValue => "NotConstant",
             Refusal::BadBound => "BadBound",
             Refusal::Recursive => "Recursive",
             Refusal::Arguments => "Arguments",

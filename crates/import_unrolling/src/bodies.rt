@@ -1,8 +1,7 @@
 //! The blocks of generate constructs.
 
 use import_scopes::{
-    after_name, begins_assertion, ends_scope, is_keyword, is_symbol, kind_at, past_brackets,
-    past_statement,
+    after_name, begins_assertion, ends_scope, is_keyword, is_symbol, kind_at, past_statement,
 };
 use import_tokens::{Keyword, Kind, Symbol, Token};
 
@@ -44,35 +43,8 @@ fn alone(tokens: &[Token], start: usize) -> Body {
     }
 }
 
-/// Whether a token may stand in the action block of an assertion that is a body of its own: no
-/// keyword but `else`, so no other block, statement or item begins or ends there.
-fn is_simple(kind: Kind) -> bool {
-    match kind {
-        Kind::Keyword(keyword) => keyword == Keyword::Else,
-        Kind::End => false,
-        _ => true,
-    }
-}
-
-/// The place of the semicolon that ends an action block, from a place on, and whether an `else`
-/// stands before it.
-fn action_end(tokens: &[Token], start: usize) -> Option<(usize, bool)> {
-    let mut has_else = false;
-    for index in start..tokens.len() {
-        let kind = kind_at(tokens, index);
-        if kind == Kind::Symbol(Symbol::Semicolon) {
-            return Some((index, has_else));
-        }
-        if !is_simple(kind) {
-            return None;
-        }
-        has_else = has_else || kind == Kind::Keyword(Keyword::Else);
-    }
-    None
-}
-
-/// An assertion without `begin` and `end`. Where an `else` after its semicolon could be its own,
-/// there is none.
+/// An assertion without `begin` and `end`, up to the end of its action block: an `else` after its
+/// first statement is its own (16.14.1).
 fn assertion_at(tokens: &[Token], start: usize) -> Option<Body> {
     let sign = start.saturating_add(1);
     let word = if is_symbol(tokens, sign, Symbol::Colon) {
@@ -82,26 +54,17 @@ fn assertion_at(tokens: &[Token], start: usize) -> Option<Body> {
     };
     let named = word.saturating_add(1);
     let open = named.saturating_add(1);
-    if !begins_assertion(kind_at(tokens, word))
-        || !is_keyword(tokens, named, Keyword::Property)
-        || !is_symbol(tokens, open, Symbol::OpenRound)
+    if begins_assertion(kind_at(tokens, word))
+        && is_keyword(tokens, named, Keyword::Property)
+        && is_symbol(tokens, open, Symbol::OpenRound)
     {
-        return None;
+        return Some(alone(tokens, start));
     }
-    let close = past_brackets(tokens, open);
-    let (end, has_else) = action_end(tokens, close)?;
-    let after = end.saturating_add(1);
-    if is_keyword(tokens, after, Keyword::Else) && end != close && !has_else {
-        return None;
-    }
-    Some(Body {
-        from: start,
-        to: after,
-        after,
-    })
+    None
 }
 
-/// The block at a place, an assertion alone, or the construct that stands there in place of one.
+/// The block at a place, or what stands there in place of one: an assertion, the use of a macro, or
+/// another construct.
 pub(crate) fn body_at(tokens: &[Token], start: usize) -> Option<Body> {
     match kind_at(tokens, start) {
         Kind::Keyword(Keyword::Begin) => {
@@ -112,7 +75,7 @@ pub(crate) fn body_at(tokens: &[Token], start: usize) -> Option<Body> {
                 after: after_name(tokens, end.saturating_add(1)),
             })
         }
-        Kind::Keyword(Keyword::For | Keyword::If) => Some(alone(tokens, start)),
+        Kind::Keyword(Keyword::For | Keyword::If) | Kind::Macro(_) => Some(alone(tokens, start)),
         _ => assertion_at(tokens, start),
     }
 }
@@ -121,9 +84,9 @@ pub(crate) fn body_at(tokens: &[Token], start: usize) -> Option<Body> {
 pub(crate) fn loop_body_at(tokens: &[Token], start: usize) -> Option<Body> {
     let item = alone(tokens, start);
     let ends = is_symbol(tokens, item.after.saturating_sub(1), Symbol::Semicolon);
-    match kind_at(tokens, start) {
-        Kind::Keyword(Keyword::Begin | Keyword::For | Keyword::If) => body_at(tokens, start),
-        _ if ends => Some(item),
-        _ => None,
+    let begins = is_keyword(tokens, start, Keyword::Begin);
+    match body_at(tokens, start) {
+        None if ends && !begins => Some(item),
+        found => found,
     }
 }

@@ -97,8 +97,8 @@ fn other_case(row: usize) -> (&'static [u8], &'static [u8]) {
     }
 }
 
-/// Conditions of assertions without `begin` and `end`; an `else` that may be an assertion's own
-/// leaves them as they are.
+/// Conditions of assertions without `begin` and `end`: an `else` after a statement of an action
+/// block is the assertion's own (16.14.1), and a macro ends one without a semicolon.
 fn lone_case(row: usize) -> (&'static [u8], &'static [u8]) {
     match row {
         12 => (
@@ -111,16 +111,36 @@ fn lone_case(row: usize) -> (&'static [u8], &'static [u8]) {
             b"begin : else assert property ( a ) ; end begin : if begin : if s : assert \
               property ( c ) ; end end  ",
         ),
-        _ => (
+        14 => (
             b"if (1) r: assert property (a) b; else c;",
-            b"if ( 1 ) r : assert property ( a ) b ; else c ;  ",
+            b"begin : if r : assert property ( a ) b ; else c ; end  ",
+        ),
+        15 => (
+            b"if (1) r: assert property (a) b; else c; else s: assert property (d);",
+            b"begin : if r : assert property ( a ) b ; else c ; end begin : else s : assert \
+              property ( d ) ; end  ",
+        ),
+        16 => (
+            b"if (1) r: assert property (a) else `E(b) default disable iff (c); d;",
+            b"begin : if r : assert property ( a ) else `E ( b ) end default disable iff ( c ) \
+              ; d ;  ",
+        ),
+        17 => (
+            b"if (1) c: cover property (a) b; else s: assert property (d) `E wire w;",
+            b"begin : if c : cover property ( a ) b ; end begin : else s : assert property ( d \
+              ) `E end wire w ;  ",
+        ),
+        _ => (
+            b"for (i = 0; i < 1; i++) if (i) `E(a) else `F(b) localparam P = 1;",
+            b"begin : 0000 localparam i = 0000 ; begin : else `E ( a ) end begin : if `F ( b ) \
+              end end localparam P = 1 ;  ",
         ),
     }
 }
 
 #[test]
 fn writes_constructs_out(rt: HostRuntime) -> Result<(), Fail> {
-    for row in 0..15 {
+    for row in 0..19 {
         let (text, wanted) = case(row);
         let found = written(rt.alloc(), text)?;
         assert!(rt; found.as_slice() == wanted, "row {row}");

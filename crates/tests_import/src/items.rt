@@ -78,7 +78,7 @@ fn case(row: usize) -> (&'static [u8], &'static [u8]) {
         7 => (
             b"function f; assert (x); endfunction class k; assert property (z); endclass task \
               t; endtask foo bar; assert property (y);",
-            b"Immediate Immediate Read - bar= ",
+            b"Immediate Immediate Read - f= bar= ",
         ),
         8 => (
             b"a: assert property (x) b: assert property (y); assert property x;",
@@ -118,17 +118,62 @@ fn case(row: usize) -> (&'static [u8], &'static [u8]) {
             b"a: cover property (x ##1 (y; b: assert (x; c: assert property (z) {t, u} = 2;",
             b"Covers Immediate Read c ",
         ),
-        _ => (
+        17 => (
             b"a: assert property (x) asert property (y); s: asert property ((z; b: assert \
               property (case (x) 1: y; default: z; endcase);",
             b"Expected Expected Expected Read b ",
+        ),
+        _ => ended_case(row),
+    }
+}
+
+/// Files whose statements end by a macro without a semicolon, and declarations after these; and
+/// declarations in other forms.
+fn ended_case(row: usize) -> (&'static [u8], &'static [u8]) {
+    match row {
+        18 => (
+            b"if (N) a: assert property (x) else `E(m) localparam P = 1; b: assert property (y) \
+              else foreach (q[i]) `E(q[i]) localparam Q = 2;",
+            b"Generate Read b P=1 Q=2 ",
+        ),
+        19 => (
+            b"a: assert property (x) `M; else `E(m) wire w = y; always @(posedge c) if (x) `E \
+              wire v; initial fork x; join_none b: assert property (y) else `E.f(m); wire u;",
+            b"Read Read a b w= v= u= ",
+        ),
+        20 => (
+            b"a: assert property (x) else begin y; end wire w; b: assert property (z) if (y) \
+              `M else for (;;) `E wire v; c: assert property (z) else randcase 1: y; endcase \
+              wire u;",
+            b"Read Read Read a b c w= v= u= ",
+        ),
+        21 => (
+            b"a: assert property (x) else $error(m) default disable iff (r); b: assert property \
+              (y) if (z) u; else v; else w; wire t; c: assert (x) `M wire s;",
+            b"Expected Read Immediate b t= s= ",
+        ),
+        22 => (
+            b"module m #(parameter A, B = 2) import p::*; (input c); endmodule module n(input \
+              d) import p::*; wire e; endmodule",
+            b"A= B=2 c= d= e= ",
+        ),
+        23 => (
+            b"var enum {A, B} s; struct { enum {C} k; } t; p::t u; t [1:0] v; w x[2]; assign y \
+              = z; assign y[0] = z;",
+            b"s= A= B= t= C= u= v= x=[2] ",
+        ),
+        _ => (
+            b"function automatic logic [1:0] f(input a); return a; endfunction import \"DPI-C\" \
+              function int g(); property p x; endproperty let h x; function void c::k(); \
+              endfunction",
+            b"f= g= p= h= ",
         ),
     }
 }
 
 #[test]
 fn finds_items(rt: HostRuntime) -> Result<(), Fail> {
-    for row in 0..19 {
+    for row in 0..25 {
         let (text, wanted) = case(row);
         let found = read(rt.alloc(), text)?;
         assert!(rt; found.as_slice() == wanted, "row {row}");

@@ -153,9 +153,27 @@ fn case(row: usize) -> (&'static [u8], &'static [u8]) {
             b"assert property (@(posedge c) w == 3 - 5 + 4 && v == 3 - 5);",
             b"c  b v35+42+v35+++",
         ),
-        _ => (
+        14 => (
             b"assert property (@(posedge c) w[3 - 5 + 4] && v < (1 << 33));",
             b"c  b v35+42iv19+++",
+        ),
+        15 => (
+            b"package p; parameter K = 3; endpackage package q; parameter K = 4, L = 5; \
+              endpackage module m; import p::*; import q::*; import p::*; \
+              assert property (@(posedge c) x == L); endmodule",
+            b"c  b v55+",
+        ),
+        16 => (
+            b"package p; parameter K = 3; endpackage package q; parameter K = 4; endpackage \
+              module m; import p::*; import q::K; assert property (@(posedge c) x == K); \
+              endmodule",
+            b"c  b v44+",
+        ),
+        _ => (
+            b"package p; parameter K = 3; endpackage module m #(parameter A = 1) import p::*; \
+              (input c); struct { enum {I, J} k; } s; typedef enum {E[2]} t; \
+              assert property (@(posedge c) x == K && y == J && E1x); endmodule",
+            b"c  b v33+v1++v+",
         ),
     }
 }
@@ -218,22 +236,76 @@ fn refusal(row: usize) -> (&'static [u8], &'static [u8]) {
             b"typedef enum logic [5:2] {A = 8} t; assert property (@(posedge c) A[5:4] == 2);",
             b"Outside ",
         ),
-        _ => (
+        16 => (
             b"property p; disable iff (r) a; endproperty \
               assert property (@(posedge c) x |-> p);",
             b"Outside ",
         ),
+        _ => undeclared(row),
+    }
+}
+
+/// Files whose assertion has a name that is declared there, and not taken in.
+fn undeclared(row: usize) -> (&'static [u8], &'static [u8]) {
+    match row {
+        17 => (
+            b"package p; parameter K = 3; endpackage package q; parameter K = 4; endpackage \
+              module m; import p::*; import q::*; assert property (@(posedge c) x == K); \
+              endmodule",
+            b"Outside ",
+        ),
+        18 => (
+            b"typedef enum {A, E[3], F} t; assert property (@(posedge c) x == E1);",
+            b"Outside ",
+        ),
+        19 => (
+            b"typedef enum {E1[3:5] = 2} t; assert property (@(posedge c) x == E14);",
+            b"Outside ",
+        ),
+        20 => (
+            b"package p; parameter K = 3; endpackage package q; import p::*; export p::*; \
+              endpackage module m; import q::*; assert property (@(posedge c) x == K); endmodule",
+            b"Outside ",
+        ),
+        21 => (
+            b"package p; parameter K = 3; endpackage package q; import p::*; export *::*; \
+              endpackage module m; import q::K; assert property (@(posedge c) x == K); endmodule",
+            b"Outside ",
+        ),
+        22 => (
+            b"package p; endpackage module m; import p::K; assert property (@(posedge c) K); \
+              endmodule",
+            b"Outside ",
+        ),
+        23 => (
+            b"module m #(parameter N) (input c); assert property (@(posedge c) a ##N b); \
+              endmodule",
+            b"NotConstant ",
+        ),
+        24 => (
+            b"function f; endfunction assert property (@(posedge c) f);",
+            b"Function ",
+        ),
+        25 => (
+            b"import \"DPI-C\" function int g(); assert property (@(posedge c) g == 1);",
+            b"Function ",
+        ),
+        26 => (
+            b"property p a; endproperty assert property (@(posedge c) p);",
+            b"Expected ",
+        ),
+        _ => (b"let h x; assert property (@(posedge c) h);", b"Expected "),
     }
 }
 
 #[test]
 fn opens_assertions(rt: HostRuntime) -> Result<(), Fail> {
-    for row in 0..15 {
+    for row in 0..18 {
         let (text, wanted) = case(row);
         let found = read(rt.alloc(), text)?;
         assert!(rt; found.as_slice() == wanted, "row {row}");
     }
-    for row in 0..17 {
+    for row in 0..28 {
         let (text, wanted) = refusal(row);
         let found = read(rt.alloc(), text)?;
         assert!(rt; found.as_slice() == wanted, "row {row}");

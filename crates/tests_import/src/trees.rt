@@ -171,6 +171,8 @@ fn fault(row: usize) -> (&'static [u8], &'static [u8]) {
         17 => (b"a |-> (signed'(b) < 0)", b"Outside 3"),
         18 => (b"(a + b)'(c)", b"Outside 5"),
         19 => (b"t'(c)", b"Outside 1"),
+        20 => (b"a ==? 'hx12345678", b"WiderThan128 2"),
+        21 => (b"a ==? 'oz0000000000", b"WiderThan128 2"),
         _ => (b"disable iff (r) @(posedge c) a", b"SecondClock 5"),
     }
 }
@@ -192,7 +194,7 @@ fn groups_operators(rt: HostRuntime) -> Result<(), Fail> {
 
 #[test]
 fn tells_faults(rt: HostRuntime) -> Result<(), Fail> {
-    for row in 0..21 {
+    for row in 0..23 {
         let (text, wanted) = fault(row);
         let found = read(rt.alloc(), text, true)?;
         assert!(rt; found.as_slice() == wanted, "fault {row}");
@@ -227,5 +229,6 @@ fn values_numbers(rt: HostRuntime) -> Result<(), Fail> {
     assert!(rt; number(alloc, b"4'd17")? == (1, 0));
     assert!(rt; number(alloc, b"8'sd255")? == (255, 0));
     assert!(rt; number(alloc, b"1_000")? == (1000, 0));
+    assert!(rt; number(alloc, b"'hx1234567")? == (0x123_4567, 0xf000_0000));
     Ok(())
 }
