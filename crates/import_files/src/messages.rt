@@ -146,6 +146,9 @@ fn remark_message(alloc: Global, remark: &Remark) -> Result<Option<Message>, All
         NoteKind::Bind => format!(in alloc;
             "note file Bind: it is left out, with its parameters: give --scope"
         )?,
+        NoteKind::Expect => format!(in alloc;
+            "note file Expect: it is left out: write an assertion in its place"
+        )?,
         NoteKind::UnknownMacro => {
             format!(in alloc; "note {text} UnknownMacro: it is left out, and may hide assertions")?
         }

@@ -1,20 +1,12 @@
 //! Names of packages (IEEE 1800-2017, clause 26), and those of functions.
 
 use crate::declaration::DeclarationKind;
-use crate::passing::{is_keyword, is_symbol, kind_at, past_item};
+use crate::passing::{is_keyword, is_symbol, is_word, kind_at, past_item};
 use crate::scope::Import;
 use crate::variables::declarator_in;
 use crate::walker::Walker;
 use import_tokens::{Keyword, Kind, Symbol, Token};
 use std::alloc::AllocError;
-
-/// Whether a word stands there.
-fn is_word(tokens: &[Token], index: usize, word: &[u8]) -> bool {
-    match tokens.get(index) {
-        Some(token) => token.text == word,
-        None => false,
-    }
-}
 
 /// The place after the imports of a header that stand at a place (23.2.1, 26.4).
 pub(crate) fn past_imports(tokens: &[Token], start: usize) -> usize {

@@ -30,6 +30,14 @@ pub fn is_keyword(tokens: &[Token], index: usize, keyword: Keyword) -> bool {
     }
 }
 
+/// Whether a word that is no keyword stands there.
+pub(crate) fn is_word(tokens: &[Token], index: usize, word: &[u8]) -> bool {
+    match tokens.get(index) {
+        Some(token) => token.kind == Kind::Word && token.text == word,
+        None => false,
+    }
+}
+
 /// Whether a word ends a scope.
 pub fn ends_scope(kind: Kind) -> bool {
     matches!(

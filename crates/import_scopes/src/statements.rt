@@ -5,7 +5,7 @@ ghost use Rattle.std.specs.Prelude.{◌≤◌, length};
 use crate::brackets::Brackets;
 use crate::passing::{
     after_name, assertion_brackets, begins_item, deeper, ends_scope, is_begun_at, is_keyword,
-    is_symbol, kind_at, past_word,
+    is_symbol, is_word, kind_at, past_word,
 };
 use import_tokens::{Keyword, Kind, Symbol, Token};
 
@@ -28,20 +28,12 @@ fn ends_fork(tokens: &[Token], index: usize) -> bool {
     }
 }
 
-/// Whether `randcase` stands there, which `endcase` ends (18.16).
-fn is_random_case(tokens: &[Token], index: usize) -> bool {
-    match tokens.get(index) {
-        Some(token) => token.kind == Kind::Word && token.text == b"randcase".as_slice(),
-        None => false,
-    }
-}
-
 /// How the token at a place nests statements.
 fn nesting_at(tokens: &[Token], index: usize) -> Nesting {
     if ends_fork(tokens, index) {
         return Nesting::Neither;
     }
-    if is_random_case(tokens, index) {
+    if is_word(tokens, index, b"randcase") {
         return Nesting::Begins;
     }
     nesting_of(kind_at(tokens, index))
@@ -173,6 +165,9 @@ fn last_word(keyword: Keyword) -> Option<Keyword> {
 fn bare_end(tokens: &[Token], start: usize) -> Ending {
     match kind_at(tokens, start) {
         Kind::Macro(_) => macro_end(tokens, start),
+        Kind::Word if is_word(tokens, start, b"randsequence") => {
+            Ending::Whole(past_word(tokens, start, Keyword::EndSequence))
+        }
         Kind::Keyword(keyword) => match last_word(keyword) {
             Some(last) => Ending::Whole(past_word(tokens, start, last)),
             None => simple_end(tokens, start),

@@ -46,6 +46,8 @@ pub enum NoteKind {
     Cover,
     /// A `bind` is left out.
     Bind,
+    /// An `expect` is left out (16.17).
+    Expect,
     /// The use of a macro that nothing defines is left out; it may hide assertions.
     UnknownMacro,
     /// An included file is not read.

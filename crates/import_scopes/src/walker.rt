@@ -130,12 +130,13 @@ impl<'t> Walker<'t> {
     }
 
     /// Goes to a place, and says what becomes of the assertions on the way.
-    fn pass(&mut self, to: usize, status: Status) -> Result<(), AllocError> {
+    pub(crate) fn pass(&mut self, to: usize, status: Status) -> Result<(), AllocError> {
         self.found.marks.push(Mark {
             from: self.at,
             to,
             status,
         })?;
+        self.waits(self.at, to)?;
         self.at = to;
         Ok(())
     }
@@ -161,6 +162,9 @@ impl<'t> Walker<'t> {
         }
         if self.exports_names() {
             return self.export_item();
+        }
+        if self.begins_with_word() {
+            return self.worded_item();
         }
         if self.overrides_parameters() {
             self.note(NoteKind::Parameters)?;
@@ -294,33 +298,6 @@ impl<'t> Walker<'t> {
             }
             None => self.left_out(Keyword::Begin),
         }
-    }
-
-    /// An item without declarations: a procedure, a generate block, or a part with an end.
-    fn left_out(&mut self, keyword: Keyword) -> Result<(), AllocError> {
-        let start = self.at.saturating_add(1);
-        let end = match keyword {
-            Keyword::Function => {
-                self.function(self.at)?;
-                past_word(self.tokens, start, Keyword::EndFunction)
-            }
-            Keyword::Task => past_word(self.tokens, start, Keyword::EndTask),
-            Keyword::Class => past_word(self.tokens, start, Keyword::EndClass),
-            Keyword::CoverGroup => past_word(self.tokens, start, Keyword::EndGroup),
-            Keyword::Specify => past_word(self.tokens, start, Keyword::EndSpecify),
-            Keyword::Always
-            | Keyword::AlwaysCombinational
-            | Keyword::AlwaysFlipFlop
-            | Keyword::AlwaysLatch
-            | Keyword::Initial
-            | Keyword::Final => past_statement(self.tokens, start),
-            Keyword::Case | Keyword::Begin | Keyword::Else => {
-                let end = past_statement(self.tokens, self.at);
-                return self.pass(end, Status::Refused(Refusal::Generate));
-            }
-            _ => past_item(self.tokens, self.at),
-        };
-        self.pass(end, Status::Refused(Refusal::Immediate))
     }
 
     /// Goes into a scope of a name that begins there.
@@ -619,7 +596,7 @@ impl<'t> Walker<'t> {
     }
 
     /// A clocking block (14.3), or the name of one alone.
-    fn clocking(&mut self) -> Result<(), AllocError> {
+    pub(crate) fn clocking(&mut self) -> Result<(), AllocError> {
         let name = self.at.saturating_add(1);
         if self.is_name(name) && is_symbol(self.tokens, name.saturating_add(1), Symbol::Semicolon) {
             self.at = name.saturating_add(2);
@@ -714,14 +691,18 @@ impl<'t> Walker<'t> {
         None
     }
 
-    /// A note on the next token.
-    fn note_of(&self, kind: NoteKind) -> Note<'t> {
-        let here = self.at;
+    /// A note on a token.
+    pub(crate) fn note_at(&self, kind: NoteKind, index: usize) -> Note<'t> {
         Note {
             kind,
-            text: self.text(here),
-            at: self.place(here),
+            text: self.text(index),
+            at: self.place(index),
         }
+    }
+
+    /// A note on the next token.
+    fn note_of(&self, kind: NoteKind) -> Note<'t> {
+        self.note_at(kind, self.at)
     }
 
     fn note(&mut self, kind: NoteKind) -> Result<(), AllocError> {

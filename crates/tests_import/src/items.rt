@@ -162,18 +162,29 @@ fn ended_case(row: usize) -> (&'static [u8], &'static [u8]) {
               = z; assign y[0] = z;",
             b"s= A= B= t= C= u= v= x=[2] ",
         ),
-        _ => (
+        24 => (
             b"function automatic logic [1:0] f(input a); return a; endfunction import \"DPI-C\" \
               function int g(); property p x; endproperty let h x; function void c::k(); \
               endfunction",
             b"f= g= p= h= ",
+        ),
+        25 => (
+            b"global clocking g @(posedge c); endclocking wire a; virtual class k; int b; \
+              endclass : k wire d; primitive u(o, i); output o; input i; table 0 : 1; endtable \
+              endprimitive wire e;",
+            b"g=(posedgec) a= d= e= ",
+        ),
+        _ => (
+            b"config f; design m; endconfig : f wire a; initial randsequence (s) s : t { x; }; \
+              endsequence wire b; initial expect (@(posedge c) x) else y; wire d;",
+            b"a= b= d= ",
         ),
     }
 }
 
 #[test]
 fn finds_items(rt: HostRuntime) -> Result<(), Fail> {
-    for row in 0..25 {
+    for row in 0..27 {
         let (text, wanted) = case(row);
         let found = read(rt.alloc(), text)?;
         assert!(rt; found.as_slice() == wanted, "row {row}");
@@ -186,15 +197,17 @@ fn tells_notes_and_scopes(rt: HostRuntime) -> Result<(), Fail> {
     let alloc = rt.alloc();
     let text =
         b"`include \"x.svh\"\nmodule m; default clocking c @(posedge k); endclocking default \
-              disable iff (r); bind m n u(.*); `N(assert) endmodule a: assert property (x);";
+              disable iff (r); bind m n u(.*); `N(assert) endmodule a: assert property (x); \
+              initial expect (y);";
     let mut macros = Macros::new(alloc);
     let expansions = Expansions::of(alloc, text, &mut macros)?;
     let tokens = expansions.tokens(alloc)?;
     let file = File::of(alloc, tokens.as_slice())?;
-    assert!(rt; file.notes.len() == 3);
+    assert!(rt; file.notes.len() == 4);
     let kinds = file.notes[0].kind == NoteKind::Include
         && file.notes[1].kind == NoteKind::Bind
-        && file.notes[2].kind == NoteKind::UnknownMacro;
+        && file.notes[2].kind == NoteKind::UnknownMacro
+        && file.notes[3].kind == NoteKind::Expect;
     assert!(rt; kinds);
     assert!(rt; file.scopes.len() == 2);
     let defaults = file.scopes[1].clock.is_some() && file.scopes[1].disable.is_some();
