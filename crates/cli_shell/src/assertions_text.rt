@@ -1,6 +1,6 @@
 //! The text of the assertions: those of files, and after them the rules of ports.
 
-use crate::files::{open, read_opened, read_text, text_of};
+use crate::files::{open, read_opened, read_text, team_text_of, text_of};
 use crate::words::slices_of;
 use axi4_rules::port_rules;
 use cli_faults::Fault;
@@ -70,11 +70,20 @@ fn told_path(alloc: Global, path: &str) -> Result<String, AllocError> {
     Ok(told)
 }
 
-/// The texts of the files of some paths, which are all read before one is found to be no text.
-fn read_texts<R: Files + AllocGlobal>(rt: &R, paths: &[&str]) -> Result<Vec<Part>, Fault<'static>> {
+/// The texts of the files of some paths, which are all read before one is found to be no text; or
+/// those of a team's files.
+fn read_texts<R: Files + AllocGlobal>(
+    rt: &R,
+    paths: &[&str],
+    are_teams: bool,
+) -> Result<Vec<Part>, Fault<'static>> {
     let mut parts = Vec::new(rt.alloc());
     for (bytes, path) in read_all(rt, paths)?.into_iter().zip(paths.iter()) {
-        let text = text_of(rt.alloc(), bytes, *path)?;
+        let text = if are_teams {
+            team_text_of(rt.alloc(), bytes, *path)?
+        } else {
+            text_of(rt.alloc(), bytes, *path)?
+        };
         let path = told_path(rt.alloc(), *path)?;
         push(&mut parts, Part { path, text })?;
     }
@@ -124,7 +133,7 @@ fn read_parts<R: Files + AllocGlobal>(
     axi: Option<&str>,
 ) -> Result<Read, Fault<'static>> {
     let paths = paths_of(rt, sva, axi)?;
-    let parts = read_texts(rt, paths.as_slice())?;
+    let parts = read_texts(rt, paths.as_slice(), false)?;
     match axi {
         None => Ok(Read { parts, ports: None }),
         Some(_) => with_rules(rt.alloc(), parts),
@@ -145,6 +154,22 @@ pub fn read_sources<R: Files + AllocGlobal>(
         text,
         added: Vec::new(rt.alloc()),
         ports: read.ports,
+    })
+}
+
+/// The texts of a team's own files, one after another, which may have any bytes in their comments.
+pub fn read_team_sources<R: Files + AllocGlobal>(
+    rt: &R,
+    files: &[String],
+) -> Result<Sources, Fault<'static>> {
+    let paths = paths_of(rt, files, None)?;
+    let parts = read_texts(rt, paths.as_slice(), true)?;
+    let text = joined(rt.alloc(), parts.as_slice())?;
+    Ok(Sources {
+        parts,
+        text,
+        added: Vec::new(rt.alloc()),
+        ports: None,
     })
 }
 

@@ -1,7 +1,7 @@
 //! Files by their paths, and what is wrong with them.
 
 use cli_faults::{BadFile, Fault};
-use std::alloc::Global;
+use std::alloc::{AllocError, Global};
 use std::fs::{File, Files};
 use std::io::{ErrorKind, Read};
 use std::{fs, io};
@@ -73,6 +73,32 @@ pub(crate) fn text_of(alloc: Global, bytes: Vec<u8>, path: &str) -> Result<Strin
         Ok(text) => Ok(text),
         Err(_) => Err(Fault::NotText(String::from_str(alloc, path)?)),
     }
+}
+
+/// A byte of which no token of SystemVerilog is made.
+const NO_TOKEN: u8 = 0x7f;
+
+/// Bytes in which each one beyond ASCII is another that no token is made of.
+fn ascii_of(alloc: Global, bytes: &[u8]) -> Result<Vec<u8>, AllocError> {
+    let mut all = Vec::new(alloc);
+    for byte in bytes {
+        all.push(if *byte < 0x80 { *byte } else { NO_TOKEN })?;
+    }
+    Ok(all)
+}
+
+/// The bytes of a team's file as text, byte by byte. One that is no UTF-8, as it may have comments
+/// in Latin-1, has another byte for each beyond ASCII, which may stand in comments and strings
+/// alone.
+pub(crate) fn team_text_of(
+    alloc: Global,
+    bytes: Vec<u8>,
+    path: &str,
+) -> Result<String, Fault<'static>> {
+    if str::from_utf8(bytes.as_slice()).is_ok() {
+        return text_of(alloc, bytes, path);
+    }
+    text_of(alloc, ascii_of(alloc, bytes.as_slice())?, path)
 }
 
 /// All of a file, as text; N2 where it is no UTF-8.

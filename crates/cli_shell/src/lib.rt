@@ -7,6 +7,7 @@
 //! let refused = clash_of(&rt, &request)?;         // a file would be written over
 //! let dump = open(&rt, "top.vcd")?;
 //! let sources = read_sources(&rt, &paths, Some("ports.txt"))?;        // sources.text, its files
+//! let sources = read_team_sources(&rt, &paths)?;                      // a team's own files
 //! let sources = read_chosen(&rt, &paths, None, &patterns)?;           // some assertions alone
 //! let sources = chosen_sources(alloc, sources, &patterns)?;           // of what was read
 //! let fault = moved_fault(&sources.added, fault);                     // where the files have it
@@ -15,9 +16,9 @@
 //! ```
 //!
 //! A file that can't be opened, read or made is the fault `File` with its path and why, and one
-//! that is no UTF-8 is `NotText` (N2). The line of a fault goes to standard error, and is lost
-//! where that can't be written. Two paths name one file where their devices and numbers there are
-//! the same, behind all links.
+//! that is no UTF-8 is `NotText` (N2), but for a team's own files. The line of a fault goes to
+//! standard error, and is lost where that can't be written. Two paths name one file where their
+//! devices and numbers there are the same, behind all links.
 //!
 //! The definitions: statuses in `cli_faults/specs/Statuses.antt`, the rules of ports in
 //! `axi4_rules`, what words ask for in `cli_words`, joined and chosen texts in `source_files`,
@@ -37,7 +38,8 @@ mod status;
 mod words;
 
 pub use assertions_text::{
-    Sources, chosen_sources, read_chosen, read_labelled, read_sources, told_paths,
+    Sources, chosen_sources, read_chosen, read_labelled, read_sources, read_team_sources,
+    told_paths,
 };
 pub use clashes::clash_of;
 pub use files::{open, read_bytes, write_bytes};

@@ -1,42 +1,91 @@
 //! Labels, each written once.
 
+use import_tokens::Token;
+use import_trees::plain_name;
 use indexmap::IndexSet;
 use std::alloc::{AllocError, Global};
 
-/// Whether a counter that is made for an assertion may have this name: it ends with `__past` and a
-/// number.
-fn is_counter_name(name: &str) -> bool {
+/// The label of an assertion for which a counter of this name may be made: what stands before
+/// `__past` and a number at its end.
+fn counted_label(name: &str) -> Option<&str> {
     for (at, byte) in name.as_bytes().iter().enumerate().rev() {
         if !byte.is_ascii_digit() {
             let end = at.saturating_add(1);
-            return end < name.len() && name.get(..end).unwrap_or("").ends_with("__past");
+            if end >= name.len() {
+                return None;
+            }
+            return name.get(..end).unwrap_or("").strip_suffix("__past");
         }
     }
-    false
+    None
 }
 
-/// The labels that are written so far.
+/// The labels that are written so far, and those of which a made counter could be called as a
+/// signal is.
 #[derive(Drop)]
 pub(crate) struct Labels {
     names: IndexSet<String>,
+    counted: IndexSet<String>,
 }
 
 impl Labels {
-    pub(crate) fn new(alloc: Global) -> Labels {
-        Labels {
+    /// No labels, beside the names of a text and the signals of a dump.
+    pub(crate) fn of(
+        alloc: Global,
+        tokens: &[Token<'_>],
+        signals: &[String],
+    ) -> Result<Labels, AllocError> {
+        let mut labels = Labels {
             names: IndexSet::new(alloc),
-        }
+            counted: IndexSet::new(alloc),
+        };
+        labels.spare_tokens(alloc, tokens)?;
+        labels.spare_signals(alloc, signals)?;
+        Ok(labels)
     }
 
-    /// A label that is not written yet, and that no made counter may have: this one, or with the
-    /// first number that makes it one.
+    /// Keeps the names of a text free.
+    fn spare_tokens(&mut self, alloc: Global, tokens: &[Token<'_>]) -> Result<(), AllocError> {
+        for token in tokens {
+            if let Ok(name) = str::from_utf8(plain_name(token.text)) {
+                self.spare(alloc, name)?;
+            }
+        }
+        Ok(())
+    }
+
+    /// Keeps the names of signals free.
+    fn spare_signals(&mut self, alloc: Global, signals: &[String]) -> Result<(), AllocError> {
+        for signal in signals {
+            self.spare(alloc, signal.as_str())?;
+        }
+        Ok(())
+    }
+
+    /// Keeps a name free: no counter is to be called so.
+    fn spare(&mut self, alloc: Global, name: &str) -> Result<(), AllocError> {
+        if let Some(label) = counted_label(name) {
+            self.counted.insert(String::from_str(alloc, label)?)?;
+        }
+        Ok(())
+    }
+
+    /// Whether a label is not written yet, no made counter may have it, and none that is made for
+    /// it has the name of a signal.
+    fn is_free(&self, label: &str) -> bool {
+        let is_new = !self.names.contains(label) && !self.counted.contains(label);
+        is_new && counted_label(label).is_none()
+    }
+
+    /// A label that is free: this one, or with the first number that makes it one.
     fn free_one(&self, alloc: Global, label: &str) -> Result<String, AllocError> {
-        if !self.names.contains(label) && !is_counter_name(label) {
+        if self.is_free(label) {
             return String::from_str(alloc, label);
         }
-        for number in 2..self.names.len().saturating_add(3) {
+        let most = self.names.len().saturating_add(self.counted.len());
+        for number in 2..most.saturating_add(4) {
             let name = format!(in alloc; "{label}_{number}")?;
-            if !self.names.contains(name.as_str()) {
+            if self.is_free(name.as_str()) {
                 return Ok(name);
             }
         }

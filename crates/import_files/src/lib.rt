@@ -15,7 +15,8 @@
 //! (`import_scopes`); each assertion is opened (`import_elaboration`), made a property
 //! (`import_lowering`), rewritten (`import_rewriting`) and spelled (`import_spelling`). One that
 //! can't be had is refused alone, with a code, a place and a hint. Labels are kept, and made where
-//! there is none: `assert_N` is the Nth assertion. A label that is there already gets a number.
+//! there is none: `assert_N` is the Nth assertion. A label that is there already gets a number, and
+//! so does one whose counters could have the name of a signal.
 //! Assertions of another clock than the one that counts are refused.
 //!
 //! `imported` promises that each token that begins an assertion has one outcome, in their order;

@@ -116,7 +116,7 @@ fn outcomes_of<'t>(
         All (OutcomeSays reading.now.bound) all.0.items) }
 {
     let mut importer = Importer::new(alloc, file, *reading)?;
-    let mut labels = Labels::new(alloc);
+    let mut labels = Labels::of(alloc, tokens, reading.names)?;
     let mut blocks = Blocks::new(alloc);
     let mut outcomes = Vec::new(alloc);
     let mut number = 1usize;

@@ -2,7 +2,7 @@
 
 use crate::dump_front::{header_of, read_front};
 use cli::Fault;
-use cli_shell::{Sources, open, print_bytes, read_sources, shown_lines, shown_status};
+use cli_shell::{Sources, open, print_bytes, read_team_sources, shown_lines, shown_status};
 use cli_words::TeamFiles;
 use import_files::{
     DumpSignal, ImportFault, Imported, Reading, Signals, imported, known_of, messages_of,
@@ -105,7 +105,7 @@ fn import_sources<R: Files + Print + Eprint + AllocGlobal>(
     team: &TeamFiles,
     vcd: Option<&str>,
 ) -> Result<u8, Fault<'static>> {
-    let sources = read_sources(rt, team.files.as_slice(), None)?;
+    let sources = read_team_sources(rt, team.files.as_slice())?;
     let signals = signals_in(rt, vcd)?;
     let Some(all) = told_import(rt, &sources, team, &signals)? else {
         return Ok(2);

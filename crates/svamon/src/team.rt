@@ -3,7 +3,7 @@
 use crate::dump_front::{header_of, read_front};
 use crate::import::told_import;
 use cli::Fault;
-use cli_shell::{Sources, read_sources};
+use cli_shell::{Sources, read_team_sources};
 use cli_words::TeamFiles;
 use import_files::{Imported, placed, signals_of, status_of};
 use std::alloc::{AllocError, Global};
@@ -42,7 +42,7 @@ pub(crate) fn read_team<R: Files + Eprint + AllocGlobal, D: Read>(
     dump: &mut D,
     team: &TeamFiles,
 ) -> Result<TeamFront, Fault<'static>> {
-    let sources = read_sources(rt, team.files.as_slice(), None)?;
+    let sources = read_team_sources(rt, team.files.as_slice())?;
     let head = read_front(rt.alloc(), dump)?;
     let signals = signals_of(rt.alloc(), header_of(rt.alloc(), head.as_slice())?)?;
     let Some(imported) = told_import(rt, &sources, team, &signals)? else {

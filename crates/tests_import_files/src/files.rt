@@ -176,6 +176,19 @@ fn loops_whose_bounds_are_no_constants(rt: HostRuntime) -> Result<(), Fail> {
 }
 
 #[test]
+fn a_counter_has_no_name_of_a_signal(rt: HostRuntime) -> Result<(), Fail> {
+    let text = "q: assert property (@(posedge c) q__past1 |-> $past(a, 1, b));\n";
+    let found = said(rt.alloc(), text, false)?;
+    assert!(rt;
+        found.text.as_str()
+            == "counter q_2__past1 [128] load(b, {a});\n\
+        q_2: assert property (@(posedge c) q__past1 |-> q_2__past1);\n"
+    );
+    assert!(rt; found.told.as_str() == "f:1:1: note q Renamed: q_2\n");
+    Ok(())
+}
+
+#[test]
 fn booleans_that_imply_are_noted(rt: HostRuntime) -> Result<(), Fail> {
     let text = "r: assert property (@(posedge c) a implies b);\n";
     let found = said(rt.alloc(), text, false)?;
