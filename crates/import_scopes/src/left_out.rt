@@ -3,7 +3,8 @@
 ghost use Rattle.std.specs.Prelude.{◌≤◌, length};
 
 use crate::passing::{
-    after_name, ends_scope, is_keyword, is_symbol, is_word, past_item, past_word,
+    after_name, begins_item, deeper, ends_scope, is_begun_at, is_keyword, is_symbol, is_word,
+    past_class, past_item, past_word,
 };
 use crate::statements::past_statement;
 use crate::status::{NoteKind, Status};
@@ -39,6 +40,36 @@ fn last_text(word: &[u8]) -> Option<&'static [u8]> {
         b"config" => Some(b"endconfig"),
         _ => None,
     }
+}
+
+/// The words before a declaration whose parts stand elsewhere, as before `virtual interface` or
+/// `extern function` (8.24, 25.9).
+const PROTOTYPES: [&[u8]; 6] = [
+    b"extern",
+    b"pure",
+    b"virtual",
+    b"static",
+    b"protected",
+    b"local",
+];
+
+/// The place after an item that isn't known: after its semicolon, or at what begins another item.
+pub(crate) fn past_unknown(tokens: &[Token], start: usize) -> usize
+    ensures { result ≤ length tokens.now }
+{
+    let end = past_item(tokens, start);
+    let is_prototype = PROTOTYPES.iter().any(|word| is_word(tokens, start, *word));
+    if is_prototype || is_begun_at(tokens, start) {
+        return end;
+    }
+    let mut depth = 0u64;
+    for index in start..end {
+        if depth == 0 && index > start && begins_item(tokens, index) {
+            return index;
+        }
+        depth = deeper(depth, tokens[index].kind);
+    }
+    end
 }
 
 /// The place after the word that ends a part, and its name; at the end of the scope where none
@@ -108,7 +139,7 @@ impl<'t> Walker<'t> {
                 past_word(self.tokens(), start, Keyword::EndFunction)
             }
             Keyword::Task => past_word(self.tokens(), start, Keyword::EndTask),
-            Keyword::Class => past_word(self.tokens(), start, Keyword::EndClass),
+            Keyword::Class => past_class(self.tokens(), self.at),
             Keyword::CoverGroup => past_word(self.tokens(), start, Keyword::EndGroup),
             Keyword::Specify => past_word(self.tokens(), start, Keyword::EndSpecify),
             Keyword::Always

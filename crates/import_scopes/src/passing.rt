@@ -186,6 +186,25 @@ pub(crate) fn past_word(tokens: &[Token], start: usize, word: Keyword) -> usize
     tokens.len()
 }
 
+/// The place after the class whose word stands there or comes first, with the classes in it (8.23),
+/// and its name.
+pub(crate) fn past_class(tokens: &[Token], start: usize) -> usize
+    ensures { result ≤ length tokens.now }
+{
+    let mut depth = 0u64;
+    for index in start..tokens.len() {
+        let is_forward = is_keyword(tokens, index.saturating_sub(1), Keyword::TypeDef);
+        match tokens[index].kind {
+            Kind::Keyword(Keyword::Class) if !is_forward => depth = depth.saturating_add(1),
+            Kind::Keyword(Keyword::EndClass) if depth <= 1 => return after_name(tokens, index + 1),
+            Kind::Keyword(Keyword::EndClass) => depth = depth.saturating_sub(1),
+            kind if ends_scope(kind) => return index,
+            _ => {}
+        }
+    }
+    tokens.len()
+}
+
 /// Whether a keyword begins an item that can stand neither in an assertion nor as its action block.
 fn declares(keyword: Keyword) -> bool {
     matches!(

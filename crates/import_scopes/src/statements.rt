@@ -5,7 +5,7 @@ ghost use Rattle.std.specs.Prelude.{◌≤◌, length};
 use crate::brackets::Brackets;
 use crate::passing::{
     after_name, assertion_brackets, begins_item, deeper, ends_scope, is_begun_at, is_keyword,
-    is_symbol, is_word, kind_at, past_word,
+    is_symbol, is_word, kind_at, past_class, past_word,
 };
 use import_tokens::{Keyword, Kind, Symbol, Token};
 
@@ -153,7 +153,6 @@ fn last_word(keyword: Keyword) -> Option<Keyword> {
         Keyword::Sequence => Some(Keyword::EndSequence),
         Keyword::Function => Some(Keyword::EndFunction),
         Keyword::Task => Some(Keyword::EndTask),
-        Keyword::Class => Some(Keyword::EndClass),
         Keyword::CoverGroup => Some(Keyword::EndGroup),
         Keyword::Specify => Some(Keyword::EndSpecify),
         Keyword::Clocking => Some(Keyword::EndClocking),
@@ -168,6 +167,7 @@ fn bare_end(tokens: &[Token], start: usize) -> Ending {
         Kind::Word if is_word(tokens, start, b"randsequence") => {
             Ending::Whole(past_word(tokens, start, Keyword::EndSequence))
         }
+        Kind::Keyword(Keyword::Class) => Ending::Whole(past_class(tokens, start)),
         Kind::Keyword(keyword) => match last_word(keyword) {
             Some(last) => Ending::Whole(past_word(tokens, start, last)),
             None => simple_end(tokens, start),

@@ -3,6 +3,7 @@
 use crate::brackets::Brackets;
 use crate::construct::{Block, Construct, block_at};
 use crate::declaration::{Declaration, DeclarationId, DeclarationKind};
+use crate::left_out::past_unknown;
 use crate::packages::{header_end, past_imports};
 use crate::passing::{
     after_name, assertion_brackets, is_keyword, is_symbol, kind_at, past_brackets, past_item,
@@ -13,7 +14,7 @@ use crate::statements::{past_action, past_left_out, past_statement};
 use crate::status::{Assertion, AssertionId, Mark, Note, NoteKind, Status};
 use crate::variables::{declarator_in, is_lifetime};
 use import_tokens::{Keyword, Kind, Symbol, Token};
-use import_trees::{Expected, Refusal};
+use import_trees::{Expected, Refusal, plain_name};
 use std::alloc::{AllocError, Global};
 
 /// What was found so far.
@@ -197,7 +198,7 @@ impl<'t> Walker<'t> {
                 Ok(())
             }
             _ => {
-                self.at = past_item(self.tokens, self.at);
+                self.at = past_unknown(self.tokens, self.at);
                 Ok(())
             }
         }
@@ -455,7 +456,7 @@ impl<'t> Walker<'t> {
     ) -> Result<(), AllocError> {
         let declaration = Declaration {
             kind,
-            name: self.text(name),
+            name: plain_name(self.text(name)),
             scope: self.scope,
             formals,
             body,
@@ -581,7 +582,7 @@ impl<'t> Walker<'t> {
         let clock = if is_symbol(self.tokens, sign, Symbol::AtSign) {
             DefaultClock::Event(self.event(sign.saturating_add(1)))
         } else {
-            DefaultClock::Block(self.text(name))
+            DefaultClock::Block(plain_name(self.text(name)))
         };
         if let Some(scope) = self.found.scopes.get_mut(self.scope.0) {
             scope.clock = Some(clock);

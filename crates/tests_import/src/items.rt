@@ -174,17 +174,22 @@ fn ended_case(row: usize) -> (&'static [u8], &'static [u8]) {
               endprimitive wire e;",
             b"g=(posedgec) a= d= e= ",
         ),
-        _ => (
+        26 => (
             b"config f; design m; endconfig : f wire a; initial randsequence (s) s : t { x; }; \
               endsequence wire b; initial expect (@(posedge c) x) else y; wire d;",
             b"a= b= d= ",
+        ),
+        _ => (
+            b"class c; class d; endclass typedef class f; int e; endclass : c wire \\u ; X \
+              localparam \\N = 1; extern function f(int a); modport m(clocking k); let x = y;",
+            b"u= N=1 x=y ",
         ),
     }
 }
 
 #[test]
 fn finds_items(rt: HostRuntime) -> Result<(), Fail> {
-    for row in 0..27 {
+    for row in 0..28 {
         let (text, wanted) = case(row);
         let found = read(rt.alloc(), text)?;
         assert!(rt; found.as_slice() == wanted, "row {row}");
