@@ -38,6 +38,3 @@ mod writing;
 pub use numbers::{MOST_NUMBER, digits_of, numbers_of};
 pub use turns::MOST_TURNS;
 pub use unrolling::{MOST_ADDED, MOST_NESTED, unrolled};
-
-#[cfg(test)]
-mod tests;
