@@ -40,6 +40,15 @@ fn within(fault: TreeFault, tokens: &[Token]) -> TreeFault
     }
 }
 
+/// Whether tokens have the same texts, one by one.
+fn are_same(some: &[Token], others: &[Token]) -> bool {
+    some.len() == others.len()
+        && some
+            .iter()
+            .zip(others.iter())
+            .all(|(one, other)| one.text == other.text)
+}
+
 impl<'t> Parser<'t> {
     /// Reads all tokens as what stands in the brackets of an assertion, or in the declaration of a
     /// property or a sequence: local variables, a clocking event, `disable iff`, and a property.
@@ -106,12 +115,15 @@ impl<'t> Parser<'t> {
 
     fn whole_specification(&mut self) -> Result<Specification<'t>, TreeFault> {
         let locals = self.locals();
+        let start = self.at;
         let clock = if self.take(Symbol::AtSign) {
             Some(self.event()?)
         } else {
             None
         };
+        self.clock = self.tokens.get(start..self.at).unwrap_or(&[]);
         let disable = self.disable()?;
+        self.skip_own_clock();
         let body = self.form(1, MOST_DEPTH)?;
         let _end = self.take(Symbol::Semicolon);
         self.expect_end()?;
@@ -121,6 +133,19 @@ impl<'t> Parser<'t> {
             body,
             locals,
         })
+    }
+
+    /// Goes over the clock of the front where it stands once more, before all that it then counts
+    /// for: it says nothing new (16.13.3).
+    pub(crate) fn skip_own_clock(&mut self) {
+        let end = self.at.saturating_add(self.clock.len());
+        let next = self.tokens.get(self.at..end).unwrap_or(&[]);
+        if !are_same(next, self.clock) {
+            return;
+        }
+        for _ in 0..self.clock.len() {
+            self.step();
+        }
     }
 
     /// `disable iff (e)`, if it stands there (16.12).

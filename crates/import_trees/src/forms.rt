@@ -25,6 +25,9 @@ impl<'t> Parser<'t> {
             }
             self.check_first(joint, left)?;
             self.step();
+            if joint.level() == 1 {
+                self.skip_own_clock();
+            }
             let right = self.form(joint.level_after(), depth - 1)?;
             left = self.join(joint, left, right, at)?;
         }
@@ -295,6 +298,7 @@ impl<'t> Parser<'t> {
             return Err(self.fault(Refusal::TooHeavy));
         }
         let at = self.place();
+        self.skip_own_clock();
         let body = self.form(1, depth - 1)?;
         self.assigned(body, at)
     }

@@ -25,6 +25,8 @@ pub struct Parser<'t> {
     pub(crate) at: usize,
     /// How many more steps may be taken.
     steps: usize,
+    /// The clocking event at the front, with its `@`; nothing where none stands there.
+    pub(crate) clock: &'t [Token<'t>],
     pub(crate) trees: Trees<'t>,
     /// What stands in lists that are not at their end.
     pub(crate) pending: Vec<ExpressionId>,
@@ -37,6 +39,7 @@ impl<'t> Parser<'t> {
             tokens: &[],
             at: 0,
             steps: 0,
+            clock: &[],
             trees: Trees::new(alloc),
             pending: Vec::new(alloc),
         }
@@ -51,6 +54,7 @@ impl<'t> Parser<'t> {
     pub(crate) fn begin(&mut self, tokens: &'t [Token<'t>]) {
         self.tokens = tokens;
         self.at = 0;
+        self.clock = &[];
         self.steps = tokens
             .len()
             .saturating_add(16)

@@ -126,7 +126,15 @@ fn property(row: usize) -> (&'static [u8], &'static [u8]) {
         13 => (b"strong(a) iff b", b"b s b iff "),
         14 => (b"case (x) 1, 2: a; default: b endcase", b"b b c "),
         15 => (b"##1 a #=# (b, x = c) ##1 d", b"b #1 b := b ## == "),
-        _ => (b"int x; @(posedge c) disable iff (r) a;", b"b "),
+        16 => (b"int x; @(posedge c) disable iff (r) a;", b"b "),
+        17 => (
+            b"@(posedge c) @(posedge c) a |=> @(posedge c) b and d",
+            b"b b b & => ",
+        ),
+        _ => (
+            b"@(posedge c) (@(posedge c) a |-> b) or (@(posedge c) d ##1 e)",
+            b"b b -> b b ## | ",
+        ),
     }
 }
 
@@ -173,13 +181,15 @@ fn fault(row: usize) -> (&'static [u8], &'static [u8]) {
         19 => (b"t'(c)", b"Outside 1"),
         20 => (b"a ==? 'hx12345678", b"WiderThan128 2"),
         21 => (b"a ==? 'oz0000000000", b"WiderThan128 2"),
-        _ => (b"disable iff (r) @(posedge c) a", b"SecondClock 5"),
+        22 => (b"disable iff (r) @(posedge c) a", b"SecondClock 5"),
+        23 => (b"@(posedge c) a |=> @(posedge d) b", b"SecondClock 7"),
+        _ => (b"@(posedge c) a and @(posedge c) b", b"SecondClock 7"),
     }
 }
 
 #[test]
 fn groups_operators(rt: HostRuntime) -> Result<(), Fail> {
-    for row in 0..17 {
+    for row in 0..19 {
         let (text, wanted) = property(row);
         let found = read(rt.alloc(), text, true)?;
         assert!(rt; found.as_slice() == wanted, "property {row}");
@@ -194,7 +204,7 @@ fn groups_operators(rt: HostRuntime) -> Result<(), Fail> {
 
 #[test]
 fn tells_faults(rt: HostRuntime) -> Result<(), Fail> {
-    for row in 0..23 {
+    for row in 0..25 {
         let (text, wanted) = fault(row);
         let found = read(rt.alloc(), text, true)?;
         assert!(rt; found.as_slice() == wanted, "fault {row}");
