@@ -88,6 +88,13 @@ fn past_text(tokens: &[Token], start: usize, word: &[u8]) -> usize
     tokens.len()
 }
 
+/// The place after the item that begins there with such a word, if one does.
+fn worded_end(tokens: &[Token], start: usize) -> Option<usize> {
+    let token = tokens.get(start)?;
+    let last = last_text(token.text)?;
+    Some(past_text(tokens, start, last))
+}
+
 impl<'t> Walker<'t> {
     /// Whether the keyword stands after the word that is next.
     fn is_before(&self, word: &[u8], keyword: Keyword) -> bool {
@@ -98,15 +105,15 @@ impl<'t> Walker<'t> {
     /// Whether an item begins there with a word that is no keyword here, and has an end of its own:
     /// a primitive, a configuration, a virtual class (8.21), or the global clocking (14.14).
     pub(crate) fn begins_with_word(&self) -> bool {
-        last_text(self.text(self.at)).is_some()
+        worded_end(self.tokens(), self.at).is_some()
             || self.is_before(b"virtual", Keyword::Class)
             || self.is_before(b"global", Keyword::Clocking)
     }
 
     /// Such an item.
     pub(crate) fn worded_item(&mut self) -> Result<(), AllocError> {
-        if let Some(last) = last_text(self.text(self.at)) {
-            let end = past_text(self.tokens(), self.at, last);
+        let tokens = self.tokens();
+        if let Some(end) = worded_end(tokens, self.at) {
             return self.pass(end, Status::Refused(Refusal::Immediate));
         }
         self.at = self.at.saturating_add(1);
