@@ -1,7 +1,8 @@
 //! What the command `lint` tells: all refusals of a text over a dump, and notes on the rest.
 //!
 //! ```text
-//! let refused = lint_one(alloc, &mut dump, text, &origin, &ports, &mut out)?;
+//! let selects = Selects::Written;
+//! let refused = lint_one(alloc, &mut dump, text, &origin, &ports, selects, &mut out)?;
 //! let rest = rest_over(alloc, &dump, text, &origin)?;  // rest.told, and rest.text: what is left
 //! let why = why_not_judged(text, left);                // why that isn't to be judged
 //! ```
@@ -27,5 +28,6 @@ mod unjudged;
 
 pub use fault::LintFault;
 pub use lint::{Rest, lint_one, rest_over};
+pub use lint_dump_notes::Selects;
 pub use lint_notes::PortSaid;
 pub use unjudged::{Unjudged, why_not_judged};

@@ -12,7 +12,7 @@ ghost use Rattle.cli_lint.specs.Tells.{TellsRefusals, IsLinted, IsSinkFault};
 use crate::fault::LintFault;
 use crate::refusals::text_of;
 use diagnostics::{Linted, Refusal};
-use lint_dump_notes::{Beside, told_notes};
+use lint_dump_notes::{Beside, Selects, told_notes};
 use lint_messages::{Meant, Unnamed, names_of, unnamed_in};
 use lint_notes::{PortSaid, Turned, turned_names};
 use lint_refusals::lint_over;
@@ -169,6 +169,7 @@ fn told_over<'a>(
     text: &'a str,
     origin: &Origin<'a>,
     ports: &[PortSaid],
+    selects: Selects,
 ) -> Result<Rest, LintFault>
     ensures { IfOk result (λ r. (c : Contents) × (dump_of bytes.now ≡ Ok c)
         × (notes : List Refusal)
@@ -177,7 +178,11 @@ fn told_over<'a>(
 {
     let dump = dump_of(alloc, bytes)?;
     let declared = declared_in(alloc, bytes)?;
-    let beside = Beside { bytes, ports };
+    let beside = Beside {
+        bytes,
+        ports,
+        selects,
+    };
     let rest = noted_over(alloc, dump, text, origin, declared, &beside)?;
     Ok(rest)
 }
@@ -201,7 +206,8 @@ fn write_told<W: Sink>(out: &mut W, told: &str) -> Result<(), LintFault>
 /// Tells all refusals of a text over the dump that a source gives, in the order of their places:
 /// each with its file's path, its line and its column there, and why; then that line, and a caret.
 /// Then come notes on what is accepted, and at the end how many items are refused. The text was
-/// made of the origin's files; the ports are those whose rules are in it.
+/// made of the origin's files; the ports are those whose rules are in it. Of selects that were
+/// converted from those of the declared ranges, nothing is told.
 ///
 /// The answer is how many refusals there are.
 ///
@@ -214,6 +220,7 @@ pub fn lint_one<'a, S: Source, W: Sink>(
     text: &'a str,
     origin: &Origin<'a>,
     ports: &[PortSaid],
+    selects: Selects,
     out: &mut W,
 ) -> Result<u64, LintFault>
     ensures linted { IfOk result (IsLinted text.now origin.now.parts.now origin.now.added.now
@@ -223,7 +230,7 @@ pub fn lint_one<'a, S: Source, W: Sink>(
         IsSinkFault fault ⊎ (W.state out.new ≡ W.state out.old)) }
 {
     let bytes = bytes_of(alloc, source)?;
-    let rest = told_over(alloc, bytes.as_slice(), text, origin, ports)?;
+    let rest = told_over(alloc, bytes.as_slice(), text, origin, ports, selects)?;
     write_told(out, rest.told.as_str())?;
     Ok(rest.refused as u64)
 }

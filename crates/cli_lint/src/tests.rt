@@ -1,6 +1,6 @@
 //! What is told of texts over a small dump.
 
-use crate::{PortSaid, lint_one};
+use crate::{PortSaid, Selects, lint_one};
 use signals::{Counted, CutWriter};
 use source_files::{Origin, Part, joined};
 use std::alloc::{AllocError, Global};
@@ -32,7 +32,16 @@ fn are_told(alloc: Global, parts: &[Part], wanted: &str, count: u64) -> Result<b
     let mut source = Counted::new(DUMP.as_bytes());
     let mut out = Counted::new(CutWriter::new(alloc, 10_000)?);
     let origin = Origin { parts, added: &[] };
-    match lint_one(alloc, &mut source, text.as_str(), &origin, &[], &mut out) {
+    let selects = Selects::Written;
+    match lint_one(
+        alloc,
+        &mut source,
+        text.as_str(),
+        &origin,
+        &[],
+        selects,
+        &mut out,
+    ) {
         Ok(refused) => Ok(refused == count && out.inner.as_slice() == wanted.as_bytes()),
         Err(_) => Err(Fail::from("nothing is told")),
     }
@@ -104,7 +113,8 @@ fn heads_over(alloc: Global, dump: &str, text: &str, ports: &[PortSaid]) -> Resu
         parts: parts.as_slice(),
         added: &[],
     };
-    if lint_one(alloc, &mut source, text, &origin, ports, &mut out).is_err() {
+    let selects = Selects::Written;
+    if lint_one(alloc, &mut source, text, &origin, ports, selects, &mut out).is_err() {
         return Err(Fail::from("nothing is told"));
     }
     let Ok(told) = str::from_utf8(out.inner.as_slice()) else {

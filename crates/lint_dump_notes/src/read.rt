@@ -1,6 +1,6 @@
 //! Notes on what is read off a text.
 
-use crate::accepted::{Accepted, Beside, push_all};
+use crate::accepted::{Accepted, Beside, Selects, push_all};
 use lint_dump_suite::DumpWidths;
 use lint_notes::{
     Facts, Note, PathFact, PortSaid, Turned, late_signals, path_notes, port_facts, token_notes,
@@ -37,15 +37,27 @@ fn turned_beside(alloc: Global, bytes: &[u8], file: &File) -> Result<Vec<Turned>
     Ok(turned)
 }
 
+/// The names of which a select is told.
+fn told_of_selects(
+    alloc: Global,
+    beside: &Beside<'_, '_>,
+    file: &File,
+) -> Result<Vec<Turned>, AllocError> {
+    match beside.selects {
+        Selects::Written => turned_beside(alloc, beside.bytes, file),
+        Selects::Converted => Ok(Vec::new(alloc)),
+    }
+}
+
 /// Adds the notes of a text's tokens.
 fn push_at_tokens(
     alloc: Global,
     notes: &mut Vec<Note>,
     dump: &Dump,
     accepted: &Accepted<'_, '_>,
-    bytes: &[u8],
+    beside: &Beside<'_, '_>,
 ) -> Result<(), AllocError> {
-    let turned = turned_beside(alloc, bytes, accepted.file)?;
+    let turned = told_of_selects(alloc, beside, accepted.file)?;
     let late = late_signals(alloc, dump, accepted.suite.names.as_slice())?;
     let facts = Facts {
         turned: turned.as_slice(),
@@ -103,7 +115,7 @@ pub(crate) fn push_read(
     accepted: &Accepted<'_, '_>,
     beside: &Beside<'_, '_>,
 ) -> Result<(), AllocError> {
-    push_at_tokens(alloc, notes, dump, accepted, beside.bytes)?;
+    push_at_tokens(alloc, notes, dump, accepted, beside)?;
     push_of_ports(alloc, notes, dump, accepted, beside.ports)?;
     push_widened(alloc, notes, dump, accepted.file)
 }

@@ -21,6 +21,11 @@ fn place_of(expr: &ExprTree) -> usize {
     }
 }
 
+/// Whether an operand of fewer than 32 bits is taken at more in its context.
+fn is_widened(operand: Own, context: Own) -> bool {
+    operand.width < context.width && operand.width < 32
+}
+
 /// Adds the note of an operator whose operand of so many bits is widened.
 fn push_widened(
     alloc: Global,
@@ -30,7 +35,7 @@ fn push_widened(
     operand: Own,
     context: Own,
 ) -> Result<(), AllocError> {
-    if !context.plain || operand.width >= context.width || operand.width >= 32 {
+    if !context.plain || !is_widened(operand, context) {
         return Ok(());
     }
     let width = context.width;
@@ -217,13 +222,16 @@ fn push_compared(
     Ok(())
 }
 
-/// The narrowest operand of a difference.
-fn narrowest(left: Own, right: Own) -> Own {
-    if right.width < left.width {
-        right
-    } else {
-        left
+/// The wider one of those of two operands that are widened: the difference of all has its width
+/// where the number has it, too.
+fn wider(left: Own, right: Own, context: Own) -> Own {
+    if !is_widened(right, context) {
+        return left;
     }
+    if is_widened(left, context) && right.width <= left.width {
+        return left;
+    }
+    right
 }
 
 /// Adds the note of the differences of a chain, where one operand is widened.
@@ -235,16 +243,16 @@ fn push_differences(
     links: &[(Infix, ExprTree)],
     context: Own,
 ) -> Result<(), AllocError> {
-    let mut least = own_of(alloc, scope, first)?;
+    let mut widest = own_of(alloc, scope, first)?;
     let mut has_difference = false;
     for link in links {
         if link.0 == Infix::Sub {
             has_difference = true;
         }
-        least = narrowest(least, own_of(alloc, scope, &link.1)?);
+        widest = wider(widest, own_of(alloc, scope, &link.1)?, context);
     }
     if has_difference {
-        push_widened(alloc, notes, place_of(first), "-", least, context)?;
+        push_widened(alloc, notes, place_of(first), "-", widest, context)?;
     }
     Ok(())
 }

@@ -8,7 +8,7 @@ use crate::team_commands::{serve_team_explain, serve_team_lint};
 use axi4_rules::{Case, Port, PortFault, read_ports};
 use cli::{Fault, NoGate, Request, Wanted, build_one, judge_one};
 use cli_bytecode::{run_code, upgrade_code, verify_code};
-use cli_lint::{LintFault, PortSaid, lint_one};
+use cli_lint::{LintFault, PortSaid, Selects, lint_one};
 use cli_names_command::{Filter, NamesFault, names_one};
 use cli_shell::{
     FormFiles, Sources, clash_of, open, print_rules, read_bytes, read_sources, refuse_words,
@@ -98,6 +98,7 @@ fn lint_text<R: Files + Print + AllocGlobal, D: Read + Drop>(
     rt: &R,
     dump: D,
     sources: &Sources,
+    selects: Selects,
 ) -> Result<u64, LintFault> {
     let mut dump = Counted::new(dump);
     let mut out = Counted::new(io::writer(rt));
@@ -113,6 +114,7 @@ fn lint_text<R: Files + Print + AllocGlobal, D: Read + Drop>(
         text,
         &origin,
         ports.as_slice(),
+        selects,
         &mut out,
     )
 }
@@ -123,8 +125,9 @@ pub(crate) fn lint_status<R: Files + Print + Eprint + AllocGlobal, D: Read + Dro
     rt: &R,
     dump: D,
     sources: &Sources,
+    selects: Selects,
 ) -> u8 {
-    match lint_text(rt, dump, sources) {
+    match lint_text(rt, dump, sources, selects) {
         Ok(0) => 0,
         Ok(_) => 2,
         Err(fault) => shown_status(rt, Err(lint_fault(fault))),
@@ -147,7 +150,7 @@ fn serve_lint<R: Files + Print + Eprint + AllocGlobal>(
         Ok(sources) => sources,
         Err(fault) => return shown_status(rt, Err(fault)),
     };
-    lint_status(rt, dump, &sources)
+    lint_status(rt, dump, &sources, Selects::Written)
 }
 
 /// Why the names of a dump are not told, as a fault of a command.

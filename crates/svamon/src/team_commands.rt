@@ -3,6 +3,7 @@
 use crate::explain::{ExplainAsked, explain_sources};
 use crate::serve::lint_status;
 use crate::team::{TeamFront, read_team, status_with};
+use cli_lint::Selects;
 use cli_shell::{chosen_sources, open, shown_status};
 use cli_words::TeamFiles;
 use std::fs::Files;
@@ -68,5 +69,6 @@ pub(crate) fn serve_team_lint<R: Files + Print + Eprint + AllocGlobal>(
         return 2;
     };
     let dump = Cursor::new(head).chain(dump);
-    status_with(is_whole, lint_status(rt, dump, &sources))
+    let status = lint_status(rt, dump, &sources, Selects::Converted);
+    status_with(is_whole, status)
 }
