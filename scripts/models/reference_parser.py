@@ -425,6 +425,40 @@ def firsts_nested(count):
             asserted('(' * (count - 1) + 'first_match(a) |-> b' + ')' * (count - 1))]
 
 
+# words that are names, and those that stand for themselves and are names after a dot alone
+NAMES = 'counter clear load add sub ready Or'.split()
+KEPT = '''sequence endsequence assert assume property posedge disable iff or and throughout intersect'''.split()
+
+
+def words_in_places():
+    """Each such word as a path, after a dot, and where a label, a sequence's and a counter's name stand."""
+    return [text for word in NAMES + KEPT
+            for text in (asserted(word), asserted(f'a.{word}'), f'{word}: ' + asserted('a'),
+                         f'sequence {word}; a endsequence ' + asserted('a'), f'counter {word} [2]; ' + asserted('a'))]
+
+
+# bounds and indices that are none, texts that end where one stands, comments, and an item of each kind
+LATER = [asserted(text) for text in ('##width a', 'a[*n]', '$past(a, n)', 'v[bit]', "v[8'h1F]", '$clog2(a)',
+                                     'a || ? b', "4 'b1")]
+LATER += [f'assert property (@(posedge c){text}'
+          for text in (' a ##', ' a ##[', ' a[*', ' $past(a,', ' v[', ' a |->', '')]
+LATER += ['counter n [', '/* more *///', 'req |->/* no */ ##12 ack_1 // end',
+          'assert property (@(posedge c) req |->/* no */ ##12 ack_1 // end',
+          'assert property (@(posedge c) req |->/* no */ ##12 ack_1);// end',
+          'counter n [128] clear(r) sub(s, 2); sequence s; a ##1 b endsequence counter: assume property '
+          '(@(posedge t.c) disable iff (!r) s);']
+
+# What is no text of tokens, with its fault by hand (IEEE 1800-2017, 5.7.1, and section 6 of docs/USING.md).
+LEXICAL = [
+    ('a 4294967296', 'L2 BadNumber 2'), ("'hFFFFFFFFF", 'L2 BadNumber 0'), ("4'b1x00", 'L2 BadNumber 0'),
+    (" 0'b1", 'L2 BadNumber 1'), ("129'b1", 'L2 BadNumber 0'), ("4'b", 'L2 BadNumber 0'), ("4'b_1", 'L2 BadNumber 0'),
+    ("8'hFF?a:b", 'L2 BadNumber 0'), ("128'h1" + '0' * 32, 'L2 BadNumber 0'), ("4'sb1", 'L1 BadCharacter 1'),
+    ("4'b 1", 'L2 BadNumber 0'), ("4' b1", 'L1 BadCharacter 1'),
+    ("a '0", 'L1 BadCharacter 2'), ('a \\ b', 'L1 BadCharacter 2'), ('a /* b', 'L3 UnclosedComment 2'),
+    ('/*', 'L3 UnclosedComment 0'), ('/*/', 'L3 UnclosedComment 0'),
+]
+
+
 def main(arguments):
     if arguments[0] != '--make':
         for line in open(arguments[0]):
@@ -433,12 +467,15 @@ def main(arguments):
     texts = BASES + texts_of_rules() + mutated(16, 400, BASES) + foreign_words()
     texts += FIRST_BASES + [asserted(text)
                             for text in FIRSTS] + firsts_nested(63) + firsts_nested(64) + mutated(43, 200, FIRST_BASES)
+    texts += words_in_places() + LATER
+    answers = [verdict(text) for text in texts] + [fault for _, fault in LEXICAL]
+    texts += [text for text, _ in LEXICAL]
     with open(f'{arguments[1]}/data/texts.txt', 'w') as out:
         out.writelines(text + '\n' for text in texts)
     # what stands at the roots of trees was worked out by hand
     roots = [line for line in open(f'{arguments[1]}/stdout') if line.startswith('root ')]
     with open(f'{arguments[1]}/stdout', 'w') as out:
-        out.writelines(f'{number} {verdict(text)}\n' for number, text in enumerate(texts, 1))
+        out.writelines(f'{number} {answer}\n' for number, answer in enumerate(answers, 1))
         out.writelines(roots)
 
 

@@ -71,7 +71,7 @@ def with_names(crate):
     if crate == "answers_types":
         for line in texts_of(f"{DATA}/{crate}/data/names.txt"):
             path, width = line.split(" ")
-            widths[path] = int(width)
+            widths.setdefault(path, int(width))
     return widths
 
 

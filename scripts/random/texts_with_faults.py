@@ -10,13 +10,20 @@ import pathlib
 DATA = pathlib.Path(__file__).resolve().parents[2] / 'crates' / 'answers_types'
 ORDER = ['Y1 UnknownName', 'Y2 Duplicate', 'Y3 WiderThan128', 'Y4 SliceRange', 'Y7 OtherClock', 'Y8 CyclicSequence',
          'Y9 TooWide', 'Y5 Degenerate', 'Y6 AdmitsEmpty']
-NAMES = [('top.clk', 1), ('top.a', 1), ('top.b', 1), ('top.d', 8), ('top.w', 100), ('top.v', 128), ('g', 8)]
+NAMES = [('top.clk', 1), ('top.a', 1), ('top.b', 1), ('top.d', 8), ('top.w', 100), ('top.v', 128), ('g', 8),
+         # the first of two paths that are the same counts
+         ('top.a', 2)]
 
 FIRST = 'r: assert property (@(posedge top.clk) top.a |-> top.b);'
 
 
 def on_clock(label, body):
     return f'{label}: assert property (@(posedge top.clk) {body});'
+
+
+# with a select out of range, and a number of 128 bits
+DISABLED = 't: assert property (@(posedge top.clk) disable iff (top.a) ^top.d[8]);'
+ALL_ONES = "128'H" + 32 * 'F'
 
 
 # one text for each kind of fault; two of them stand in one text without a fault of a third kind
@@ -159,6 +166,20 @@ BORDERS = [
     ('Y3 WiderThan128', on_clock('t', "^{top.a, top.d[9:2], 120'd0} == 0")),
     ('Y4 SliceRange', on_clock('t', "{^top.d[2:9], 127'd0} == 0")),
     ('Y3 WiderThan128', on_clock('t', "^{top.d[2:9], 128'd0} == 0")),
+    # which of two equal names counts, faults of three kinds, and of these the next
+    ('Y1 UnknownName', 'sequence n; top.a endsequence counter n [8]; ' + on_clock('t', '^n[1]')),
+    ('Y2 Duplicate', 'counter n [8]; sequence ^n; top.a endsequence ' + on_clock('t', 'n[1]')),
+    ('Y2 Duplicate', 'counter n [2]; counter ^n [8]; ' + on_clock('t', 'n[2]')),
+    ('Y1 UnknownName', 'counter n [2] load(top.a, {top.v, top.v}) sub(^b, 1); ' + DISABLED.replace('^', '')),
+    ('Y3 WiderThan128', 'counter n [2] load(top.a, ^{top.v, top.v}) sub(top.b, 1); ' + DISABLED.replace('^', '')),
+    ('Y4 SliceRange', 'counter n [2] load(top.a, top.v) sub(top.b, 1); ' + DISABLED),
+    # where a sequence may be named, and what is named before it is declared
+    (None, 'sequence q; top.a endsequence ' + on_clock('t', '(q)')),
+    ('Y1 UnknownName', 'sequence q; top.a endsequence ' + on_clock('t', '^q[0]')),
+    (None, 'counter c [4] add(c < d, 1); counter d [8] load(c == 3, d + 1); ' + on_clock('t', 's |-> c < d')
+     + ' sequence s; c == 2 ##1 top.a endsequence'),
+    (None, on_clock('t', f"{{{ALL_ONES}}}")),
+    ('Y3 WiderThan128', on_clock('t', f"^{{{ALL_ONES}, 1'd0}}")),
 ]
 
 # expressions with their own widths, by the standard's table of widths (IEEE 1800-2017, table 11-21)
@@ -171,6 +192,8 @@ WIDTHS = [
     *[(f"top.d {sign} 9'd1", 9) for sign in ('+', '-', '&', '|', '^', '~^', '^~')],
     *[(f"top.d {sign} 9'd1", 8) for sign in ('<<', '>>')],
     *[(f"top.d {sign} 9'd1", 1) for sign in ('<', '<=', '>', '>=', '==', '!=', '&&', '||')],
+    # numbers (5.7.1)
+    ("9'h1FF", 9), ("4'b1_0_1", 4), ("3'd9", 3), ("'o17", 32), ('4294967295', 32),
 ]
 
 

@@ -22,8 +22,6 @@
 mod fault;
 mod lint;
 mod refusals;
-#[cfg(test)]
-mod tests;
 mod unjudged;
 
 pub use fault::LintFault;

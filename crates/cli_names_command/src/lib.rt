@@ -37,8 +37,6 @@ mod note;
 mod rows;
 mod spelled;
 mod table;
-#[cfg(test)]
-mod tests;
 
 pub use fault::NamesFault;
 pub use filter::Filter;

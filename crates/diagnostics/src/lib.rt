@@ -36,8 +36,6 @@ mod place;
 mod refusal_text;
 mod span;
 mod stray;
-#[cfg(test)]
-mod tests;
 
 pub use blank::blanked;
 pub use front::{FrontEnd, Refusal};
