@@ -153,6 +153,19 @@ ROWS = [
                              both(both(b, c), no(a)))), S(D))),
     ('a |-> {3{b}} == 3\'d7', then(A, S(B))),
     ('$sampled(a) |-> b', then(A, S(B))),
+    # properties in one another
+    ('(a |-> b) and (not c or d)', ('and', then(A, S(B)), ('or', never(S(C)), S(D)))),
+    ('if (a) b else c |=> d', ('if_else', a, S(B), after(C, S(D)))),
+    ('(a |-> b) implies c', ('implies', then(A, S(B)), S(C))),
+    ('(a |-> b) iff c', ('iff', then(A, S(B)), S(C))),
+    ('a ##1 b intersect c ##1 d #-# not (a ##1 b)',
+     ('followed', ('intersect', delay(A, 1, 1, B), delay(C, 1, 1, D)), never(S(delay(A, 1, 1, B))))),
+    ('a #=# (b |-> c)', ('next_followed', A, then(B, S(C)))),
+    ('nexttime nexttime[3] (a |-> b)', ('next', 1, ('next', 3, then(A, S(B))))),
+    ('always [1:4] (a |-> s_eventually [0:2] b)', ('always', 1, 4, then(A, ('eventually', 0, 2, S(B))))),
+    ('a |-> b s_until_with (c |-> d)', then(A, ('until_with', S(B), then(C, S(D))))),
+    ('not ##[1:2] a', never(S(lead(1, 2, A)))),
+    ('a #-# b implies c until_with d', ('followed', A, ('implies', S(B), ('until_with', S(C), S(D))))),
     # local variables and triggered
     ]
 

@@ -17,8 +17,8 @@
 //! Work is bounded: a text comes to so many pieces, with so many open brackets and booleans as the
 //! profile takes; what passes that is `TooHeavy`.
 //!
-//! Not promised, but tested (`tests_import_texts`): that a text is one of the profile's grammar,
-//! and that it says what the rewriting and its terms say.
+//! Not promised, but tested (`scripts/tools/team_texts.py`): that a text is one of the profile's
+//! grammar, and that it says what the rewriting and its terms say.
 #![tactic(auto)]
 
 mod assertion;
