@@ -284,6 +284,8 @@ ITEMS = (
      "refused assert_3 Expected"),
     ("junk ( stray ; module m; endmodule §`N(x) assert property (y);", "assert_1: y", "note `N UnknownMacro"),
     ("a: §assert property (x |-> (y; b: assert property (z);", "b: z", "refused a Expected"),
+    ("a: §assert property (x |-> y ] z ##1 w); b: assert property (z);", "b: z", "refused a Expected"),
+    ("a: §assert property (x |-> {y } } ##1 w); b: assert property (z);", "b: z", "refused a Expected"),
     ("module m; a: §assert property (x |-> (y; endmodule c: assume property (z);", "c: z", "refused a Expected"),
     ("a: §assert property (x |-> y; property p; z; endproperty default disable iff (r); §b: cover property (q); "
      "c: assert property (p);", "c: disable iff (r) z", "refused a Expected", "note b Cover"),

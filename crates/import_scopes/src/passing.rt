@@ -265,7 +265,18 @@ pub(crate) fn begins_item(tokens: &[Token], index: usize) -> bool {
         || gives_default(tokens, index)
 }
 
-/// Where the brackets of an assertion end that begin at a place.
+/// The first place from one on at which an item of its own begins, or the end.
+fn next_item(tokens: &[Token], start: usize) -> usize {
+    for index in start..tokens.len() {
+        if begins_item(tokens, index) {
+            return index;
+        }
+    }
+    tokens.len()
+}
+
+/// Where the brackets of an assertion end that begin at a place with `(`. A bracket of another kind
+/// doesn't close them.
 pub(crate) fn assertion_brackets(tokens: &[Token], open: usize) -> Brackets {
     let mut depth = 0u64;
     for index in open..tokens.len() {
@@ -274,7 +285,11 @@ pub(crate) fn assertion_brackets(tokens: &[Token], open: usize) -> Brackets {
         }
         depth = deeper(depth, tokens[index].kind);
         if depth == 0 {
-            return Brackets::Closed(index + 1);
+            return if is_symbol(tokens, index, Symbol::CloseRound) {
+                Brackets::Closed(index + 1)
+            } else {
+                Brackets::Open(next_item(tokens, index))
+            };
         }
     }
     Brackets::Open(tokens.len())
