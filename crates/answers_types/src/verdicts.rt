@@ -73,7 +73,7 @@ fn told(alloc: Global, verdict: Verdict) -> Result<String> {
 
 /// The verdicts on the first assertion of a suite, one a tick.
 fn verdicts_of(alloc: Global, suite: &Suite, ticks: &str) -> Result<String> {
-    let assertion = suite.assertions.as_slice().first().context("no assertion")?;
+    let assertion = suite.assertions().first().context("no assertion")?;
     let signals = signals_of(alloc, suite, ticks)?;
     let rows = count(alloc, signals, suite.counters.as_slice())?;
     let mut answer = String::new(alloc);
