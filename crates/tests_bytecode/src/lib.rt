@@ -25,6 +25,8 @@ mod cuts;
 mod file_faults;
 #[cfg(test)]
 mod files;
+#[cfg(test)]
+mod lines;
 mod outcome;
 mod program;
 #[cfg(test)]
