@@ -4,7 +4,7 @@ and windows of many sizes, dumps and devices that end at each byte, words, and f
 `outside` imports it. What must come was worked out by hand: lines, statuses and their order from docs/USING.md, reports
 from IEEE 1800-2017 (16.9, 16.12) by arithmetic on the numbers of the ticks, dumps that end early from IEEE 1364-2005
 (18.2), files of bytecode from what the docs and `bytecode_cases` tell of their form, and a file for GTKWave from the
-form of its version 3.3.
+form of its version 3.3. Of files of bytecode two models are asked as well, which share no code with svamon.
 """
 import copy
 import os
@@ -14,7 +14,8 @@ import socket
 import sys
 
 sys.path.append(f"{os.path.dirname(os.path.realpath(__file__))}/../models")
-from bytecode_cases import FIRST, SMALL, accepting_first, in_version_2
+from bytecode_cases import FIRST, SMALL, accepting_first, answer, in_version_2
+from verifier_model import answer_to, decode, faults_of
 
 # One tick, at which x is 1 and y is 0; and what `x |-> y` comes to there, and over no tick.
 DUMP = ("$timescale 1ns $end\n$scope module top $end\n$var wire 1 ! clk $end\n$var wire 1 \" x $end\n"
@@ -239,6 +240,14 @@ ACCEPTED = (
     (13, "01000000", LIMITS.replace("budget 14", "budget 16777216")))
 
 
+def said_by_models(data):
+    """What the models of `answers_bytecode` and `answers_verifier` say of a file."""
+    if answer(data) != "program":
+        return answer(data)
+    program = decode(data)
+    return answer_to(program, faults_of(program))
+
+
 def try_bytecode_faults(shell):
     """Files of bytecode that are refused, by each command that reads one, and some that are accepted."""
     files = [(changed(at, data), line) for at, data, line in NO_PROGRAMS]
@@ -247,6 +256,7 @@ def try_bytecode_faults(shell):
     files += [(accepting_first(in_version_2(SMALL), 1), "F16 AcceptKind 1")]
     for place, (data, line) in enumerate(files):
         put(shell, "bad.svm", data)
+        shell.tally.note(f"the models' {line}", line, said_by_models(data))
         shell.expect("verify bad.svm", 2, line=f"svamon: {line}")
         if line[:2] != "B3" or place % 8 == 0:
             shell.expect("run --vcd row.vcd --code bad.svm", 2, line=f"svamon: {line}")
