@@ -1,38 +1,26 @@
-//! Tests of `cli_bytecode` on files of bytecode from strangers: each refusal with its line, runs
-//! that are refused, devices that fail, and upgrades.
+//! What tests of calls need: what an answer tells, and the file of the smallest program; and the
+//! lines of those faults that no command prints.
 //!
-//! A file is that of the smallest program with a stretch of it replaced, so that a row of a table
-//! says what is wrong with it and what is told. `told` makes lines, counts and statuses of what the
-//! calls answer, so that no test holds a fault, a value of many variants, over a `?`.
+//! `told` makes a line, counts and a status of what a call answers, so that nothing else holds a
+//! fault, a value of many variants, over a `?`.
 //!
 //! ```text
-//! let file = replaced(rt.alloc(), 0, 1, &[0])?;                     // its first byte made 00
-//! let answer = told(rt.alloc(), verify_code(rt.alloc(), file.as_slice(), &mut out).map(..))?;
-//! assert!(rt; answer.is("svamon: B1 Magic", 2));
+//! let answer = told(alloc, check_one(alloc, &mut dump, text, 2, &mut out))?;
+//! answer.totals                         // or none, and answer.line is `svamon: V3 TimeBack 7`
 //! ```
 //!
-//! `rt test` in this crate proves the tests and runs them. The definitions that the contracts cite
-//! stand in `bytecode_files` (what bytes spell), `verifier` (which programs may run) and
-//! `cli_bytecode`, each in its `specs/`. More files, with answers from outside, are in the tables
-//! of `answers_bytecode` and `answers_verifier`.
+//! `rt test` in this crate proves the test and runs it. Files of bytecode and their faults, devices
+//! that fail, and all other lines are rows of `scripts/tools/command_rows.py`, which tries the
+//! built program, and of the tables of `answers_bytecode` and `answers_verifier`. The definitions
+//! that the contracts of `cli_faults` cite stand there, in `specs/`.
 //!
-//! Not promised: that each file that matters occurs here; `told` and `PROGRAM` are for tests alone.
+//! Not promised: `told` and `PROGRAM` are for tests alone.
 #![tactic(auto)]
 
 #[cfg(test)]
-mod cuts;
-#[cfg(test)]
-mod file_faults;
-#[cfg(test)]
-mod files;
+mod lines;
 mod outcome;
 mod program;
-#[cfg(test)]
-mod program_faults;
-#[cfg(test)]
-mod programs;
-#[cfg(test)]
-mod runs;
 
 pub use outcome::{Answer, has_line, told};
 pub use program::PROGRAM;
