@@ -1,54 +1,10 @@
 -- What a dump holds, against its contents.
-use Rattle.std.proofs.Common.{
-  ◌≡◌,
-  ℕ,
-  zero,
-  suc,
-  ◌+◌,
-  ◌*◌,
-  ◌<◌,
-  ◌≤◌,
-  Bool,
-  true,
-  false,
-  cond,
-  eqb,
-  List,
-  [],
-  ◌∷◌,
-  ◌++◌,
-  length,
-  get_or,
-  take,
-  drop,
-  map,
-  Option,
-  Some,
-  None,
-  refl,
-  sym,
-  ap,
-  ◌∙◌,
-  arith,
-  add-one,
-  ◌&&◌,
-}
+use Rattle.std.proofs.Common.{◌≡◌, ℕ, suc, ◌+◌, ◌<◌, ◌≤◌, Bool, true, false, cond, eqb, List, [], ◌∷◌, ◌++◌, length}
+use Rattle.std.proofs.Common.{get_or, take, map, Option, Some, None, refl, sym, ap, ◌∙◌, arith, add-one, ◌&&◌}
 use Rattle.std.specs.Option.{option_map}
 use Rattle.std.specs.Prelude.{is_some}
 use Rattle.std.specs.List.{flat_map}
-use Rattle.std.proofs.lemmas.Grind.{flat_map-append}
-use Rattle.std.proofs.Math.Nat.{suc-mul, mul-le-mul_right}
-use Rattle.std.proofs.Math.Seq.{drop-append-add}
-use Rattle.std.proofs.lemmas.List.{
-  append-nil,
-  append_assoc,
-  take_at,
-  take-map,
-  take_more,
-  get_or-map,
-  length-map,
-  map-append,
-}
+use Rattle.std.proofs.lemmas.List.{append_assoc, take-map, take_more, get_or-map, length-map, map-append}
 use Rattle.vcd_reader.specs.declared.dump.Dump.{Dump}
 use Rattle.vcd_reader.specs.declared.step.Step.{Step}
 use Rattle.vcd_reader.specs.declared.variable.VarId.{VarId}
@@ -77,6 +33,7 @@ use Rattle.vcd_reader.specs.Held.{HoldsContents, steps_in, high_of, value_of_cha
 use Rattle.vcd_reader.specs.Variables.{code_number, size_of}
 use Rattle.cycle_window.specs.Ticks.{is_tick, sample, row_of, ticks_of}
 use Rattle.cycle_window.specs.declared.window.Window.{Window}
+use Rattle.cycle_window.specs.Samples.{column_of}
 use Rattle.cycle_window.specs.Changes.{changes_to, last_of}
 use Rattle.cycle_window.specs.Held.{columns_in, clock_in, end_in, IsOver}
 
@@ -224,45 +181,17 @@ pub row-long : (c : Contents) (places : List ℕ) (k : ℕ) → length (row_of c
 unfolding row_of
 row-long c places k = length-map places (sample c k)
 
--- rows with one more
-pub rows-more : (row : ℕ → List ℕ) (ticks : List ℕ) (i : ℕ) (values new : List ℕ) → i < length ticks
-    → values ≡ flat_map row (take i ticks) → new ≡ values ++ row (get_or ticks i 0)
-    → new ≡ flat_map row (take (i + 1) ticks)
-rows-more row ticks i values new lt so-far is =
-    is ∙ ap (λ (xs : List ℕ). xs ++ row (get_or ticks i 0)) so-far
-    ∙ sym (ap (flat_map row) (take_more ticks i 0 lt)
-    ∙ flat_map-append row (take i ticks) (get_or ticks i 0 ∷ [])
-    ∙ ap (λ (xs : List ℕ). flat_map row (take i ticks) ++ xs)
-    (append-nil (row (get_or ticks i 0))))
-
--- the place after one more row
-pub place-more : (i w : ℕ) → (i + 1) * w ≡ i * w + w
-place-more i w = ap (λ (n : ℕ). n * w) (add-one i) ∙ suc-mul i w
-
--- one of the rows, each of which has so many values
-pub row-at : (row : ℕ → List ℕ) (w : ℕ) → ((k : ℕ) → length (row k) ≡ w) → (ticks : List ℕ) (i : ℕ)
-    → i < length ticks → take w (drop (i * w) (flat_map row ticks)) ≡ row (get_or ticks i 0)
-row-at row w long [] i lt = absurd (omega arith)
-row-at row w long (t ∷ ts) zero lt =
-    let none : 0 * w ≡ 0 = omega arith in
-    ap (λ (n : ℕ). take w (drop n (row t ++ flat_map row ts))) none
-    ∙ take_at (row t) (flat_map row ts) w (long t)
-row-at row w long (t ∷ ts) (suc i) lt =
-    let behind : suc i * w ≡ length (row t) + i * w = omega (arith, suc-mul i w, long t) in
-    let here : drop (suc i * w) (row t ++ flat_map row ts) ≡ drop (i * w) (flat_map row ts) =
-    ap (λ (n : ℕ). drop n (row t ++ flat_map row ts)) behind
-    ∙ drop-append-add (row t) (flat_map row ts) (i * w) in
-    ap (take w) here ∙ row-at row w long ts i (omega arith)
-
--- a row of so many lies within all of them
-pub row-inside : (i count w long : ℕ) → i < count → long ≡ count * w → i * w + w ≤ long
-row-inside i count w long lt is =
-    omega (
-      arith,
-      is,
-      place-more i w,
-      mul-le-mul_right w (let le : i + 1 ≤ count = omega arith in le),
-    )
+-- a column with one more row
+pub column-more :
+    (row : ℕ → List ℕ) (place : ℕ) (steps : List ℕ) (i : ℕ) (values new : List ℕ) (value : ℕ)
+    → i < length steps → values ≡ column_of row place (take i steps)
+    → value ≡ get_or (row (get_or steps i 0)) place 0 → new ≡ values ++ value ∷ []
+    → new ≡ column_of row place (take (i + 1) steps)
+column-more row place steps i values new value lt so-far is pushed =
+    let at : ℕ → ℕ = λ k. get_or (row k) place 0 in
+    pushed ∙ ap (λ (xs : List ℕ). xs ++ value ∷ []) so-far
+    ∙ ap (λ (n : ℕ). map at (take i steps) ++ n ∷ []) is
+    ∙ sym (ap (map at) (take_more steps i 0 lt) ∙ map-append at (take i steps) (get_or steps i 0 ∷ []))
 
 -- a window over the contents ends with their ticks at the latest
 pub over-end : (w : Window) (c : Contents) → IsOver w c

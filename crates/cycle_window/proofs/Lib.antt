@@ -3,5 +3,6 @@ pub mod TickLaws
 pub mod HeldLaws
 pub mod BoundLaws
 pub mod PickLaws
+pub mod SampleLaws
 pub mod WindowLaws
 pub mod StayLaws

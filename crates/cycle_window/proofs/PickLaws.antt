@@ -43,26 +43,16 @@ use Rattle.cycle_window.specs.Variables.{places, AreOf}
 use Rattle.cycle_window.specs.Ticks.{row_of, sample}
 use Rattle.cycle_window.specs.Picks.{picked, AreBelow, ArePicks}
 
--- with one more place
-pub picked-more : (list picks : List ℕ) (i pick : ℕ) → i < length picks → pick ≡ get_or picks i 0
-    → picked list (take (i + 1) picks) ≡ picked list (take i picks) ++ get_or list pick 0 ∷ []
-unfolding picked
-picked-more list picks i pick lt at =
-    ap (map (λ (n : ℕ). get_or list n 0)) (take_more picks i 0 lt)
-    ∙ map-append (λ (n : ℕ). get_or list n 0) (take i picks) (get_or picks i 0 ∷ [])
-    ∙ ap (λ (n : ℕ). map (λ (m : ℕ). get_or list m 0) (take i picks) ++ get_or list n 0 ∷ [])
-    (sym at)
-
--- values with one more that was picked
-pub values-more : (before values new list picks : List ℕ) (i pick value : ℕ) → i < length picks
-    → pick ≡ get_or picks i 0 → value ≡ get_or list pick 0
-    → values ≡ before ++ picked list (take i picks) → new ≡ values ++ value ∷ []
-    → new ≡ before ++ picked list (take (i + 1) picks)
-values-more before values new list picks i pick value lt at is so-far pushed =
+-- values with one more that a function gives of places
+pub mapped-more : (f : ℕ → ℕ) (before values new picks : List ℕ) (i value : ℕ) → i < length picks
+    → value ≡ f (get_or picks i 0) → values ≡ before ++ map f (take i picks) → new ≡ values ++ value ∷ []
+    → new ≡ before ++ map f (take (i + 1) picks)
+mapped-more f before values new picks i value lt is so-far pushed =
     pushed ∙ ap (λ (xs : List ℕ). xs ++ value ∷ []) so-far
-    ∙ append_assoc before (picked list (take i picks)) (value ∷ [])
-    ∙ ap (λ (v : ℕ). before ++ (picked list (take i picks) ++ v ∷ [])) is
-    ∙ ap (λ (xs : List ℕ). before ++ xs) (sym (picked-more list picks i pick lt at))
+    ∙ append_assoc before (map f (take i picks)) (value ∷ [])
+    ∙ ap (λ (n : ℕ). before ++ (map f (take i picks) ++ n ∷ [])) is
+    ∙ ap (λ (xs : List ℕ). before ++ xs)
+    (sym (ap (map f) (take_more picks i 0 lt) ∙ map-append f (take i picks) (get_or picks i 0 ∷ [])))
 
 -- the places of no variable
 pub picks-none : (list : List ℕ) → ArePicks list [] []

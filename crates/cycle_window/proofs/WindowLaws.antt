@@ -1,7 +1,6 @@
 -- A part of the ticks, and the rows there.
-use Rattle.std.proofs.Common.{◌≡◌, ℕ, ◌+◌, ◌-◌, ◌*◌, ◌<◌, ◌≤◌, List, length, get_or, take, drop}
+use Rattle.std.proofs.Common.{◌≡◌, ℕ, ◌+◌, ◌-◌, ◌<◌, ◌≤◌, List, length, get_or, take, drop}
 use Rattle.std.proofs.Common.{ap, sym, ◌∙◌, arith, slice_range}
-use Rattle.std.specs.List.{flat_map}
 use Rattle.std.proofs.lemmas.List.{get_or-take, get_or-drop, length-take-le, length-drop}
 use Rattle.std.proofs.lemmas.List.{take-map, drop-map}
 use Rattle.vcd_reader.specs.Dump.{Contents}
@@ -9,7 +8,6 @@ use Rattle.cycle_window.specs.Ticks.{ticks_of}
 use Rattle.cycle_window.specs.Rows.{AreAhead}
 use Rattle.cycle_window.specs.Picks.{picked, AreBelow}
 use Rattle.cycle_window.proofs.TickLaws.{tick-order, tick-inside}
-use Rattle.cycle_window.proofs.HeldLaws.{row-at}
 
 pub slice-at : (xs : List ℕ) (a b n : ℕ) → n < b - a
     → get_or (slice_range xs a b) n 0 ≡ get_or xs (a + n) 0
@@ -56,18 +54,6 @@ ticks-behind c code ticks is first end le inside n later lt m mlt =
     let here = slice-at ticks first end m (omega (arith, size)) in
     let order = tick-order c code ticks is (first + m) n (omega (arith, size)) lt in
     omega (arith, here, order)
-
--- the row of a tick among the rows of a part of the ticks
-pub row-among : (row : ℕ → List ℕ) (w : ℕ) → ((k : ℕ) → length (row k) ≡ w) → (ticks : List ℕ)
-    → (first end tick : ℕ) → first ≤ tick → tick < end → end ≤ length ticks
-    → take w (drop ((tick - first) * w) (flat_map row (slice_range ticks first end)))
-    ≡ row (get_or ticks tick 0)
-row-among row w long ticks first end tick low high inside =
-    let size = slice-long ticks first end (omega arith) inside in
-    let here = slice-at ticks first end (tick - first) (omega arith) in
-    let sum : first + (tick - first) ≡ tick = omega arith in
-    row-at row w long (slice_range ticks first end) (tick - first) (omega (arith, size))
-    ∙ ap row (here ∙ ap (λ (n : ℕ). get_or ticks n 0) sum)
 
 -- a part of the places is below what they are below
 pub below-part : (n a b : ℕ) (picks : List ℕ) → a ≤ b → b ≤ length picks → AreBelow n picks

@@ -4,6 +4,7 @@ pub mod Variables
 pub mod Changes
 pub mod Rows
 pub mod Stays
+pub mod Samples
 pub mod Cursors
 pub mod Held
 pub mod Bound

@@ -1,17 +1,19 @@
 -- The rows that a window holds.
 use Rattle.std.specs.Prelude.{◌≡◌, ℕ, ◌<◌, ◌≤◌, List, length, get_or, slice_range}
-use Rattle.std.specs.List.{flat_map}
 use Rattle.vcd_reader.specs.declared.dump.Dump.{Dump}
 use Rattle.vcd_reader.specs.Dump.{Contents}
 use Rattle.vcd_reader.specs.Held.{HoldsContents}
 use Rattle.cycle_window.specs.Ticks.{ticks_of, row_of}
+use Rattle.cycle_window.specs.declared.samples.Samples.{Samples}
+use Rattle.cycle_window.specs.Samples.{Each, column_of}
 
--- The values are the rows of the variables with these places at the ticks of the clock with that
--- code, from the tick `first` up to the tick `end`, which is not among them, one after the other.
-abbrev pub AreRowsOf : Dump → ℕ → List ℕ → ℕ → ℕ → List ℕ → Type 0
-AreRowsOf d code places first end values =
+-- The samples are those of the variables with these places at the ticks of the clock with that
+-- code, from the tick `first` up to the tick `end`, which is not among them.
+abbrev pub AreSamplesOf : Dump → ℕ → List ℕ → ℕ → ℕ → List Samples → Type 0
+AreSamplesOf d code places first end all =
     (c : Contents) → HoldsContents d c
-    → values ≡ flat_map (row_of c places) (slice_range (ticks_of c code) first end)
+    → Each (λ i s. s.values.items
+    ≡ column_of (row_of c places) i (slice_range (ticks_of c code) first end)) all
 
 -- no tick from the tick `end` on lies before the step `at`
 abbrev pub IsBefore : Dump → ℕ → ℕ → ℕ → Type 0

@@ -1,21 +1,20 @@
 -- How long values stay the same, row after row (IEEE 1800-2017, 16.5.1: a row has the values that
 -- are sampled at a tick).
-use Rattle.std.specs.Prelude.{◌≡◌, ◌≢◌, ℕ, ◌+◌, ◌*◌, ◌<◌, ◌≤◌, List, length, get_or, slice_index}
+use Rattle.std.specs.Prelude.{◌≡◌, ◌≢◌, ℕ, ◌+◌, ◌<◌, ◌≤◌, List, length, get_or, slice_index}
 use Rattle.vcd_reader.specs.Dump.{Contents}
 use Rattle.cycle_window.specs.Ticks.{ticks_of, row_of}
 
--- In rows of so many values, one after the other: the value at a place is that of its variable in
--- so many later rows, too, and in the row after those it is another, if there is such a row.
-pub record StaysFor (width : ℕ) (values : List ℕ) (place rows : ℕ) : Type 0 where
-  pub inside : place + rows * width < length values
-  pub same : (n : ℕ) → n ≤ rows → get_or values (place + n * width) 0 ≡ get_or values place 0
-  pub ends : place + (rows + 1) * width < length values
-      → get_or values (place + (rows + 1) * width) 0 ≢ get_or values place 0
+-- In values one after the other: the value at a place is that at so many places after it, too, and
+-- at the place after those it is another, if there is such a place.
+pub record StaysFor (values : List ℕ) (place count : ℕ) : Type 0 where
+  pub inside : place + count < length values
+  pub same : (n : ℕ) → n ≤ count → get_or values (place + n) 0 ≡ get_or values place 0
+  pub ends : place + (count + 1) < length values
+      → get_or values (place + (count + 1)) 0 ≢ get_or values place 0
 
--- each value stays for as many rows as are noted at its place
-abbrev pub AreStays : ℕ → List ℕ → List ℕ → Type 0
-AreStays width values stays =
-    (i : ℕ) → i < length values → StaysFor width values i (get_or stays i 0)
+-- each value stays for as many places as are noted at its own
+abbrev pub AreStays : List ℕ → List ℕ → Type 0
+AreStays values stays = (i : ℕ) → i < length values → StaysFor values i (get_or stays i 0)
 
 -- At so many ticks of the clock with that code after a tick, the row of the variables with these
 -- places is that at the tick.

@@ -7,16 +7,17 @@ ghost use Rattle.vcd_reader.specs.declared.dump.Dump.{Dump};
 ghost use Rattle.vcd_reader.specs.Held.{HoldsContents};
 ghost use Rattle.cycle_window.specs.Ticks.{ticks_of, row_of};
 ghost use Rattle.cycle_window.specs.Variables.{places};
-ghost use Rattle.cycle_window.specs.Rows.{AreRowsOf};
-ghost use Rattle.cycle_window.specs.Stays.{AreStays, RowStays};
+ghost use Rattle.cycle_window.specs.Rows.{AreSamplesOf};
+ghost use Rattle.cycle_window.specs.Samples.{Each, IsFull};
+ghost use Rattle.cycle_window.specs.Stays.{RowStays};
 
 use crate::clocks::Clocks;
 use crate::columns::Columns;
 use crate::cursor::Cursor;
-use crate::picks::push_picked;
+use crate::picks::{least_stay, push_picked};
+use crate::samples::{Samples, blank_samples, note_each};
 use crate::size::WindowSize;
-use crate::stays::{least_stay, note_stays};
-use crate::window_rows::fill_rows;
+use crate::window_rows::fill_samples;
 use std::alloc::{AllocError, Global};
 use vcd_reader::Dump;
 
@@ -29,22 +30,19 @@ pub struct Window<'d> {
     pub(crate) first: usize,
     pub(crate) end: usize,
     pub(crate) cursor: Cursor,
-    /// Rows of the columns' variables, one after the other.
-    pub(crate) values: Vec<u128>,
-    /// For how many rows after its own each value stays.
-    pub(crate) stays: Vec<u16>,
+    /// Of each of the columns' variables its values at these clocks.
+    pub(crate) samples: Vec<Samples>,
+    /// Room for a row of them.
+    pub(crate) row: Vec<u128>,
     ghost ordered: { first ≤ end },
     ghost inside: { end ≤ columns.count },
     ghost few: { end - first ≤ size },
     ghost small: { size ≤ 65536 },
-    ghost rows: { AreRowsOf columns.dump.now columns.code (places columns.shared.variables.items)
-        first end values.items },
-    ghost full: { length values.items ≡ (end - first) * length columns.shared.variables.items },
-    ghost room: { min size columns.count * length columns.shared.variables.items
-        ≤ vec_capacity values },
-    ghost notes: { min size columns.count * length columns.shared.variables.items
-        ≤ length stays.items },
-    ghost stay: { AreStays (length columns.shared.variables.items) values.items stays.items },
+    ghost rows: { AreSamplesOf columns.dump.now columns.code
+        (places columns.shared.variables.items) first end samples.items },
+    ghost many: { length samples.items ≡ length columns.shared.variables.items },
+    ghost full: { Each (λ i. IsFull (min size columns.count) (end - first)) samples.items },
+    ghost wide: { length columns.shared.variables.items ≤ vec_capacity row },
 }
 
 impl<'d> Window<'d> {
@@ -73,21 +71,48 @@ impl<'d> Window<'d> {
     {
         let size = size.clocks();
         let variables = columns.shared.variables.as_slice();
-        let Some(room) = size.min(columns.count).checked_mul(variables.len()) else {
-            return Err(AllocError);
-        };
         let cursor = Cursor::new(alloc, columns.dump, variables)?;
-        let values = Vec::with_capacity(alloc, room)?;
-        let stays = Vec::from_elem(alloc, 0u16, room)?;
+        let samples = blank_samples(alloc, variables.len(), size.min(columns.count))?;
+        let row = Vec::with_capacity(alloc, variables.len())?;
         Ok(Window {
             columns,
             size,
             first: 0,
             end: 0,
             cursor,
-            values,
-            stays,
+            samples,
+            row,
         })
+    }
+
+    /// The clocks from one on, up to the window's size or to the last clock. None of them is in the
+    /// window, or before it. The dump and the clocks are those of its columns.
+    pub fn slide_to(&mut self, first: u64, dump: &Dump, clocks: &Clocks)
+        requires same { IsWindowOf self.old dump.now clocks.now }
+        requires ahead { end_in self.old ≤ first }
+        requires remain { first < length (ticks_in clocks.now) }
+        ensures same { IsWindowOf self.new dump.now clocks.now }
+        ensures columns { columns_in self.new ≡ columns_in self.old }
+        ensures size { size_in self.new ≡ size_in self.old }
+        ensures first { first_in self.new ≡ first }
+        ensures end { end_in self.new
+            ≡ min (length (ticks_in clocks.now)) (first + size_in self.old) }
+    {
+        let first = first as usize;
+        let end = first + self.size.min(clocks.ticks.len() - first);
+        let ticks = &clocks.ticks[first..end];
+        let columns = &self.columns;
+        fill_samples(
+            &mut self.samples,
+            &mut self.row,
+            &mut self.cursor,
+            dump,
+            columns.shared.variables.as_slice(),
+            ticks,
+        );
+        note_each(&mut self.samples);
+        self.first = first;
+        self.end = end;
     }
 
     /// The next clocks: from the window's end up to its size, or up to the last clock. The dump and
@@ -102,49 +127,8 @@ impl<'d> Window<'d> {
         ensures end { end_in self.new
             ≡ min (length (ticks_in clocks.now)) (end_in self.old + size_in self.old) }
     {
-        let first = self.end;
-        let end = first + self.size.min(clocks.ticks.len() - first);
-        let ticks = &clocks.ticks[first..end];
-        let columns = &self.columns;
-        fill_rows(
-            &mut self.values,
-            &mut self.cursor,
-            dump,
-            columns.shared.variables.as_slice(),
-            ticks,
-        );
-        let width = columns.shared.variables.len();
-        note_stays(&mut self.stays, &self.values, width);
-        self.first = first;
-        self.end = end;
-    }
-
-    /// The values at a tick of the window, one for each of the columns' variables.
-    fn values_at(&self, tick: u64) -> &[u128]
-        requires low { first_in self.now ≤ tick }
-        requires high { tick < end_in self.now }
-        ensures len { length result.now ≡ length self.now.columns.shared.variables.items }
-        ensures row { (c : Contents) → IsOver self.now c → result.now ≡ row_of c
-            (places self.now.columns.shared.variables.items)
-            (slice_index (ticks_of c (clock_in (columns_in self.now))) tick) }
-    {
-        let width = self.columns.shared.variables.len();
-        let start = (tick as usize - self.first) * width;
-        &self.values[start..start + width]
-    }
-
-    /// For how many rows after its own each value at a tick of the window stays.
-    fn stays_at(&self, tick: u64) -> &[u16]
-        requires low { first_in self.now ≤ tick }
-        requires high { tick < end_in self.now }
-        ensures len { length result.now ≡ length self.now.columns.shared.variables.items }
-        ensures stays { (i : ℕ) → i < length self.now.columns.shared.variables.items
-            → get_or result.now i 0 ≡ get_or self.now.stays.items ((tick - first_in self.now)
-            * length self.now.columns.shared.variables.items + i) 0 }
-    {
-        let width = self.columns.shared.variables.len();
-        let start = (tick as usize - self.first) * width;
-        &self.stays[start..start + width]
+        let end = self.end as u64;
+        self.slide_to(end, dump, clocks);
     }
 
     /// A part of the row at a tick of the window, in the place of what stood there: the values of
@@ -161,8 +145,9 @@ impl<'d> Window<'d> {
         ensures capacity { vec_capacity part.new ≡ vec_capacity part.old }
     {
         let picks = &self.columns.shared.picks[from..to];
+        let place = tick as usize - self.first;
         part.clear();
-        push_picked(part, self.values_at(tick), picks);
+        push_picked(part, &self.samples, picks, place);
     }
 
     /// At how many ticks of the window that follow a tick a part of the row is what it is there:
@@ -182,8 +167,9 @@ impl<'d> Window<'d> {
             (slice_range (places_in (columns_in self.now)) from to) tick n → n ≤ result }
     {
         let picks = &self.columns.shared.picks[from..to];
+        let place = tick as usize - self.first;
         let rest = (self.end - 1) as u64 - tick;
-        least_stay(self.stays_at(tick), picks, rest)
+        least_stay(&self.samples, picks, place, rest)
     }
 
     /// The row at a tick of the window, in the place of what stood there: a value for each signal.

@@ -1,21 +1,23 @@
-//! The rows of a window.
+//! The samples of a window.
 
-ghost use Rattle.std.specs.Prelude.{◌≡◌, ℕ, ◌*◌, ◌<◌, ◌≤◌, length, get_or, vec_capacity};
-ghost use Rattle.std.specs.List.{flat_map};
+ghost use Rattle.std.specs.Prelude.{◌≡◌, ℕ, ◌<◌, ◌≤◌, length, map, get_or, vec_capacity};
 ghost use Rattle.vcd_reader.specs.Dump.{Contents};
 ghost use Rattle.vcd_reader.specs.Held.{HoldsContents, steps_in};
 ghost use Rattle.cycle_window.specs.Ticks.{row_of};
 ghost use Rattle.cycle_window.specs.Variables.{AreOf, places};
 ghost use Rattle.cycle_window.specs.Rows.{AreAhead};
 ghost use Rattle.cycle_window.specs.Cursors.{IsCursorOf};
+ghost use Rattle.cycle_window.specs.Samples.{Each, EachTo, IsRoomKept, column_of};
 
 use crate::cursor::Cursor;
+use crate::samples::{Samples, clear_each, push_each};
 use vcd_reader::{Dump, VarId};
 
-/// Puts the rows at the ticks in the place of other rows, one after the other, and reads on to the
-/// last of them. There is room for them.
-pub(crate) fn fill_rows(
-    values: &mut Vec<u128>,
+/// Puts the values at the ticks in the place of others, and reads on to the last of the ticks.
+/// There is room for them. What the row holds is lost: each row goes through it.
+pub(crate) fn fill_samples(
+    all: &mut Vec<Samples>,
+    row: &mut Vec<u128>,
     cursor: &mut Cursor,
     dump: &Dump,
     variables: &[VarId],
@@ -23,20 +25,27 @@ pub(crate) fn fill_rows(
 )
     requires bindable { AreOf dump.now variables.now }
     requires of { IsCursorOf dump.now variables.now cursor.old }
-    requires room { length ticks.now * length variables.now ≤ vec_capacity values.old }
+    requires many { length all.old.items ≡ length variables.now }
+    requires wide { length variables.now ≤ vec_capacity row.old }
+    requires room { Each (λ i s. length ticks.now ≤ vec_capacity s.values) all.old.items }
     ensures of { IsCursorOf dump.now variables.now cursor.new }
-    ensures len { length values.new.items ≡ length ticks.now * length variables.now }
-    ensures capacity { vec_capacity values.new ≡ vec_capacity values.old }
+    ensures many { length all.new.items ≡ length all.old.items }
+    ensures wide { vec_capacity row.new ≡ vec_capacity row.old }
+    ensures kept { EachTo (λ i. IsRoomKept) all.old.items all.new.items }
+    ensures full { Each (λ i s. length s.values.items ≡ length ticks.now) all.new.items }
     ensures rows { (c : Contents) → HoldsContents dump.now c
         → AreAhead cursor.old.at (length (steps_in dump.now)) ticks.now
-        → values.new.items ≡ flat_map (row_of c (places variables.now)) ticks.now }
+        → Each (λ i s. s.values.items ≡ column_of (row_of c (places variables.now)) i ticks.now)
+        all.new.items }
     ensures reached { (most : ℕ) → AreAhead cursor.old.at (length (steps_in dump.now)) ticks.now
         → cursor.old.at ≤ most
         → ((n : ℕ) → n < length ticks.now → get_or ticks.now n 0 ≤ most)
         → cursor.new.at ≤ most }
 {
-    values.clear();
+    clear_each(all);
     for tick in ticks {
-        cursor.push_at(values, dump, variables, *tick);
+        row.clear();
+        cursor.push_at(row, dump, variables, *tick);
+        push_each(all, row);
     }
 }

@@ -12,6 +12,6 @@ loop-place-preserved c =
     record {
       inside = omega (arith, old.inside);
       long = omega (arith, length-set stays p c.stay_at-stay.result, old.long);
-      noted = noted-more c.args.width c.args.values.now stays p c.stay_at-stay.result room
+      noted = noted-more c.args.values.now stays p c.stay_at-stay.result room
           (λ i lt inside. old.noted i (omega arith) inside) c.stay_at-stay.ensures;
     }

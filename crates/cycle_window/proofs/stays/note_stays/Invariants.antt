@@ -7,7 +7,7 @@ abbrev pub invariant-loop-place : goal.invariant-loop-place
 invariant-loop-place l = record {
   inside : l.place ≤ length l.values;
   long : length l.stays ≡ length l.fn.stays;
-  noted : (i : ℕ) → l.place ≤ i → i < length l.values → StaysFor l.width l.values i (get_or l.stays i 0);
+  noted : (i : ℕ) → l.place ≤ i → i < length l.values → StaysFor l.values i (get_or l.stays i 0);
 }
 
 abbrev pub decreases-loop-place : goal.decreases-loop-place

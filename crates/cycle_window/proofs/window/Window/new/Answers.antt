@@ -1,4 +1,4 @@
-use Rattle.std.proofs.Common.{◌≡◌, ◌∙◌, ◌*◌, ℕ, List, length, min, arith, refl, ap, subst}
+use Rattle.std.proofs.Common.{◌≡◌, ◌∙◌, ℕ, List, length, min, arith, refl, ap, subst}
 use Rattle.vcd_reader.specs.declared.dump.Dump.{Dump}
 use Rattle.vcd_reader.specs.declared.variable.VarId.{VarId}
 use Rattle.cycle_window.specs.Held.{columns_in, dump_in, size_in, first_in, end_in, IsOver}
@@ -7,23 +7,28 @@ use Rattle.cycle_window.proofs.window.Window.new.Goals as goal
 
 pub invariant_of-result : goal.invariant_of-result
 invariant_of-result c =
-    let product = rw c.in-Some.is at c.checked_mul.ensures in
     let columns = c.args.columns in
     let long : length c.as_slice-variables.result.now ≡ length columns.shared.variables.items =
     ap length c.as_slice-variables.ensures.value in
-    let sizes = product.1
-    ∙ ap (λ (n : ℕ). n * length c.as_slice-variables.result.now) c.min.ensures
-    ∙ ap (λ (n : ℕ). min c.clocks-size.result columns.count * n) long in
+    let size : c.min.result ≡ min c.clocks-size.result columns.count = c.min.ensures in
+    let blank = c.in_ok-samples.ensures.blank in
     record {
       ordered = omega arith;
       inside = omega arith;
       few = omega arith;
-      rows = λ c' h. c.in_ok-values.ensures.items;
-      full = omega (arith, ap length c.in_ok-values.ensures.items);
-      room = omega (arith, sizes, c.in_ok-values.ensures.capacity);
       small = omega (arith, c.clocks-size.ensures.same, c.clocks-size.ensures.most);
-      notes = omega (arith, sizes, c.in_ok-stays.ensures.len, c.in_ok-stays.stays.ok.0);
-      stay = λ i lt. absurd (omega (arith, lt, ap length c.in_ok-values.ensures.items));
+      rows = λ c' h i s is. (blank i s is).values;
+      many = c.in_ok-samples.ensures.many ∙ long;
+      full = λ i s is.
+          let none = blank i s is in
+          let long : length s.values.items ≡ 0 = ap (λ (xs : List ℕ). length xs) none.values in
+          record {
+            long = omega (arith, long);
+            room = omega (arith, none.room, size);
+            notes = omega (arith, none.notes, size);
+            stays = λ k lt. absurd (omega (arith, lt, long));
+          };
+      wide = omega (arith, c.in_ok-row.ensures.capacity, long);
     }
 
 pub returns-clause-of : goal.returns-clause-of
