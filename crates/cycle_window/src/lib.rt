@@ -3,11 +3,11 @@
 //! A tick is a rising edge of the clock: a step of the dump at whose end the clock is 1, and before
 //! which it is 0 and has had a value. The row of a tick has a value for each of some signals, as it
 //! stood before the step of the edge. A window holds the rows of a run of ticks and no others; it
-//! reads the dump on from where it stands, and may leave ticks out. A variable that several signals
-//! name stands in a row once, but for each time that another name of its code comes between. The
-//! values of a variable stand one after the other, so that who reads a few of them reads no others.
-//! A window notes of each value for how many ticks it stays the same, so that its users can pass
-//! over rows that are equal. All memory of a window is taken when it is made.
+//! reads the dump on from where it stands. A variable that several signals name stands in a row
+//! once, but for each time that another name of its code comes between. The values of a variable
+//! stand one after the other, so that who reads a few variables reads no others. A window notes of
+//! each value for how many ticks it stays the same, so that its users can pass over rows that are
+//! equal. All memory of a window is taken when it is made.
 //!
 //! ```text
 //! let clocks = Clocks::of(alloc, &dump, "top.clk")?;          // C1, C2

@@ -85,20 +85,19 @@ impl<'d> Window<'d> {
         })
     }
 
-    /// The clocks from one on, up to the window's size or to the last clock. None of them is in the
-    /// window, or before it. The dump and the clocks are those of its columns.
-    pub fn slide_to(&mut self, first: u64, dump: &Dump, clocks: &Clocks)
+    /// The next clocks: from the window's end up to its size, or up to the last clock. The dump and
+    /// the clocks are those of its columns, and clocks remain.
+    pub fn slide(&mut self, dump: &Dump, clocks: &Clocks)
         requires same { IsWindowOf self.old dump.now clocks.now }
-        requires ahead { end_in self.old ≤ first }
-        requires remain { first < length (ticks_in clocks.now) }
+        requires remain { end_in self.old < length (ticks_in clocks.now) }
         ensures same { IsWindowOf self.new dump.now clocks.now }
         ensures columns { columns_in self.new ≡ columns_in self.old }
         ensures size { size_in self.new ≡ size_in self.old }
-        ensures first { first_in self.new ≡ first }
+        ensures first { first_in self.new ≡ end_in self.old }
         ensures end { end_in self.new
-            ≡ min (length (ticks_in clocks.now)) (first + size_in self.old) }
+            ≡ min (length (ticks_in clocks.now)) (end_in self.old + size_in self.old) }
     {
-        let first = first as usize;
+        let first = self.end;
         let end = first + self.size.min(clocks.ticks.len() - first);
         let ticks = &clocks.ticks[first..end];
         let columns = &self.columns;
@@ -113,22 +112,6 @@ impl<'d> Window<'d> {
         note_each(&mut self.samples);
         self.first = first;
         self.end = end;
-    }
-
-    /// The next clocks: from the window's end up to its size, or up to the last clock. The dump and
-    /// the clocks are those of its columns, and clocks remain.
-    pub fn slide(&mut self, dump: &Dump, clocks: &Clocks)
-        requires same { IsWindowOf self.old dump.now clocks.now }
-        requires remain { end_in self.old < length (ticks_in clocks.now) }
-        ensures same { IsWindowOf self.new dump.now clocks.now }
-        ensures columns { columns_in self.new ≡ columns_in self.old }
-        ensures size { size_in self.new ≡ size_in self.old }
-        ensures first { first_in self.new ≡ end_in self.old }
-        ensures end { end_in self.new
-            ≡ min (length (ticks_in clocks.now)) (end_in self.old + size_in self.old) }
-    {
-        let end = self.end as u64;
-        self.slide_to(end, dump, clocks);
     }
 
     /// A part of the row at a tick of the window, in the place of what stood there: the values of
