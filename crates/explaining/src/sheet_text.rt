@@ -153,6 +153,17 @@ fn push_rows(alloc: Global, lines: &mut Vec<Line>, sheet: &Sheet) -> Result<(), 
     Ok(())
 }
 
+/// How many columns the clocks take, with one for each run of clocks that are left out.
+fn columns_of(clocks: &[usize]) -> usize {
+    let mut columns = clocks.len();
+    for place in 0..clocks.len() {
+        if is_after_gap(clocks, place) {
+            columns = columns.saturating_add(1);
+        }
+    }
+    columns
+}
+
 /// Adds a sheet: the clocks, their times, and its rows.
 pub fn push_sheet(
     alloc: Global,
@@ -166,10 +177,5 @@ pub fn push_sheet(
     lines.push(numbers_line(alloc, "clock", numbers.as_slice(), clocks)?)?;
     lines.push(numbers_line(alloc, "time", times, clocks)?)?;
     push_rows(alloc, &mut lines, sheet)?;
-    push_lines(
-        alloc,
-        text,
-        lines.as_slice(),
-        clocks.len().saturating_add(1),
-    )
+    push_lines(alloc, text, lines.as_slice(), columns_of(clocks))
 }
