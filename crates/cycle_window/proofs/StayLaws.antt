@@ -37,6 +37,7 @@ use Rattle.cycle_window.specs.Ticks.{ticks_of, row_of}
 use Rattle.cycle_window.specs.Picks.{picked, AreBelow}
 use Rattle.cycle_window.specs.Samples.{stay_in, stay_at}
 use Rattle.cycle_window.specs.Variables.{places}
+use Rattle.cycle_window.specs.Values.{numbers}
 use Rattle.cycle_window.specs.Stays.{StaysFor, RowStays}
 use Rattle.cycle_window.specs.Held.{columns_in, dump_in, places_in, clock_in, first_in, end_in, IsOver}
 use Rattle.cycle_window.proofs.PickLaws.{picked-row, picked-long}
@@ -133,7 +134,7 @@ picks-long w = picked-long (places w.columns.shared.variables.items) w.columns.s
 pub value-of : (w : Window) (c : Contents) (tick p : ℕ) (s : Samples) → IsOver w c → first_in w ≤ tick
     → tick < end_in w → slice_get w.samples.items p ≡ Some s
     → get_or (row_of c (places w.columns.shared.variables.items) (slice_index (ticks_of c w.columns.code) tick)) p 0
-    ≡ get_or s.values.items (tick - w.first) 0
+    ≡ get_or (numbers s.values) (tick - w.first) 0
 unfolding columns_in clock_in first_in end_in IsOver dump_in
 value-of w c tick p s over low high at =
     let vs = places w.columns.shared.variables.items in
@@ -177,7 +178,7 @@ row-stays w c tick from to ticks over low high order inside least = λ n le.
     let note = ap (λ (o : Option Samples). stay_in o (tick - w.first)) it.1 in
     let on : (tick + n) - w.first ≡ (tick - w.first) + n = omega arith in
     value-of w c (tick + n) p it.0 over (omega arith) (omega arith) it.1
-    ∙ ap (λ (k : ℕ). get_or it.0.values.items k 0) on
+    ∙ ap (λ (k : ℕ). get_or (numbers it.0.values) k 0) on
     ∙ stays.same n (omega (arith, le, least i lt, note))
     ∙ sym (value-of w c tick p it.0 over low (omega arith) it.1) in
     ap (λ (ps : List ℕ). row_of c ps late) (sym part)
@@ -233,7 +234,7 @@ row-noted w c tick from to ticks i over low high order inside lt stays =
     let fits : p < width = below-part width from to shared.picks.items order inside shared.below i lt in
     let it = there w.samples.items p (omega (arith, w.many, fits)) in
     let full = w.full p it.0 it.1 in
-    let values = it.0.values.items in
+    let values = numbers it.0.values in
     let place = tick - w.first in
     let note = get_or it.0.stays.items place 0 in
     let noted = full.stays place (omega (arith, full.long)) in

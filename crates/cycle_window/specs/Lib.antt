@@ -6,6 +6,7 @@ pub mod Rows
 pub mod Stays
 pub mod Samples
 pub mod Cursors
+pub mod Values
 pub mod Held
 pub mod Bound
 pub mod Signals

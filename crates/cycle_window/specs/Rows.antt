@@ -6,13 +6,14 @@ use Rattle.vcd_reader.specs.Held.{HoldsContents}
 use Rattle.cycle_window.specs.Ticks.{ticks_of, row_of}
 use Rattle.cycle_window.specs.declared.samples.Samples.{Samples}
 use Rattle.cycle_window.specs.Samples.{Each, column_of}
+use Rattle.cycle_window.specs.Values.{numbers}
 
 -- The samples are those of the variables with these places at the ticks of the clock with that
 -- code, from the tick `first` up to the tick `end`, which is not among them.
 abbrev pub AreSamplesOf : Dump → ℕ → List ℕ → ℕ → ℕ → List Samples → Type 0
 AreSamplesOf d code places first end all =
     (c : Contents) → HoldsContents d c
-    → Each (λ i s. s.values.items
+    → Each (λ i s. numbers s.values
     ≡ column_of (row_of c places) i (slice_range (ticks_of c code) first end)) all
 
 -- no tick from the tick `end` on lies before the step `at`

@@ -5,9 +5,10 @@
 //! stood before the step of the edge. A window holds the rows of a run of ticks and no others; it
 //! reads the dump on from where it stands. A variable that several signals name stands in a row
 //! once, but for each time that another name of its code comes between. The values of a variable
-//! stand one after the other, so that who reads a few variables reads no others. A window notes of
-//! each value for how many ticks it stays the same, so that its users can pass over rows that are
-//! equal. All memory of a window is taken when it is made.
+//! stand one after the other, each in as few bytes as the variable's width allows, so that who
+//! reads a few variables reads no others. A window notes of each value for how many ticks it stays
+//! the same, so that its users can pass over rows that are equal. All memory of a window is taken
+//! when it is made.
 //!
 //! ```text
 //! let clocks = Clocks::of(alloc, &dump, "top.clk")?;          // C1, C2
@@ -26,7 +27,7 @@
 //! these are all the rising edges, in order), `specs/Held.antt` (what clocks, columns and windows
 //! hold), `specs/Bound.antt` (what is wrong with a path, a width or a size). Below them:
 //! `specs/Samples.antt`, `specs/Rows.antt`, `specs/Stays.antt`, `specs/Cursors.antt`,
-//! `specs/Changes.antt`, `specs/Picks.antt`.
+//! `specs/Changes.antt`, `specs/Picks.antt`, `specs/Values.antt`.
 //!
 //! Not promised: a memory of earlier rows, or a way back; or whether a row stays past the window's
 //! end. `slide` asks for ticks that are left, and for the dump and clocks of the window's columns;
@@ -47,6 +48,7 @@ mod shared;
 mod size;
 mod stays;
 mod times;
+mod values;
 mod window;
 mod window_rows;
 

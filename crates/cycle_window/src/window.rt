@@ -4,11 +4,11 @@ ghost use Rattle.std.specs.Prelude.{◌≡◌, ℕ, ◌+◌, ◌-◌, ◌*◌, �
 ghost use Rattle.std.specs.Prelude.{slice_index, slice_range, vec_capacity};
 ghost use Rattle.vcd_reader.specs.Dump.{Contents};
 ghost use Rattle.vcd_reader.specs.declared.dump.Dump.{Dump};
-ghost use Rattle.vcd_reader.specs.Held.{HoldsContents};
+ghost use Rattle.vcd_reader.specs.Held.{HoldsContents, variables_of};
 ghost use Rattle.cycle_window.specs.Ticks.{ticks_of, row_of};
 ghost use Rattle.cycle_window.specs.Variables.{places};
 ghost use Rattle.cycle_window.specs.Rows.{AreSamplesOf};
-ghost use Rattle.cycle_window.specs.Samples.{Each, IsFull};
+ghost use Rattle.cycle_window.specs.Samples.{Each, AreWide, IsFull};
 ghost use Rattle.cycle_window.specs.Stays.{RowStays};
 
 use crate::clocks::Clocks;
@@ -43,6 +43,8 @@ pub struct Window<'d> {
     ghost many: { length samples.items ≡ length columns.shared.variables.items },
     ghost full: { Each (λ i. IsFull (min size columns.count) (end - first)) samples.items },
     ghost wide: { length columns.shared.variables.items ≤ vec_capacity row },
+    ghost fit: { AreWide (variables_of columns.dump.now) (places columns.shared.variables.items)
+        samples.items },
 }
 
 impl<'d> Window<'d> {
@@ -72,7 +74,7 @@ impl<'d> Window<'d> {
         let size = size.clocks();
         let variables = columns.shared.variables.as_slice();
         let cursor = Cursor::new(alloc, columns.dump, variables)?;
-        let samples = blank_samples(alloc, variables.len(), size.min(columns.count))?;
+        let samples = blank_samples(alloc, columns.dump, variables, size.min(columns.count))?;
         let row = Vec::with_capacity(alloc, variables.len())?;
         Ok(Window {
             columns,
@@ -97,7 +99,25 @@ impl<'d> Window<'d> {
         ensures end { end_in self.new
             ≡ min (length (ticks_in clocks.now)) (end_in self.old + size_in self.old) }
     {
-        let first = self.end;
+        let first = self.end as u64;
+        self.slide_to(dump, clocks, first);
+    }
+
+    /// The clocks from one on, which does not lie before the window's end: up to its size, or up to
+    /// the last clock. Those between are read over. The dump and the clocks are those of its
+    /// columns, and clocks remain.
+    pub fn slide_to(&mut self, dump: &Dump, clocks: &Clocks, first: u64)
+        requires same { IsWindowOf self.old dump.now clocks.now }
+        requires ahead { end_in self.old ≤ first }
+        requires remain { first < length (ticks_in clocks.now) }
+        ensures same { IsWindowOf self.new dump.now clocks.now }
+        ensures columns { columns_in self.new ≡ columns_in self.old }
+        ensures size { size_in self.new ≡ size_in self.old }
+        ensures first { first_in self.new ≡ first }
+        ensures end { end_in self.new
+            ≡ min (length (ticks_in clocks.now)) (first + size_in self.old) }
+    {
+        let first = first as usize;
         let end = first + self.size.min(clocks.ticks.len() - first);
         let ticks = &clocks.ticks[first..end];
         let columns = &self.columns;

@@ -21,32 +21,23 @@ use Rattle.workers_rounds.specs.Adding.{is_of_kind}
 use Rattle.workers.specs.Tallied.{told_by}
 use Rattle.workers.proofs.Adding.{sum-told, round-count}
 use Rattle.workers_rounds.specs.Runs.{upto, published_numbers}
-use Rattle.workers.specs.Between.{IsTold, IsBetween, clocks_of}
+use Rattle.workers.specs.Between.{IsTold, IsBetween, IsNext, clocks_of}
 use Rattle.workers.specs.Taking.{Takes, numbered_of}
 use Rattle.workers.proofs.Telling.{all-at, all-each, placed-number, length-published, room, told-more}
 use Rattle.workers.proofs.Telling.{back-in-order, back-at}
 
 -- the next window
 module _ (j : Job) (v w : Window) (ms : List Numbered) (ls : List GrowingLine) (h : IsBetween j v ms ls)
-    (more : end_in v < clocks_of j) (of : IsWindowOf w j.dump j.clocks) (columns : columns_in w ≡ columns_in v)
-    (size : size_in w ≡ size_in v) (first : first_in w ≡ end_in v)
-    (end : end_in w ≡ min (clocks_of j) (end_in v + size_in v)) where
-  pub next-window : IsWindowFor j w
-  next-window = record {
-    of = of;
-    places = ap (λ (cs : Columns). map Some (places_in cs)) columns ∙ h.window.places;
-    fits = h.window.fits;
-  }
-
+    (more : end_in v < clocks_of j) (is-next : IsNext j v w) where
   pub next-sized : IsSized w
-  next-sized = let a = h.size.0 in let b =
-      h.size.1 in (omega (arith, first, end, more), omega (arith, first, end, more))
+  next-sized = let a = h.size.0 in let b = h.size.1 in
+      (omega (arith, is-next.first, is-next.end, more), omega (arith, is-next.first, is-next.end, more))
 
   pub further : end_in v < end_in w
-  further = let a = h.size.0 in omega (arith, end, more)
+  further = let a = h.size.0 in omega (arith, is-next.end, more)
 
   pub next-start : All (IsMonitorAt j (first_in w)) ms
-  next-start = subst (λ (n : ℕ). All (IsMonitorAt j n) ms) (sym first) h.at
+  next-start = subst (λ (n : ℕ). All (IsMonitorAt j n) ms) (sym is-next.first) h.at
 
   module _ (board : Board) (ps : List Published) (order : published_numbers ps ≡ upto 0 (length ms))
       (published : All (IsPublished j w board) ps) where
@@ -58,7 +49,7 @@ module _ (j : Job) (v w : Window) (ms : List Numbered) (ls : List GrowingLine) (
         (λ i p is. (all-at (IsPublished j w board) ps i p published is).of_board)
 
     told-first : (i : ℕ) (l : GrowingLine) → slice_get ls i ≡ Some l → IsTold j (first_in w) i l
-    told-first i l is = subst (λ (n : ℕ). IsTold j n i l) (sym first) (h.told i l is)
+    told-first i l is = subst (λ (n : ℕ). IsTold j n i l) (sym is-next.first) (h.told i l is)
 
     pub rooms : (i : ℕ) (l : GrowingLine) (p : Published) → slice_get ls i ≡ Some l → slice_get ps i ≡ Some p
         → attempts_of l.counts + length (shown_by p.receipt).decided.items ≤ end_in w
@@ -71,9 +62,9 @@ module _ (j : Job) (v w : Window) (ms : List Numbered) (ls : List GrowingLine) (
         → slice_get new i ≡ Some m → Takes l (shown_by p.receipt).decided.items m) →
         back ≡ map numbered_of ps → IsBetween j w back new
     next new back long took is = record {
-      window = next-window;
-      size = (let a = h.size.0 in omega (arith, size), let b = h.size.1 in omega (arith, size));
-      inside = omega (arith, end, h.inside);
+      window = is-next.window;
+      size = (let a = h.size.0 in omega (arith, is-next.same), let b = h.size.1 in omega (arith, is-next.same));
+      inside = omega (arith, is-next.end, h.inside);
       order = let o = back-in-order ps back (length ms) is order in o ∙ ap (upto 0) h.many;
       many = length-back ∙ h.many;
       at = back-at j w board ps back is published;

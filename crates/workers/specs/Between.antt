@@ -1,9 +1,9 @@
 -- A run between two rounds.
-use Rattle.std.specs.Prelude.{◌≡◌, ◌≤◌, ℕ, List, Some, All, length, slice_get}
+use Rattle.std.specs.Prelude.{◌≡◌, ◌+◌, ◌≤◌, ℕ, List, Some, All, length, min, slice_get}
 use Rattle.bytecode.specs.Values.{ProgramData}
 use Rattle.vcd_reader.specs.Dump.{Contents}
 use Rattle.cycle_window.specs.declared.window.Window.{Window}
-use Rattle.cycle_window.specs.Held.{ticks_in, size_in, end_in}
+use Rattle.cycle_window.specs.Held.{ticks_in, size_in, first_in, end_in}
 use Rattle.machine_decisions.specs.Batches.{batch_of}
 use Rattle.machine_decisions.specs.Lines.{attempts_of}
 use Rattle.workers_core.specs.declared.job.Job.{Job}
@@ -38,3 +38,14 @@ pub record IsBetween (j : Job) (w : Window) (ms : List Numbered) (ls : List Grow
   pub at : All (IsMonitorAt j (end_in w)) ms
   pub lines : length ls ≡ length j.programs.items
   pub told : (i : ℕ) (l : GrowingLine) → slice_get ls i ≡ Some l → IsTold j (end_in w) i l
+
+-- The job's window of this size has the clocks from one on: as many as its size, or up to the last.
+pub record IsFilledFrom (j : Job) (at size : ℕ) (w : Window) : Type 0 where
+  pub window : IsWindowFor j w
+  pub same : size_in w ≡ size
+  pub first : first_in w ≡ at
+  pub end : end_in w ≡ min (clocks_of j) (at + size)
+
+-- the second window has the clocks after those of the first
+abbrev pub IsNext : Job → Window → Window → Type 0
+IsNext j v w = IsFilledFrom j (end_in v) (size_in v) w

@@ -2,3 +2,4 @@ pub mod Between
 pub mod Taking
 pub mod Tallied
 pub mod Reports
+pub mod Filling

@@ -1,11 +1,13 @@
 //! All rounds of a run.
 
 ghost use Rattle.std.specs.Prelude.{◌≡◌, ◌≤◌, ◌<◌, All, IfOk, OnOk, vec_len};
-ghost use Rattle.cycle_window.specs.Held.{end_in};
+ghost use Rattle.cycle_window.specs.Held.{size_in, end_in};
+ghost use Rattle.workers_shared.specs.Windows.{IsWindowFor};
 ghost use Rattle.workers_rounds.specs.Runs.{IsMember};
-ghost use Rattle.workers.specs.Between.{IsBetween, clocks_of};
+ghost use Rattle.workers.specs.Between.{IsBetween, IsNext, clocks_of};
 ghost use Rattle.workers.specs.Tallied.{AreTallied};
 
+use crate::filling::{Filling, filled_from};
 use crate::round_batches::{monitors_back, take_round};
 use cycle_window::Window;
 use std::alloc::{AllocError, Global};
@@ -17,73 +19,91 @@ use workers_rounds::work::Gate;
 use workers_shared::{Board, Numbered, Tally, Tallying};
 use workers_single::GrowingLine;
 
-/// A round: all monitors through the next window. Its batches are gone after it.
+/// A round: all monitors through the next window. Beside it the window after that one is filled, in
+/// the room of the one that is done. The round's batches are gone after it.
 fn run_round<'j, L: Tallying + Send + Sync, G: Gate + Sync, R: Threads + Wait + Sync>(
     rt: &R,
     alloc: Global,
     job: &'j Job,
-    window: &mut Window<'j>,
+    done: Window<'j>,
+    next: &Window<'j>,
     tally: &Tally<L>,
     gate: &G,
     members: Vec<Member<L>>,
     monitors: Vec<Numbered>,
     lines: &mut Vec<GrowingLine>,
-) -> Result<(Vec<Member<L>>, Vec<Numbered>), AllocError>
-    requires between { IsBetween job.now window.old monitors.items lines.old.items }
-    requires more { end_in window.old < clocks_of job.now }
+) -> Result<(Vec<Member<L>>, Vec<Numbered>, Window<'j>), AllocError>
+    requires between { IsBetween job.now done monitors.items lines.old.items }
+    requires more { end_in done < clocks_of job.now }
+    requires next { IsNext job.now done next.now }
     requires workers { (0 < vec_len members) × (vec_len members ≤ 64) }
     requires members { All IsMember members.items }
     requires tallied { AreTallied members.items lines.old.items }
     ensures between { IfOk result (λ r.
-        IsBetween job.now window.new r.1.items lines.new.items) }
-    ensures further { end_in window.old < end_in window.new }
+        IsBetween job.now next.now r.1.items lines.new.items) }
+    ensures further { end_in done.entry < end_in next.now }
+    ensures next { IfOk result (λ r.
+        end_in next.now < clocks_of job.now → IsNext job.now next.now r.2) }
     ensures members { IfOk result (λ r.
         (vec_len r.0 ≡ vec_len members) × All IsMember r.0.items) }
     ensures tallied { IfOk result (λ r. AreTallied r.0.items lines.new.items) }
 {
-    let clocks = job.clocks();
-    let _count = clocks.len();
-    window.slide(job.dump(), clocks);
+    let _count = job.clocks().len();
+    let (_, end) = next.bounds();
+    let beside = Filling {
+        job,
+        window: done,
+        first: end,
+    };
     let board = Board::new(alloc)?;
-    let (members, published) = round(
-        rt, alloc, job, window, &board, tally, gate, members, monitors,
+    let (members, published, after) = round(
+        rt, alloc, job, next, &board, tally, gate, members, monitors, beside,
     )?;
     take_round(lines, &board, published.as_slice())?;
     let monitors = monitors_back(alloc, published)?;
-    Ok((members, monitors))
+    Ok((members, monitors, after))
 }
 
-/// All rounds, up to the trace's end.
+/// All rounds, up to the trace's end, by two windows in turn: while the monitors go through one,
+/// the other is filled. The window that was done last comes back.
 pub(crate) fn run_rounds<'j, L: Tallying + Send + Sync, G: Gate + Sync, R: Threads + Wait + Sync>(
     rt: &R,
     alloc: Global,
     job: &'j Job,
-    window: &mut Window<'j>,
+    window: Window<'j>,
+    other: Window<'j>,
     tally: &Tally<L>,
     gate: &G,
     members: Vec<Member<L>>,
     monitors: Vec<Numbered>,
     lines: &mut Vec<GrowingLine>,
-) -> Result<(Vec<Member<L>>, Vec<Numbered>), AllocError>
-    requires between { IsBetween job.now window.old monitors.items lines.old.items }
+) -> Result<(Vec<Member<L>>, Vec<Numbered>, Window<'j>), AllocError>
+    requires between { IsBetween job.now window monitors.items lines.old.items }
+    requires other { IsWindowFor job.now other }
+    requires behind { end_in other ≤ end_in window }
+    requires alike { size_in other ≡ size_in window }
     requires workers { (0 < vec_len members) × (vec_len members ≤ 64) }
     requires members { All IsMember members.items }
     requires tallied { AreTallied members.items lines.old.items }
-    ensures between { IfOk result (λ r.
-        IsBetween job.now window.new r.1.items lines.new.items) }
-    ensures end { OnOk result (clocks_of job.now ≤ end_in window.new) }
+    ensures between { IfOk result (λ r. IsBetween job.now r.2 r.1.items lines.new.items) }
+    ensures end { IfOk result (λ r. clocks_of job.now ≤ end_in r.2) }
     ensures members { IfOk result (λ r.
         (vec_len r.0 ≡ vec_len members) × All IsMember r.0.items) }
     ensures tallied { IfOk result (λ r. AreTallied r.0.items lines.new.items) }
 {
     let mut members = members;
     let mut monitors = monitors;
-    'rounds: while window.bounds().1 < job.clocks().len() {
-        let (back, stopped) = run_round(
-            rt, alloc, job, window, tally, gate, members, monitors, lines,
+    let mut done = window;
+    let (_, end) = done.bounds();
+    let mut next = filled_from(job, other, end);
+    'rounds: while done.bounds().1 < job.clocks().len() {
+        let (back, stopped, after) = run_round(
+            rt, alloc, job, done, &next, tally, gate, members, monitors, lines,
         )?;
         members = back;
         monitors = stopped;
+        done = next;
+        next = after;
     }
-    Ok((members, monitors))
+    Ok((members, monitors, done))
 }

@@ -41,23 +41,18 @@ fn run_in<L: Tallying + Send + Sync, G: Gate + Sync, R: Threads + Wait + Sync>(
     ensures count { IfOk result (λ r.
         All (λ l. attempts_of l.counts ≡ clocks_of job.now) r.lines.items) }
 {
-    let Ok(mut window) = window_of(alloc, job, size) else {
+    let Ok(window) = window_of(alloc, job, size) else {
+        return Err(AllocError);
+    };
+    let Ok(other) = window_of(alloc, job, size) else {
         return Err(AllocError);
     };
     let (tally, shares) = Tally::<L>::new(alloc, blanks, workers)?;
     let members = members_of(alloc, shares)?;
     let monitors = first_monitors(alloc, job)?;
     let mut told = blank_lines(alloc, monitors.len())?;
-    let (members, stopped) = run_rounds(
-        rt,
-        alloc,
-        job,
-        &mut window,
-        &tally,
-        gate,
-        members,
-        monitors,
-        &mut told,
+    let (members, stopped, _done) = run_rounds(
+        rt, alloc, job, window, other, &tally, gate, members, monitors, &mut told,
     )?;
     let lines = lines_of(alloc, job, job.programs(), stopped.as_slice(), told)?;
     let shares = shares_of(alloc, members)?;

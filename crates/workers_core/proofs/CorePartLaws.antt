@@ -457,6 +457,7 @@ stands-cleared w m new h u =
       attempts = m.attempts;
       since = now;
       decided = new.decided;
+      spare = m.spare;
       wide = m.wide;
     } in
     let same : IsUnmoved bare new =
@@ -508,6 +509,7 @@ right-cleared w m new b u h =
       attempts = new.attempts;
       since = m.since;
       decided = new.decided;
+      spare = new.spare;
       wide = new.wide;
     } in
     let same : IsSame m like =

@@ -106,6 +106,7 @@ told-taken w m new ds stands u h = λ c over.
       attempts = m.attempts;
       since = now;
       decided = new.decided;
+      spare = m.spare;
       wide = m.wide;
     } in
     let same : IsSame bare new =

@@ -35,6 +35,9 @@ pub struct Monitor {
     /// The clock from which on the decided attempts are kept.
     pub(crate) since: u64,
     pub(crate) decided: Streaks,
+    /// Unused: 128 bytes, so that what a clock writes shares no line of a cache with the monitor
+    /// that lies after this one, which another thread may advance.
+    spare: [u64; 16],
     ghost wide: { to - from ≤ vec_capacity row },
 }
 
@@ -74,6 +77,7 @@ impl Monitor {
             attempts,
             since: 0,
             decided: Streaks::new(alloc),
+            spare: [0; 16],
         })
     }
 

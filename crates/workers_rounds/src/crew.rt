@@ -1,4 +1,4 @@
-//! The workers of a round, each in a thread of its own.
+//! The workers of a round: the first in the calling thread, each other in a thread of its own.
 
 ghost use Rattle.std.specs.Prelude.{◌≡◌, ◌≤◌, ◌<◌, ℕ, All, IfOk, length};
 ghost use Rattle.std.specs.List.{slice_index_or};
@@ -7,11 +7,12 @@ ghost use Rattle.workers_shared.specs.Windows.{IsWindowFor};
 ghost use Rattle.workers_rounds.specs.Works.{IsSized};
 ghost use Rattle.workers_rounds.specs.Crews.{MayWork, WorksFrom};
 
+use crate::beside::Beside;
+use crate::fan_out::fan_out;
 use crate::work::{Gate, Worked, work};
 use cycle_window::Window;
 use std::alloc::{AllocError, Global};
 use std::sync::Wait;
-use std::thread;
 use std::thread::Threads;
 use workers_shared::{Bench, Board, Pass, Share, Tally, Tallying};
 
@@ -24,8 +25,16 @@ pub struct Task<L: Tallying> {
     pub claims: u64,
 }
 
-/// Each worker works in a thread of its own, where one can be made. All have ended when it returns.
-pub fn work_all<L: Tallying + Send + Sync, G: Gate + Sync, R: Threads + Wait + Sync>(
+/// Each worker but the first works in a thread of its own where one can be made, and the first in
+/// this thread, which starts the others. `beside` is what this thread does beside the others,
+/// before its own part. All have ended when it returns.
+pub fn work_all<
+    L: Tallying + Send + Sync,
+    G: Gate + Sync,
+    R: Threads + Wait + Sync,
+    T: Drop,
+    B: Beside<T> + Drop,
+>(
     rt: &R,
     alloc: Global,
     bench: &Bench<'_>,
@@ -34,14 +43,17 @@ pub fn work_all<L: Tallying + Send + Sync, G: Gate + Sync, R: Threads + Wait + S
     board: &Board,
     tally: &Tally<L>,
     gate: &G,
-) -> Result<Vec<Worked<L>>, AllocError>
+    beside: B,
+) -> Result<(Vec<Worked<L>>, T), AllocError>
     requires window { IsWindowFor bench.now.job.now window.now × IsSized window.now }
     requires round { bench.now.at ≡ first_in window.now }
     requires tasks { All (MayWork bench.now) tasks.items }
-    ensures count { IfOk result (λ all. length all.items ≡ length tasks.items) }
-    ensures each { IfOk result (λ all. (i : ℕ) (t : _) (w : _) → i < length tasks.items
+    requires beside { B.may beside }
+    ensures count { IfOk result (λ r. length r.0.items ≡ length tasks.items) }
+    ensures each { IfOk result (λ r. (i : ℕ) (t : _) (w : _) → i < length tasks.items
         → WorksFrom bench.now board.now window.now (slice_index_or tasks.items i t)
-        (slice_index_or all.items i w)) }
+        (slice_index_or r.0.items i w)) }
+    ensures beside { IfOk result (λ r. B.tells beside r.1) }
 {
     let one = |task: Task<L>| -> Worked<L>
         requires { IsWindowFor bench.now.job.now window.now × IsSized window.now
@@ -58,5 +70,5 @@ pub fn work_all<L: Tallying + Send + Sync, G: Gate + Sync, R: Threads + Wait + S
             rt, alloc, bench, pass, share, window, board, tally, gate, worker, claims,
         )
     };
-    thread::map_vec(rt, tasks, &one)
+    fan_out(rt, alloc, &one, tasks, beside)
 }

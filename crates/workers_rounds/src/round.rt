@@ -18,6 +18,7 @@ ghost use Rattle.workers_rounds.specs.Adding.{added_by_worked, kind_counted};
 ghost use Rattle.workers_rounds.specs.Runs.{upto, published_numbers, IsMember, Begins, EndsRound};
 ghost use Rattle.workers_rounds.specs.Runs.{TakenIs};
 
+use crate::beside::Beside;
 use crate::crew::{Task, work_all};
 use crate::order::put_in_order;
 use crate::work::{Gate, Published, Worked, run_one};
@@ -199,8 +200,16 @@ fn run_rest<L: Tallying, G: Gate, R: Wait>(
 }
 
 /// A round: each monitor is run through the window once, and its batch published. They come back in
-/// the order of their numbers.
-pub fn round<'j, L: Tallying + Send + Sync, G: Gate + Sync, R: Threads + Wait + Sync>(
+/// the order of their numbers. `beside` is what this thread does beside the others, before its own
+/// part; what it gave comes last.
+pub fn round<
+    'j,
+    L: Tallying + Send + Sync,
+    G: Gate + Sync,
+    R: Threads + Wait + Sync,
+    T: Drop,
+    B: Beside<T> + Drop,
+>(
     rt: &R,
     alloc: Global,
     job: &'j Job,
@@ -210,26 +219,29 @@ pub fn round<'j, L: Tallying + Send + Sync, G: Gate + Sync, R: Threads + Wait + 
     gate: &G,
     members: Vec<Member<L>>,
     monitors: Vec<Numbered>,
-) -> Result<(Vec<Member<L>>, Vec<Published>), AllocError>
+    beside: B,
+) -> Result<(Vec<Member<L>>, Vec<Published>, T), AllocError>
     requires window { IsWindowFor job.now window.now × IsSized window.now }
     requires count { vec_len monitors ≡ length job.now.programs.items }
     requires workers { (0 < vec_len members) × (vec_len members ≤ 64) }
     requires members { All IsMember members.items }
     requires order { numbers monitors.items ≡ upto 0 (vec_len monitors) }
     requires start { All (IsMonitorAt job.now (first_in window.now)) monitors.items }
+    requires beside { B.may beside }
     ensures members { IfOk result (λ r.
         (vec_len r.0 ≡ vec_len members) × All IsMember r.0.items) }
     ensures added { IfOk result (λ r. HaveAdded members.items r.0.items r.1.items) }
     ensures order { IfOk result (λ r. published_numbers r.1.items ≡ upto 0 (vec_len monitors)) }
     ensures published { IfOk result (λ r.
         All (IsPublished job.now window.now board.now) r.1.items) }
+    ensures beside { IfOk result (λ r. B.tells beside r.2) }
 {
     let room = monitors.len();
     let (first, _) = window.bounds();
     let (bench, pass, passes) = Bench::new(alloc, job, first, room, members.len())?;
     let pass = put_all(rt, &bench, pass, monitors);
     let tasks = tasks_of(rt, alloc, &bench, passes, members, tally)?;
-    let all = work_all(rt, alloc, &bench, tasks, window, board, tally, gate)?;
+    let (all, told) = work_all(rt, alloc, &bench, tasks, window, board, tally, gate, beside)?;
     let Results {
         passes,
         mut members,
@@ -253,5 +265,5 @@ pub fn round<'j, L: Tallying + Send + Sync, G: Gate + Sync, R: Threads + Wait + 
     )?;
     members.push(last)?;
     put_in_order(&mut published);
-    Ok((members, published))
+    Ok((members, published, told))
 }

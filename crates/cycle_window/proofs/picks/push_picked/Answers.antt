@@ -1,9 +1,10 @@
 use Rattle.std.proofs.Common.{◌≡◌, ◌∙◌, Option, Some, get_or, refl, ap, sym, arith}
 use Rattle.std.specs.Prelude.{slice_get}
-use Rattle.std.proofs.lemmas.List.{get_or_default, append-nil}
+use Rattle.std.proofs.lemmas.List.{append-nil}
 use Rattle.std.proofs.lemmas.Option.{slice_get-get_or}
 use Rattle.cycle_window.specs.declared.samples.Samples.{Samples}
 use Rattle.cycle_window.specs.Samples.{value_in, value_at}
+use Rattle.cycle_window.specs.Values.{numbers}
 use Rattle.cycle_window.proofs.PickLaws.{mapped-more}
 use Rattle.cycle_window.proofs.picks.push_picked.Goals as goal
 
@@ -19,14 +20,12 @@ loop-pick-preserved c =
     let i = c.loop-pick.pick-index in
     let p = get_or picks i 0 in
     let one : Samples = c.index-all-pick.result in
-    let value = c.index.result.now in
+    let value = c.at.result in
     let at : slice_get all p ≡ Some one =
     slice_get-get_or all p one (c.requires.below i c.loop-pick-test.true)
     ∙ ap (λ (s : Samples). Some s) (sym c.index-all-pick.is) in
     let is : value ≡ value_at all tick p =
-    c.index.ensures
-    ∙ ap (λ (s : Samples). get_or s.values.items tick value) (sym c.index-all-pick.is)
-    ∙ get_or_default one.values.items tick value 0 (c.requires.inside p one at)
+    c.at.ensures ∙ ap (λ (s : Samples). get_or (numbers s.values) tick 0) (sym c.index-all-pick.is)
     ∙ sym (ap (λ (o : Option Samples). value_in o tick) at) in
     record {
       values = mapped-more (value_at all tick) c.args.values.now.items c.loop-pick.values.items _ picks i

@@ -1,5 +1,6 @@
 use Rattle.std.proofs.Common.{◌-◌, ◌<◌, length, arith}
 use Rattle.std.proofs.lemmas.List.{length-set}
+use Rattle.cycle_window.specs.Values.{numbers}
 use Rattle.cycle_window.proofs.StayLaws.{noted-more}
 use Rattle.cycle_window.proofs.stays.note_stays.Goals as goal
 
@@ -12,6 +13,6 @@ loop-place-preserved c =
     record {
       inside = omega (arith, old.inside);
       long = omega (arith, length-set stays p c.stay_at-stay.result, old.long);
-      noted = noted-more c.args.values.now stays p c.stay_at-stay.result room
+      noted = noted-more (numbers c.args.values.now) stays p c.stay_at-stay.result room
           (λ i lt inside. old.noted i (omega arith) inside) c.stay_at-stay.ensures;
     }

@@ -1,14 +1,23 @@
 use Rattle.std.proofs.Common.{◌≡◌, ◌∙◌, ◌<◌, ◌++◌, ◌∷◌, [], ℕ, List, Some, length, get_or}
-use Rattle.std.proofs.Common.{refl, ap, arith, take}
+use Rattle.std.proofs.Common.{refl, ap, arith, take, ◌≤◌, ◌^◌, subst}
 use Rattle.std.specs.Prelude.{slice_get}
-use Rattle.std.proofs.lemmas.List.{take_all, length-append}
+use Rattle.std.proofs.lemmas.List.{take_all, length-append, length-map, get_or-map}
+use Rattle.std.proofs.Math.Logic.{∥∥₁_elim}
+use Rattle.std.proofs.Math.Bridge.{le_prop}
+use Rattle.vcd_reader.specs.declared.dump.Dump.{Dump}
+use Rattle.vcd_reader.specs.declared.variable.VarId.{VarId}
+use Rattle.vcd_reader.specs.Dump.{Contents}
+use Rattle.vcd_reader.specs.Variables.{Declared, size_of}
+use Rattle.vcd_reader.specs.Held.{HoldsContents, variables_of}
+use Rattle.vcd_reader.proofs.HeldLaws.{says-something}
 use Rattle.std.proofs.lemmas.Option.{slice_get_within}
 use Rattle.cycle_window.specs.declared.samples.Samples.{Samples}
-use Rattle.cycle_window.specs.Ticks.{row_of}
+use Rattle.cycle_window.specs.Ticks.{row_of, sample}
 use Rattle.cycle_window.specs.Samples.{column_of}
 use Rattle.cycle_window.specs.Variables.{places}
+use Rattle.cycle_window.specs.Values.{numbers, bits_in}
 use Rattle.cycle_window.proofs.HeldLaws.{column-more}
-use Rattle.cycle_window.proofs.SampleLaws.{there}
+use Rattle.cycle_window.proofs.SampleLaws.{there, sample-kept}
 use Rattle.cycle_window.proofs.window_rows.fill_samples.Goals as goal
 
 -- what stood at a place of a list of the same length
@@ -26,7 +35,7 @@ loop-tick-init c =
       many = cleared.long;
       wide = refl;
       kept = λ i s t was is.
-          let one = cleared.cleared i s t was is in record { room = one.room; notes = one.notes };
+          let one = cleared.cleared i s t was is in record { room = one.room; notes = one.notes; bits = one.bits };
       full = λ i t is.
           let was = before old new i t cleared.long is in
           ap (λ (xs : List ℕ). length xs) (cleared.cleared i was.0 t was.1 is).values;
@@ -42,7 +51,38 @@ push_each-requires-clause-room c = λ i s is.
     let inv = c.loop-tick.invariant in
     let was = before c.args.all.now.items c.loop-tick.all.items i s inv.many is in
     let kept = inv.kept i was.0 s was.1 is in
-    omega (arith, inv.full i s is, kept.room, c.requires.room i was.0 was.1, s.values.ok.0, c.loop-tick-test.true)
+    omega (arith, inv.full i s is, kept.room, c.requires.room i was.0 was.1, c.loop-tick-test.true)
+
+-- a value of a row has room in the samples at its place
+row-kept : (d : Dump) (vs : List VarId) (at i value : ℕ) (s : Samples) → i < length vs
+    → ((c : Contents) → HoldsContents d c → value ≡ get_or (row_of c (places vs) at) i 0)
+    → size_of (variables_of d) (get_or (places vs) i 0) ≤ bits_in s.values → value < 2 ^ bits_in s.values
+unfolding row_of
+row-kept d vs at i value s lt is wide =
+    ∥∥₁_elim (says-something d) le_prop (λ says.
+    let c = says.0 in
+    let p = get_or (places vs) i 0 in
+    let many : length (places vs) ≡ length vs = length-map vs (λ (v : VarId). v.place) in
+    let own : value ≡ sample c at p =
+    is c says.1 ∙ get_or-map (sample c at) (places vs) i 0 0 (omega (arith, lt, many)) in
+    let le = subst (λ (ds : List Declared). size_of ds p ≤ bits_in s.values) says.1.variables wide in
+    let fits = sample-kept c at p s.values le in
+    omega (arith, own, fits))
+
+pub push_each-requires-clause-fits : goal.push_each-requires-clause-fits
+push_each-requires-clause-fits c = λ i s is.
+    let inv = c.loop-tick.invariant in
+    let vs = c.args.variables.now in
+    let at = c.push_at.new.self.at in
+    let was = before c.args.all.now.items c.loop-tick.all.items i s inv.many is in
+    let kept = inv.kept i was.0 s was.1 is in
+    let fit = c.requires.fit i was.0 was.1 in
+    row-kept c.args.dump.now vs at i (get_or c.deref.result.now i 0) s
+    (omega (arith, slice_get_within c.loop-tick.all.items i s is, inv.many, c.requires.many))
+    (λ c' h. ap (λ (xs : List ℕ). get_or xs i 0)
+    (c.deref.ensures.value ∙ c.push_at.ensures.row c' h
+    ∙ ap (λ (xs : List ℕ). xs ++ row_of c' (places vs) at) c.clear.ensures.items))
+    (omega (arith, fit, kept.bits))
 
 pub loop-tick-preserved : goal.loop-tick-preserved
 loop-tick-preserved c =
@@ -63,12 +103,16 @@ loop-tick-preserved c =
           let one = before mid new i t each.long is in
           let pushed = each.pushed i one.0 t one.1 is in
           let kept = inv.kept i s one.0 was one.1 in
-          record { room = pushed.room ∙ kept.room; notes = pushed.notes ∙ kept.notes };
+          record {
+            room = pushed.room ∙ kept.room;
+            notes = pushed.notes ∙ kept.notes;
+            bits = pushed.bits ∙ kept.bits;
+          };
       full = λ i t is.
           let one = before mid new i t each.long is in
           let pushed = each.pushed i one.0 t one.1 is in
           let long = ap (λ (xs : List ℕ). length xs) pushed.values
-          ∙ length-append one.0.values.items (get_or c.deref.result.now i 0 ∷ []) in
+          ∙ length-append (numbers one.0.values) (get_or c.deref.result.now i 0 ∷ []) in
           omega (arith, long, inv.full i one.0 one.1);
       low = λ ahead k le ltk.
           let same = row.reached (inv.low ahead n (omega arith) lt) (ahead.high n lt) in
@@ -82,7 +126,7 @@ loop-tick-preserved c =
           c.deref.ensures.value ∙ row.row c' h
           ∙ ap (λ (xs : List ℕ). xs ++ row_of c' (places vs) c.push_at.new.self.at) c.clear.ensures.items
           ∙ ap (row_of c' (places vs)) same in
-          column-more (row_of c' (places vs)) i ticks n one.0.values.items t.values.items
+          column-more (row_of c' (places vs)) i ticks n (numbers one.0.values) (numbers t.values)
           (get_or c.deref.result.now i 0) lt (inv.rows c' h ahead i one.0 one.1)
           (ap (λ (xs : List ℕ). get_or xs i 0) all) pushed.values;
       reached = λ most ahead le all.

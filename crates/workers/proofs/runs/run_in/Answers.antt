@@ -50,7 +50,7 @@ pub lines_of-requires-clause-at : goal.lines_of-requires-clause-at
 lines_of-requires-clause-at g c =
     let j = c.args.job.now in
     let between = c.in_ok-members-2.ensures.between in
-    let e : end_in c.run_rounds.new.window ≡ clocks_of j =
+    let e : end_in c.in_ok-members-2._done ≡ clocks_of j =
     omega (arith, between.inside, c.in_ok-members-2.ensures.end) in
     subst (All (IsMonitorAt j (clocks_of j))) (sym c.as_slice.ensures.value)
     (subst (λ (n : ℕ). All (IsMonitorAt j n) c.in_ok-members-2.stopped.items) e between.at)
@@ -59,7 +59,7 @@ pub lines_of-requires-clause-told : goal.lines_of-requires-clause-told
 lines_of-requires-clause-told g c = λ i l is.
     let j = c.args.job.now in
     let between = c.in_ok-members-2.ensures.between in
-    let e : end_in c.run_rounds.new.window ≡ clocks_of j =
+    let e : end_in c.in_ok-members-2._done ≡ clocks_of j =
     omega (arith, between.inside, c.in_ok-members-2.ensures.end) in
     subst (λ (n : ℕ). IsTold j n i l) e (between.told i l is)
 

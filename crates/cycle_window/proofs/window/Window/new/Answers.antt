@@ -1,7 +1,11 @@
 use Rattle.std.proofs.Common.{◌≡◌, ◌∙◌, ℕ, List, length, min, arith, refl, ap, subst}
 use Rattle.vcd_reader.specs.declared.dump.Dump.{Dump}
 use Rattle.vcd_reader.specs.declared.variable.VarId.{VarId}
+use Rattle.cycle_window.specs.Values.{numbers}
 use Rattle.cycle_window.specs.Held.{columns_in, dump_in, size_in, first_in, end_in, IsOver}
+use Rattle.vcd_reader.specs.Held.{variables_of}
+use Rattle.cycle_window.specs.Samples.{AreWide}
+use Rattle.cycle_window.specs.Variables.{places}
 use Rattle.cycle_window.specs.Cursors.{IsCursorOf}
 use Rattle.cycle_window.proofs.window.Window.new.Goals as goal
 
@@ -21,7 +25,7 @@ invariant_of-result c =
       many = c.in_ok-samples.ensures.many ∙ long;
       full = λ i s is.
           let none = blank i s is in
-          let long : length s.values.items ≡ 0 = ap (λ (xs : List ℕ). length xs) none.values in
+          let long : length (numbers s.values) ≡ 0 = ap (λ (xs : List ℕ). length xs) none.values in
           record {
             long = omega (arith, long);
             room = omega (arith, none.room, size);
@@ -29,6 +33,10 @@ invariant_of-result c =
             stays = λ k lt. absurd (omega (arith, lt, long));
           };
       wide = omega (arith, c.in_ok-row.ensures.capacity, long);
+      fit = subst
+          (λ (vs : List VarId).
+          AreWide (variables_of columns.dump.now) (places vs) c.in_ok-samples.samples.items)
+          c.as_slice-variables.ensures.value c.in_ok-samples.ensures.wide;
     }
 
 pub returns-clause-of : goal.returns-clause-of

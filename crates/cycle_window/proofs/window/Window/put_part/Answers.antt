@@ -9,6 +9,7 @@ use Rattle.cycle_window.specs.Picks.{AreBelow}
 use Rattle.cycle_window.specs.Samples.{Each, value_in, value_at}
 use Rattle.cycle_window.specs.Variables.{places}
 use Rattle.cycle_window.specs.Ticks.{ticks_of, row_of}
+use Rattle.cycle_window.specs.Values.{numbers}
 use Rattle.cycle_window.specs.Held.{columns_in, places_in, clock_in, first_in, end_in}
 use Rattle.cycle_window.proofs.PickLaws.{picked-row}
 use Rattle.cycle_window.proofs.SampleLaws.{there}
@@ -64,7 +65,7 @@ pub push_picked-requires-clause-inside : goal.push_picked-requires-clause-inside
 unfolding first_in end_in
 push_picked-requires-clause-inside c =
     let w = c.args.self.now in
-    subst (λ (all : List Samples). Each (λ i s. c.args.tick - w.first < length s.values.items) all)
+    subst (λ (all : List Samples). Each (λ i s. c.args.tick - w.first < length (numbers s.values)) all)
     (sym c.deref-2.ensures.value)
     (λ i s is. omega (arith, (w.full i s is).long, c.requires.low, c.requires.high))
 

@@ -58,6 +58,7 @@ loop-clock-preserved c =
       attempts = mid.attempts;
       since = mid.since;
       decided = mid.decided;
+      spare = mid.spare;
       wide = c.self-1.given.0;
     } in
     let same : IsSame old lent =

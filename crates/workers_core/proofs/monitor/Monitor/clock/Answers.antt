@@ -46,6 +46,7 @@ returns-clause-clock c =
       attempts = old.attempts;
       since = old.since;
       decided = kept.new.self;
+      spare = old.spare;
       wide = _;
     }) refl refl refl refl refl
     (kept.ensures.items

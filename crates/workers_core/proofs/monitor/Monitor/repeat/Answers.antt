@@ -34,6 +34,7 @@ returns-in-None-clause-clocks c =
       attempts = old.attempts;
       since = old.since;
       decided = old.decided;
+      spare = old.spare;
       wide = _;
     }) old.row.items
     (record {
@@ -74,6 +75,7 @@ returns-in-Some-clause-clocks c =
       attempts = old.attempts;
       since = old.since;
       decided = c.push_streak.new.self;
+      spare = old.spare;
       wide = _;
     }) old.row.items c.args.clocks first again
     (record { program = again.program; from = refl; to = refl; attempts = refl; since = refl })
