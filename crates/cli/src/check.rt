@@ -51,7 +51,8 @@ pub fn check_one<'a, S: Source, W: Sink>(
 }
 
 /// Does what [`check_one`] does, by 1 to 64 workers, each a thread: `workers` and `gate` do
-/// not change what is written either. It may wait for them, and all have ended when it returns.
+/// not change what is written either. It may wait for them, and all have ended when it returns. A
+/// thread that gives the dump's memory back may still be at work.
 ///
 /// # Errors
 ///

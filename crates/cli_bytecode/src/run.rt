@@ -68,7 +68,8 @@ fn run_through<S: Source, W: Sink, G: Gate + Sync, R: Threads + Wait + Sync>(
 ///
 /// The answer is the report's totals: how many attempts held, were vacuous, failed, were disabled,
 /// and are open. `window` is from 1 to 65,536. Neither it nor `workers` nor `gate` changes
-/// what is written. The call may wait for the workers, and all have ended when it returns.
+/// what is written. The call may wait for the workers, and all have ended when it returns. A thread
+/// that gives the dump's memory back may still be at work.
 ///
 /// # Errors
 ///

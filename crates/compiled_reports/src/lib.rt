@@ -21,7 +21,7 @@
 //! `workers_single`, the report of a job is that of `workers`, and that the two lines are one
 //! rests on the law of `laws_compiler`.
 //!
-//! Not promised: that memory suffices.
+//! Not promised: that memory suffices, and that the dump's is back when `suite_report` answers.
 #![tactic(auto)]
 
 mod fault;

@@ -19,11 +19,12 @@ use std::sync::Wait;
 use std::thread::Threads;
 use vcd_reader::Dump;
 use verdicts::Report;
-use workers::{Gate, job_report};
+use workers::{Gate, job_report, let_go};
 use workers_core::TeamSize;
 
 /// The report on all assertions of a suite, by a team through windows of a size. Neither the team
-/// nor the size nor the gate changes it.
+/// nor the size nor the gate changes it. The dump's memory is given back in a thread of its own
+/// ([`let_go`](workers::let_go)).
 pub fn suite_report<G: Gate + Sync, R: Threads + Wait + Sync>(
     rt: &R,
     alloc: Global,
@@ -44,5 +45,7 @@ pub fn suite_report<G: Gate + Sync, R: Threads + Wait + Sync>(
     ensures refused { IfErr result (WhyNoLines suite.now) }
 {
     let job = suite_job(alloc, dump, clocks, suite)?;
-    Ok(job_report(rt, alloc, &job, team, size, gate)?)
+    let report = job_report(rt, alloc, &job, team, size, gate)?;
+    let_go(rt, job);
+    Ok(report)
 }

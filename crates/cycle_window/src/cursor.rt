@@ -8,7 +8,7 @@ ghost use Rattle.cycle_window.specs.Ticks.{row_of};
 ghost use Rattle.cycle_window.specs.Variables.{AreOf, places};
 
 use crate::last::advance;
-use crate::rows::{blank_table, push_row, table_len};
+use crate::rows::{blank_table, clear_table, push_row, table_len};
 use std::alloc::{AllocError, Global};
 use vcd_reader::{Change, Dump, VarId};
 
@@ -21,6 +21,9 @@ pub(crate) struct Cursor {
 }
 
 impl Cursor {
+    ghost use Rattle.std.specs.Prelude.{List};
+    ghost use Rattle.vcd_reader.specs.declared.dump.Dump.{Dump};
+    ghost use Rattle.vcd_reader.specs.declared.variable.VarId.{VarId};
     ghost use Rattle.cycle_window.specs.Cursors.{IsCursorOf};
 
     /// Before the first step.
@@ -56,5 +59,21 @@ impl Cursor {
         let steps = dump.steps();
         self.at = advance(&mut self.last, steps, self.at, step);
         push_row(values, dump, variables, &self.last);
+    }
+
+    /// Goes to where another cursor over the same dump is, where both have as many codes, and else
+    /// back before the first step. It takes no memory.
+    pub(crate) fn follow(&mut self, other: &Cursor)
+        ensures at { self.new.at ≤ other.now.at }
+        ensures of { (d : Dump) (vs ws : List VarId) → IsCursorOf d vs self.old
+            → IsCursorOf d ws other.now → IsCursorOf d vs self.new }
+    {
+        if self.last.len() == other.last.len() {
+            self.last.copy_from_slice(&other.last);
+            self.at = other.at;
+        } else {
+            clear_table(&mut self.last);
+            self.at = 0;
+        }
     }
 }

@@ -5,7 +5,7 @@
 //! stood before the step of the edge. A window holds the rows of a run of ticks and no others; it
 //! reads the dump on from where it stands. A variable that several signals name stands in a row
 //! once, but for each time that another name of its code comes between. The values of a variable
-//! stand one after the other, each in as few bytes as the variable's width allows, so that who
+//! stand one after the other, each in 1, 8 or 16 bytes, by the variable's width, so that who
 //! reads a few variables reads no others. A window notes of each value for how many ticks it stays
 //! the same, so that its users can pass over rows that are equal. All memory of a window is taken
 //! when it is made.
@@ -16,6 +16,7 @@
 //! let size = WindowSize::new(1024)?;                          // C3
 //! let mut window = Window::new(alloc, size, columns)?;        // empty, before the first tick
 //! window.slide(&dump, &clocks);                               // the next 1,024, or what is left
+//! other.follow(&window, &dump, &clocks);                      // empty, after the clocks of window
 //! let (first, end) = window.bounds();
 //! let time = time_of_tick(&dump, &clocks, first as usize);  // in the dump's unit
 //! window.put_row(&mut row, first);                            // all signals, in the room of row
@@ -29,9 +30,11 @@
 //! `specs/Samples.antt`, `specs/Rows.antt`, `specs/Stays.antt`, `specs/Cursors.antt`,
 //! `specs/Changes.antt`, `specs/Picks.antt`, `specs/Values.antt`.
 //!
-//! Not promised: a memory of earlier rows, or a way back; or whether a row stays past the window's
-//! end. `slide` asks for ticks that are left, and for the dump and clocks of the window's columns;
-//! `put_row`, `put_part` and `same_after` for a tick in the window, and the first two for room.
+//! Not promised: a memory of earlier rows, or a way back but by following a window that stands
+//! there; how much of the dump `follow` leaves unread; whether a row stays past the window's end.
+//! `slide` asks for ticks that are left, and for the dump and clocks of the window's columns, and
+//! `follow` for those of both windows; `put_row`, `put_part` and `same_after` for a tick in the
+//! window, and the first two for room.
 #![tactic(auto)]
 
 mod clocks;

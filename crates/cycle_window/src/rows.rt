@@ -96,6 +96,16 @@ pub(crate) fn blank_table(alloc: Global, len: usize) -> Result<Vec<Option<Change
     Ok(table)
 }
 
+/// Takes all changes out of a table.
+pub(crate) fn clear_table(table: &mut [Option<Change>])
+    ensures len { length table.new ≡ length table.old }
+    ensures table { IsTable table.new [] }
+{
+    for place in 0..table.len() {
+        table[place] = None;
+    }
+}
+
 /// Adds the row of the variables after the last changes of their codes. There is room for it.
 pub(crate) fn push_row(
     values: &mut Vec<u128>,

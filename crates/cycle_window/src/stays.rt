@@ -17,7 +17,7 @@ fn stay_at(stays: &[u16], values: &Values, place: usize) -> u16
     ensures { StaysFor (numbers values.now) place result }
 {
     let next = place + 1;
-    if next >= values.len() || values.at(next) != values.at(place) {
+    if next >= values.len() || !values.stays_at(place) {
         return 0;
     }
     stays[next] + 1

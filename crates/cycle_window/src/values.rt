@@ -1,6 +1,7 @@
-//! The values of a variable, each in as few bytes as its width allows.
+//! The values of a variable, each in 1, 8 or 16 bytes, by its width.
 
 ghost use Rattle.std.specs.Prelude.{◌≡◌, ◌≤◌, ◌<◌, ◌^◌, ◌++◌, ◌∷◌, [], IfOk, length, get_or};
+ghost use Rattle.std.specs.Prelude.{◌+◌, ◌==◌};
 ghost use Rattle.cycle_window.specs.Values.{numbers, room_in, bits_in};
 
 use std::alloc::{AllocError, Global};
@@ -80,6 +81,20 @@ impl Values {
             Values::Bytes(values) => u128::from(values[place]),
             Values::Words(values) => u128::from(values[place]),
             Values::Wide(values) => values[place],
+        }
+    }
+
+    /// Whether the value at a place stays, so that the next place has it, too.
+    #[inline]
+    pub(crate) fn stays_at(&self, place: usize) -> bool
+        requires { place + 1 < length (numbers self.now) }
+        ensures { result ≡ (get_or (numbers self.now) place 0
+            == get_or (numbers self.now) (place + 1) 0) }
+    {
+        match self {
+            Values::Bytes(values) => values[place] == values[place + 1],
+            Values::Words(values) => values[place] == values[place + 1],
+            Values::Wide(values) => values[place] == values[place + 1],
         }
     }
 }

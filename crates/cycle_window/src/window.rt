@@ -15,14 +15,14 @@ use crate::clocks::Clocks;
 use crate::columns::Columns;
 use crate::cursor::Cursor;
 use crate::picks::{least_stay, push_picked};
-use crate::samples::{Samples, blank_samples, note_each};
+use crate::samples::{Samples, blank_samples, clear_each, note_each};
 use crate::size::WindowSize;
 use crate::window_rows::fill_samples;
 use std::alloc::{AllocError, Global};
 use vcd_reader::Dump;
 
-/// A run of clocks with their rows. It holds no rows but these, and the dump is read up to the last
-/// of them.
+/// A run of clocks with their rows. It holds no rows but these, and the dump is read on as far as
+/// they ask.
 #[derive(Drop)]
 pub struct Window<'d> {
     pub(crate) columns: Columns<'d>,
@@ -99,25 +99,7 @@ impl<'d> Window<'d> {
         ensures end { end_in self.new
             ≡ min (length (ticks_in clocks.now)) (end_in self.old + size_in self.old) }
     {
-        let first = self.end as u64;
-        self.slide_to(dump, clocks, first);
-    }
-
-    /// The clocks from one on, which does not lie before the window's end: up to its size, or up to
-    /// the last clock. Those between are read over. The dump and the clocks are those of its
-    /// columns, and clocks remain.
-    pub fn slide_to(&mut self, dump: &Dump, clocks: &Clocks, first: u64)
-        requires same { IsWindowOf self.old dump.now clocks.now }
-        requires ahead { end_in self.old ≤ first }
-        requires remain { first < length (ticks_in clocks.now) }
-        ensures same { IsWindowOf self.new dump.now clocks.now }
-        ensures columns { columns_in self.new ≡ columns_in self.old }
-        ensures size { size_in self.new ≡ size_in self.old }
-        ensures first { first_in self.new ≡ first }
-        ensures end { end_in self.new
-            ≡ min (length (ticks_in clocks.now)) (first + size_in self.old) }
-    {
-        let first = first as usize;
+        let first = self.end;
         let end = first + self.size.min(clocks.ticks.len() - first);
         let ticks = &clocks.ticks[first..end];
         let columns = &self.columns;
@@ -132,6 +114,26 @@ impl<'d> Window<'d> {
         note_each(&mut self.samples);
         self.first = first;
         self.end = end;
+    }
+
+    /// Empties it, and puts it at the end of another window over the same dump and clocks, so that
+    /// it slides to the clocks after that one's. Over the same columns nothing is read again that
+    /// the other one has read of the dump; over others the dump may be read from its beginning.
+    pub fn follow(&mut self, other: &Window<'_>, dump: &Dump, clocks: &Clocks)
+        requires same { IsWindowOf self.old dump.now clocks.now }
+        requires other { IsWindowOf other.now dump.now clocks.now }
+        ensures same { IsWindowOf self.new dump.now clocks.now }
+        ensures columns { columns_in self.new ≡ columns_in self.old }
+        ensures size { size_in self.new ≡ size_in self.old }
+        ensures first { first_in self.new ≡ end_in other.now }
+        ensures end { end_in self.new ≡ end_in other.now }
+    {
+        let _ = dump;
+        let _ = clocks;
+        self.cursor.follow(&other.cursor);
+        clear_each(&mut self.samples);
+        self.first = other.end;
+        self.end = other.end;
     }
 
     /// A part of the row at a tick of the window, in the place of what stood there: the values of

@@ -21,6 +21,7 @@
 //! let mut machine = Machine::new(alloc, verify(alloc, program)?)?;
 //! let mut decided = ArrayVec::new();
 //! machine.clock(&row, &mut decided);
+//! machine.clock_hinted(&other, true, &mut decided);   // known to be another row
 //! let cost = machine.spent();
 //! let first = machine.repeat(&row, 9);    // nine clocks more, or none; what the first decides
 //! machine.open_starts(&mut decided);

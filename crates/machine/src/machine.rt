@@ -54,7 +54,20 @@ impl Machine {
         ensures clock { IsOneClock self.old row.now out.old.items self.new out.new.items }
         ensures budget { self.new.spent ≤ self.new.program.header.limits.budget }
     {
-        self.progress.clock(self.verified.program(), row, out);
+        self.clock_hinted(row, false, out);
+    }
+
+    /// The same. `changed` says that the row is known to be another one than the last, so that the
+    /// two are not compared. Where it is the last one in spite of this, that costs time alone.
+    pub fn clock_hinted(&mut self, row: &[u128], changed: bool, out: &mut ArrayVec<Decided, 1024>)
+        requires row { IsRowOf self.old.program row.now }
+        requires room { length out.old.items + self.old.program.header.limits.attempts ≤ 1024 }
+        requires more { self.old.state.standing.now + 1 < 2 ^ 64 }
+        ensures clock { IsOneClock self.old row.now out.old.items self.new out.new.items }
+        ensures budget { self.new.spent ≤ self.new.program.header.limits.budget }
+    {
+        self.progress
+            .clock(self.verified.program(), changed, row, out);
     }
 
     /// So many clocks over a row, where the machine knows that each comes to what the last one came

@@ -1,6 +1,6 @@
 //! The window after the next one, which is filled beside a round.
 
-ghost use Rattle.std.specs.Prelude.{◌<◌, ◌≤◌};
+ghost use Rattle.std.specs.Prelude.{◌<◌};
 ghost use Rattle.cycle_window.specs.Held.{size_in, end_in};
 ghost use Rattle.workers_shared.specs.Windows.{IsWindowFor};
 ghost use Rattle.workers.specs.Between.{IsFilledFrom, clocks_of};
@@ -9,15 +9,15 @@ use cycle_window::Window;
 use workers_core::Job;
 use workers_rounds::beside::Beside;
 
-/// A window that is done, to be filled with a job's clocks from one on.
+/// A window that is done, to be filled with a job's clocks after those of another one.
 #[derive(Drop)]
-pub(crate) struct Filling<'j, 'd> {
+pub(crate) struct Filling<'j, 'w, 'd> {
     pub(crate) job: &'j Job,
     pub(crate) window: Window<'d>,
-    pub(crate) first: u64,
+    pub(crate) before: &'w Window<'d>,
 }
 
-impl<'j, 'd> Beside<Window<'d>> for Filling<'j, 'd> {
+impl<'j, 'w, 'd> Beside<Window<'d>> for Filling<'j, 'w, 'd> {
     ghost use Rattle.workers.specs.Filling.{may_fill, filled_by};
 
     ghost may = { may_fill };
@@ -25,22 +25,28 @@ impl<'j, 'd> Beside<Window<'d>> for Filling<'j, 'd> {
     ghost tells = { filled_by };
 
     fn begin(self) -> Window<'d> {
-        let Filling { job, window, first } = self;
-        filled_from(job, window, first)
+        let Filling {
+            job,
+            window,
+            before,
+        } = self;
+        filled_after(job, window, before)
     }
 }
 
-/// The clocks from one on, in the room of a window that ends there or before. Where no clocks
-/// remain, what the window holds then is not promised.
-pub(crate) fn filled_from<'d>(job: &Job, mut window: Window<'d>, first: u64) -> Window<'d>
+/// The clocks after those of another window, in the room of this one. Where no clocks remain, what
+/// the window holds then is not promised.
+pub(crate) fn filled_after<'d>(job: &Job, mut window: Window<'d>, before: &Window<'d>) -> Window<'d>
     requires window { IsWindowFor job.now window }
-    requires ahead { end_in window ≤ first }
-    ensures { first < clocks_of job.now
-        → IsFilledFrom job.now first (size_in window.entry) result }
+    requires before { IsWindowFor job.now before.now }
+    ensures { end_in before.now < clocks_of job.now
+        → IsFilledFrom job.now (end_in before.now) (size_in window.entry) result }
 {
     let clocks = job.clocks();
-    if first < clocks.len() {
-        window.slide_to(job.dump(), clocks, first);
+    let (_, end) = before.bounds();
+    if end < clocks.len() {
+        window.follow(before, job.dump(), clocks);
+        window.slide(job.dump(), clocks);
     }
     window
 }

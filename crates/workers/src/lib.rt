@@ -10,6 +10,7 @@
 //! ```text
 //! let job = Job::new(alloc, programs, dump, "top.clk")?;
 //! let report = run(&rt, alloc, &job, 4, 1024, &gate)?;
+//! let_go(&rt, job);                       // its memory, in a thread that nobody waits for
 //! // or, of one program:
 //! let (team, size) = (TeamSize::new(4)?, WindowSize::new(1024)?);
 //! let report = report_run(&rt, alloc, dump, verified, team, size, &gate)?;
@@ -25,10 +26,11 @@
 //! `specs/Reported.antt`. That a round is a list of steps of the core is a law of `laws_workers`.
 //!
 //! Not promised: that the call returns, that two workers were at work at once, who ran which
-//! monitor, and that memory suffices.
+//! monitor, when the memory of a job that was let go is back, and that memory suffices.
 #![tactic(auto)]
 
 mod filling;
+mod letting_go;
 mod lines;
 mod opening;
 mod report;
@@ -37,6 +39,7 @@ mod rounds_run;
 mod runs;
 mod totals;
 
+pub use letting_go::let_go;
 pub use opening::first_monitors;
 pub use report::report_run;
 pub use runs::{job_report, run};

@@ -9,6 +9,7 @@ ghost use Rattle.verdicts.specs.Shown.{data_of};
 ghost use Rattle.machine_decisions.specs.Lines.{attempts_of};
 ghost use Rattle.machine_decisions.specs.Reported.{HasSignals, ReportsRun, WhyNoRun, wanted_slot};
 
+use crate::letting_go::let_go;
 use crate::runs::job_report;
 use cycle_window::{Clocks, WindowFault, WindowSize};
 use std::alloc::Global;
@@ -45,7 +46,8 @@ fn job_of(alloc: Global, dump: Dump, verified: Verified, clocks: Clocks) -> Resu
 }
 
 /// The report of a verified program over a dump, on the clock that it names, by a team through
-/// windows of a size. Neither the team nor the size nor the gate changes it.
+/// windows of a size. Neither the team nor the size nor the gate changes it. The dump's memory is
+/// given back in a thread of its own ([`let_go`](crate::let_go)).
 ///
 /// # Errors
 ///
@@ -70,5 +72,7 @@ pub fn report_run<G: Gate + Sync, R: Threads + Wait + Sync>(
     let clocks = clocks_of(alloc, &dump, &verified)?;
     let job = job_of(alloc, dump, verified, clocks)?;
     let _count = job.clocks().len();
-    Ok(job_report(rt, alloc, &job, team, size, gate)?)
+    let report = job_report(rt, alloc, &job, team, size, gate)?;
+    let_go(rt, job);
+    Ok(report)
 }

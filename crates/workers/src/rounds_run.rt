@@ -7,7 +7,7 @@ ghost use Rattle.workers_rounds.specs.Runs.{IsMember};
 ghost use Rattle.workers.specs.Between.{IsBetween, IsNext, clocks_of};
 ghost use Rattle.workers.specs.Tallied.{AreTallied};
 
-use crate::filling::{Filling, filled_from};
+use crate::filling::{Filling, filled_after};
 use crate::round_batches::{monitors_back, take_round};
 use cycle_window::Window;
 use std::alloc::{AllocError, Global};
@@ -49,11 +49,10 @@ fn run_round<'j, L: Tallying + Send + Sync, G: Gate + Sync, R: Threads + Wait + 
     ensures tallied { IfOk result (λ r. AreTallied r.0.items lines.new.items) }
 {
     let _count = job.clocks().len();
-    let (_, end) = next.bounds();
     let beside = Filling {
         job,
         window: done,
-        first: end,
+        before: next,
     };
     let board = Board::new(alloc)?;
     let (members, published, after) = round(
@@ -80,7 +79,6 @@ pub(crate) fn run_rounds<'j, L: Tallying + Send + Sync, G: Gate + Sync, R: Threa
 ) -> Result<(Vec<Member<L>>, Vec<Numbered>, Window<'j>), AllocError>
     requires between { IsBetween job.now window monitors.items lines.old.items }
     requires other { IsWindowFor job.now other }
-    requires behind { end_in other ≤ end_in window }
     requires alike { size_in other ≡ size_in window }
     requires workers { (0 < vec_len members) × (vec_len members ≤ 64) }
     requires members { All IsMember members.items }
@@ -94,8 +92,7 @@ pub(crate) fn run_rounds<'j, L: Tallying + Send + Sync, G: Gate + Sync, R: Threa
     let mut members = members;
     let mut monitors = monitors;
     let mut done = window;
-    let (_, end) = done.bounds();
-    let mut next = filled_from(job, other, end);
+    let mut next = filled_after(job, other, &done);
     'rounds: while done.bounds().1 < job.clocks().len() {
         let (back, stopped, after) = run_round(
             rt, alloc, job, done, &next, tally, gate, members, monitors, lines,

@@ -82,8 +82,8 @@ impl Monitor {
     }
 
     /// A clock over its part of the row. There is room for what it decides, which stands in the
-    /// buffer, too.
-    fn clock(&mut self, decided: &mut ArrayVec<Decided, 1024>)
+    /// buffer, too. `changed` says that the part is another one than at the clock before.
+    fn clock(&mut self, changed: bool, decided: &mut ArrayVec<Decided, 1024>)
         requires row { AreSampled self.old.machine.program self.old.row.items }
         requires room { self.old.machine.program.header.limits.attempts ≤ 1024 }
         requires spare { length self.old.machine.state.standing.attempts + 1
@@ -94,7 +94,7 @@ impl Monitor {
     {
         decided.clear();
         let row = self.row.as_slice();
-        self.machine.clock(row, decided);
+        self.machine.clock_hinted(row, changed, decided);
         self.decided.extend(decided.as_slice());
     }
 
@@ -121,8 +121,9 @@ impl Monitor {
         }
     }
 
-    /// So many clocks over its part of the row. There is room for what they decide.
-    fn run(&mut self, clocks: u64, decided: &mut ArrayVec<Decided, 1024>)
+    /// So many clocks over its part of the row. There is room for what they decide. `changed` says
+    /// that the part is another one than at the clock before them.
+    fn run(&mut self, clocks: u64, changed: bool, decided: &mut ArrayVec<Decided, 1024>)
         requires row { AreSampled self.old.machine.program self.old.row.items }
         requires room { self.old.machine.program.header.limits.attempts ≤ 1024 }
         requires spare { length self.old.machine.state.standing.attempts + clocks
@@ -131,8 +132,10 @@ impl Monitor {
         ensures { AreMore self.old self.old.row.items clocks self.new }
     {
         let mut left = clocks;
+        let mut changed = changed;
         while left > 0 {
-            self.clock(decided);
+            self.clock(changed, decided);
+            changed = false;
             left -= 1;
             let passed = self.repeat(left);
             left -= passed;
@@ -168,12 +171,14 @@ impl Monitor {
             ≡ monitor_state self.new }
     {
         let mut clock = self.machine.now();
+        let mut changed = false;
         while clock < to {
             window.put_part(&mut self.row, clock, self.from, self.to);
             let same = window.same_after(clock, self.from, self.to);
             let clocks = 1 + same.min(to - 1 - clock);
-            self.run(clocks, decided);
+            self.run(clocks, changed, decided);
             clock += clocks;
+            changed = true;
         }
     }
 

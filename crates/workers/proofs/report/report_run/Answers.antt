@@ -9,13 +9,13 @@ pub returns-clause-report : goal.returns-clause-report
 returns-clause-report g c = λ k holds.
     let of = c.in_ok-job.ensures in
     reports c.in_ok-job.job c.args.dump c.in_ok-clocks.clocks k c.args.verified
-    (data_of c.in_ok-job_report.field-0) of.programs of.dump of.clocks holds c.in_ok-clocks.ensures.clock of.fits
-    (c.in_ok-job_report.ensures.report k)
+    (data_of c.in_ok-report.report) of.programs of.dump of.clocks holds c.in_ok-clocks.ensures.clock of.fits
+    (c.in_ok-report.ensures.report k)
 
 pub returns-clause-count : goal.returns-clause-count
 returns-clause-count g c =
     let of = c.in_ok-job.ensures in
-    counted c.in_ok-job.job c.args.verified c.in_ok-job_report.field-0.lines.items (data_of c.in_ok-job_report.field-0)
+    counted c.in_ok-job.job c.args.verified c.in_ok-report.report.lines.items (data_of c.in_ok-report.report)
     of.programs refl
     (omega (
       arith,
@@ -24,4 +24,4 @@ returns-clause-count g c =
       ap
           (λ (k : Clocks). length (ticks_in k)) c.clocks.ensures,
     ))
-    c.in_ok-job_report.ensures.report c.in_ok-job_report.ensures.count
+    c.in_ok-report.ensures.report c.in_ok-report.ensures.count

@@ -1,7 +1,7 @@
 use Rattle.std.proofs.Common.{◌≡◌, ℕ, ap, ◌∙◌, sym, subst, length, vec_len, List, arith}
 use Rattle.std.specs.Prelude.{slice_get}
 use Rattle.cycle_window.specs.declared.clocks.Clocks.{Clocks}
-use Rattle.cycle_window.specs.Held.{ticks_in, size_in, end_in}
+use Rattle.cycle_window.specs.Held.{ticks_in, end_in}
 use Rattle.workers.specs.Between.{IsFilledFrom}
 use Rattle.workers_rounds.specs.declared.work.Published.{Published}
 use Rattle.workers_rounds.specs.Runs.{upto}
@@ -70,7 +70,5 @@ pub returns-clause-next : goal.returns-clause-next
 returns-clause-next g c = λ more.
     let j = c.args.job.now in
     let after = c.in_ok-members.after in
-    let end = c.bounds-end.ensures.end in
-    let filled = c.in_ok-members.ensures.beside (omega (arith, more, end)) in
     subst (λ (n : ℕ). IsFilledFrom j (end_in c.args.next.now) n after) (sym c.requires.next.same)
-    (subst (λ (n : ℕ). IsFilledFrom j n (size_in c.args.done) after) end filled)
+    (c.in_ok-members.ensures.beside more)

@@ -9,8 +9,8 @@ use Rattle.machine_decisions.proofs.RowLaws.{row-values, values-prop}
 use Rattle.workers_core.proofs.PlaceLaws as laws
 use Rattle.workers_core.proofs.monitor.Monitor.clock.Goals as goal
 
-pub clock-requires-clause-row : goal.clock-requires-clause-row
-clock-requires-clause-row c =
+pub clock_hinted-requires-clause-row : goal.clock_hinted-requires-clause-row
+clock_hinted-requires-clause-row c =
     let row = c.as_slice-row.result.now in
     let widths = map (λ (s : SlotData). s.width) c.args.self.now.machine.program.signals in
     ∥∥₁_elim c.requires.row (values-prop widths row) (λ f.
@@ -21,9 +21,9 @@ pub extend-requires : goal.extend-requires
 extend-requires c =
     let old = c.args.self.now in
     let few =
-    laws.few old c.as_slice-row.result.now c.clear.new.self.items c.clock.new.out.items
-    c.clock.new.self c.clock.ensures.clock c.clear.ensures in
-    let same : length c.as_slice.result.now ≡ length c.clock.new.out.items =
+    laws.few old c.as_slice-row.result.now c.clear.new.self.items c.clock_hinted.new.out.items
+    c.clock_hinted.new.self c.clock_hinted.ensures.clock c.clear.ensures in
+    let same : length c.as_slice.result.now ≡ length c.clock_hinted.new.out.items =
     ap length c.as_slice.ensures.value in
     omega (arith, few, same, c.requires.spare)
 
@@ -34,12 +34,12 @@ returns-clause-clock c =
     let row = old.row.items in
     let clock =
     subst (λ (r : List ℕ).
-    IsOneClock old.machine r c.clear.new.self.items c.clock.new.self c.clock.new.out.items)
-    c.as_slice-row.ensures.value c.clock.ensures.clock in
-    laws.one-more old row c.clear.new.self.items c.clock.new.out.items
-    c.clock.new.self clock c.clear.ensures
+    IsOneClock old.machine r c.clear.new.self.items c.clock_hinted.new.self c.clock_hinted.new.out.items)
+    c.as_slice-row.ensures.value c.clock_hinted.ensures.clock in
+    laws.one-more old row c.clear.new.self.items c.clock_hinted.new.out.items
+    c.clock_hinted.new.self clock c.clear.ensures
     (record {
-      machine = c.clock.new.self;
+      machine = c.clock_hinted.new.self;
       from = old.from;
       to = old.to;
       row = old.row;
