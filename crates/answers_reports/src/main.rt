@@ -5,10 +5,10 @@
 //! reports are printed; they must be those of a judge who shares no text with svamon
 //! (`scripts/models/axi4_judge.py`).
 //!
-//! Each text goes through `check_one` by windows of 1, 2, 3, 1,000, 1,024 and 65,536 clocks and
-//! through
-//! `judge_one`; where one of them tells another thing than the others, the program ends with an
-//! error. The ports go through `judge_one` and `check_one` by windows of 3 clocks.
+//! Each text goes through `check_one` by windows of 1, 2, 3, 1,000, 1,024 and 65,536 clocks,
+//! through `check_all` by 1 and by 4 workers, and through `judge_one`; where one of them tells
+//! another thing than the others, the program ends with an error. The ports go through `judge_one`
+//! and `check_one` by windows of 3 clocks.
 //!
 //! ```text
 //! svamon 1
@@ -18,7 +18,8 @@
 //! ```
 //!
 //! The gate compares what is printed with `stdout`. What a report says is the contract of
-//! `cli::check_one` and `cli::judge_one`; the definitions stand in `cli/specs/Reported.antt`.
+//! `cli::check_one`, `check_all` and `judge_one`; the definitions stand in
+//! `cli/specs/Reported.antt`.
 //!
 //! Not promised: that each form of a text occurs; `make random` draws others.
 #![tactic(auto)]

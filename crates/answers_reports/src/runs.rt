@@ -1,9 +1,14 @@
 //! Runs of `check` and of `judge` over a dump, and what they tell.
 
 use anyhow::{Result, bail};
-use cli::{Fault, check_one, fault_line, judge_one, status};
+use cli::{Fault, NoGate, check_all, check_one, fault_line, judge_one, status};
 use signals::{Counted, CutWriter};
 use std::alloc::Global;
+use std::sync::Wait;
+use std::thread::Threads;
+
+/// How many clocks the windows of a team have.
+const TEAM_WINDOW: u64 = 2;
 
 /// The most bytes of a report.
 const ROOM: usize = 1_000_000;
@@ -34,6 +39,29 @@ pub fn checked_answer(alloc: Global, dump: &str, text: &str, window: u64) -> Res
     let mut source = Counted::new(dump.as_bytes());
     let mut out = Counted::new(CutWriter::new(alloc, ROOM)?);
     let answer = check_one(alloc, &mut source, text, window, &mut out);
+    told_by(alloc, &answer, out.inner.as_slice())
+}
+
+/// What `check` tells of a text over a dump by so many workers, through windows of two clocks.
+pub fn team_answer<R: AllocGlobal + Threads + Wait + Sync>(
+    rt: &R,
+    dump: &str,
+    text: &str,
+    workers: u64,
+) -> Result<Answer> {
+    let alloc = rt.alloc();
+    let mut source = Counted::new(dump.as_bytes());
+    let mut out = Counted::new(CutWriter::new(alloc, ROOM)?);
+    let answer = check_all(
+        rt,
+        alloc,
+        &mut source,
+        text,
+        workers,
+        TEAM_WINDOW,
+        &NoGate,
+        &mut out,
+    );
     told_by(alloc, &answer, out.inner.as_slice())
 }
 

@@ -19,6 +19,8 @@ use Rattle.compiler.specs.declared.fault.CompileFault.TheVariants as compiles
 use Rattle.compiled_reports.specs.Faults.{HasNoProgram, HasBadCount}
 use Rattle.vcd_reader.specs.declared.fault.VcdFault.TheVariants as dumps
 use Rattle.vcd_reader.specs.Dump.{Contents, Gave, GaveDump, dump_of}
+use Rattle.vcd_reader.specs.declared.dump.Dump.{Dump}
+use Rattle.vcd_reader.specs.Held.{ReadsAs}
 use Rattle.cycle_window.specs.declared.fault.WindowFault.{WindowFault}
 use Rattle.cycle_window.specs.declared.fault.WindowFault.TheVariants as windows
 use Rattle.cycle_window.specs.Bound.{HasClock, IsClockFault}
@@ -49,6 +51,11 @@ pub record IsAnswered (r : Run) (totals : List ℕ) : Type 0 where
   pub reads : r.source_after.failures ≡ r.source_before.failures
   pub writes : r.sink_after.failures ≡ r.sink_before.failures
   pub flushed : r.sink_after.keeps_back ≡ false
+
+-- The source gave a dump: all its bytes, which say what the dump holds. No call failed.
+pub record WasRead (before after : SourceState) (dump : Dump) : Type 0 where
+  pub said : ReadsAs before.remaining after.remaining dump
+  pub reads : after.failures ≡ before.failures
 
 -- The source gave all its bytes, and this is the report on them and on the text, with the times of
 -- its clocks. No call failed.

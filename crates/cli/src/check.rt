@@ -1,5 +1,5 @@
-//! The calls of the commands `check` (`check_all`) and `judge` (`judge_one`). `check_one` does what
-//! `check` does, on the calling thread.
+//! What the commands `check` and `judge` do, from a source to a sink: `check_all` and `judge_one`.
+//! `check_one` does what `check` does, on the calling thread.
 
 ghost use Rattle.std.specs.Prelude.{◌≡◌, ◌↔◌, ◌≤◌, Err, IfOk, IfErr};
 ghost use Rattle.cycle_window.specs.Bound.{IsBadSize};

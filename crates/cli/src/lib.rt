@@ -3,8 +3,9 @@
 //! ```text
 //! let totals = check_one(alloc, &mut dump, text, 1024, &mut out)?;  // the report
 //! let totals = check_all(&rt, alloc, &mut dump, text, 4, 1024, &gate, &mut out)?; // by 4 workers
+//! let totals = check_over(&rt, alloc, dump, text, team, size, &gate, &mut out)?; // over a dump
 //! let timed = report_all(&rt, alloc, &mut dump, text, 4, 1024, &gate)?;  // with its clocks' times
-//! let timed = report_over(&rt, alloc, dump, text, team, size, &gate)?;   // over a dump in memory
+//! let timed = report_over(&rt, alloc, dump, text, team, size, &gate)?;   // the same over a dump
 //! let totals = judge_one(alloc, &mut dump, text, &mut out)?;        // the same, by the slow judge
 //! let bytes = build_one(alloc, &mut dump, text, "grant")?;          // an assertion's program
 //! let count = explain_one(&rt, alloc, &mut dump, text, &origin, &wanted, team, &gate, &mut out)?;
@@ -45,6 +46,7 @@ mod waves;
 
 pub use build::build_one;
 pub use check::{check_all, check_one, judge_one};
+pub use checked::check_over;
 pub use cli_faults::{Fault, fault_line, status};
 pub use cli_words::{Request, WordsFault, read_words};
 pub use compiled_reports::{Gate, NoGate};

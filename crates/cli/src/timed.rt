@@ -12,7 +12,7 @@ ghost use Rattle.cli.specs.Timed.{TellsTimes};
 ghost use Rattle.cli.specs.Outcomes.{WhyNoneByPrograms, WhyCheckRefused, WhyNotCheckedBy};
 ghost use Rattle.cli.specs.Outcomes.{IsMade, reading_of};
 
-use crate::checked::{TimedSuite, timed_suite};
+use crate::checked::{TimedSuite, timed_by_team};
 use crate::programs::lines_fault;
 use crate::times::times_of;
 use cli_faults::Fault;
@@ -57,7 +57,7 @@ pub fn report_over<'a, G: Gate + Sync, R: Threads + Wait + Sync>(
     ensures err { (c : Contents) → HoldsContents dump c
         → IfErr result (WhyNoneByPrograms c text.entry.now) }
 {
-    let TimedSuite { suite, clocks } = timed_suite(alloc, &dump, text)?;
+    let TimedSuite { suite, clocks } = timed_by_team(rt, alloc, &dump, text, team)?;
     // No more clocks than steps; those after the last one have no time.
     let mut times = times_of(alloc, &dump, &clocks, dump.steps().len())?;
     match suite_report(rt, alloc, dump, clocks, &suite, team, size, gate) {

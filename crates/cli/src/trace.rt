@@ -10,7 +10,7 @@ ghost use Rattle.judged_reports.specs.Judged.{AreLinesOver};
 ghost use Rattle.cli.specs.Explained.{IsTraced};
 ghost use Rattle.cli.specs.Outcomes.{WhyNoneByPrograms};
 
-use crate::checked::{TimedSuite, timed_suite};
+use crate::checked::{TimedSuite, timed_by_team};
 use crate::programs::lines_fault;
 use crate::times::times_of;
 use assertions::Suite;
@@ -55,7 +55,7 @@ pub(crate) fn trace_of<'a, G: Gate + Sync, R: Threads + Wait + Sync>(
     ensures err { (c : Contents) → HoldsContents dump c
         → IfErr result (WhyNoneByPrograms c text.entry.now) }
 {
-    let TimedSuite { suite, clocks } = timed_suite(alloc, &dump, text)?;
+    let TimedSuite { suite, clocks } = timed_by_team(rt, alloc, &dump, text, team)?;
     let rows = suite_rows(alloc, &dump, &clocks, &suite, size)?;
     let times = times_of(alloc, &dump, &clocks, rows.signals.len())?;
     match suite_report(rt, alloc, dump, clocks, &suite, team, size, gate) {

@@ -6,6 +6,7 @@ use Rattle.std.proofs.Common.{
   zero,
   suc,
   ◌+◌,
+  ◌-◌,
   ◌<◌,
   ◌≤◌,
   true,
@@ -32,7 +33,7 @@ use Rattle.std.proofs.Common.{
   inl,
   inr,
 }
-use Rattle.std.specs.Prelude.{replicate}
+use Rattle.std.specs.Prelude.{replicate, is_some}
 use Rattle.std.specs.List.{flat_map}
 use Rattle.std.proofs.lemmas.Bool.{eq-eqb}
 use Rattle.std.proofs.lemmas.Bool.Decides.{eqb_tells}
@@ -107,6 +108,26 @@ changes_to-more steps k s lt at =
     ap (flat_map (λ (x : Step). x.changes.items)) (take_more steps k s lt)
     ∙ flat_map-append (λ (x : Step). x.changes.items) (take k steps) (get_or steps k s ∷ [])
     ∙ rw (← at, append-nil) refl
+
+-- the last change in a step, or else the one before it
+pub last_of-step : (steps : List Step) (code at : ℕ) (s : Step) (o : Option Change) → 0 < at
+    → at - 1 < length steps → s ≡ get_or steps (at - 1) s → o ≡ last_of code s.changes.items
+    → last_of code (changes_to steps at)
+    ≡ or_else o (last_of code (changes_to steps (at - 1)))
+last_of-step steps code at s o more lt is last =
+    let e : at ≡ at - 1 + 1 = omega arith in
+    ap (λ (n : ℕ). last_of code (changes_to steps n)) e
+    ∙ ap (last_of code) (changes_to-more steps (at - 1) s lt is)
+    ∙ last_of-append code (changes_to steps (at - 1)) s.changes.items
+    ∙ ap (λ (x : Option Change). or_else x (last_of code (changes_to steps (at - 1)))) (sym last)
+
+pub or_else-some : {A : Type 0} (o p : Option A) → is_some o ≡ true → or_else o p ≡ o
+or_else-some (Some x) p e = refl
+or_else-some None p e = absurd cc
+
+pub or_else-not : {A : Type 0} (o p : Option A) → is_some o ≡ false → or_else o p ≡ p
+or_else-not (Some x) p e = absurd cc
+or_else-not None p e = refl
 
 -- a last change is of its code
 pub last_of-code : (code : ℕ) (xs : List Change) (c : Change) → last_of code xs ≡ Some c

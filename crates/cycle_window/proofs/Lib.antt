@@ -6,3 +6,4 @@ pub mod PickLaws
 pub mod SampleLaws
 pub mod WindowLaws
 pub mod StayLaws
+pub mod BetweenLaws

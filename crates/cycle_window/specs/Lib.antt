@@ -11,3 +11,4 @@ pub mod Held
 pub mod Bound
 pub mod Signals
 pub mod Times
+pub mod Between

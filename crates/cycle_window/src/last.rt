@@ -25,6 +25,23 @@ pub(crate) fn last_change(before: Option<Change>, code: usize, changes: &[Change
     last
 }
 
+/// The last change of the code in the steps before one of them, which may be all. It looks back no
+/// further than to that change.
+pub(crate) fn change_before(steps: &[Step], code: usize, step: usize) -> Option<Change>
+    requires { step ≤ length steps.now }
+    ensures { result ≡ last_of code (changes_to steps.now step) }
+{
+    let mut at = step;
+    while at > 0 {
+        at -= 1;
+        let last = last_change(None, code, &steps[at].changes);
+        if last.is_some() {
+            return last;
+        }
+    }
+    None
+}
+
 /// The value of a variable after the last change of its code.
 pub(crate) fn value_behind(dump: &Dump, last: Option<Change>, var: VarId) -> u128
     requires of { IsOf dump.now var }

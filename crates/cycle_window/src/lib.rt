@@ -12,6 +12,7 @@
 //!
 //! ```text
 //! let clocks = Clocks::of(alloc, &dump, "top.clk")?;          // C1, C2
+//! let clocks = Clocks::of_by(&rt, alloc, &dump, "top.clk", 4)?;   // by 4 threads at most
 //! let columns = Columns::bind(alloc, &dump, &clocks, &signals)?;  // C4, C5
 //! let size = WindowSize::new(1024)?;                          // C3
 //! let mut window = Window::new(alloc, size, columns)?;        // empty, before the first tick
@@ -27,14 +28,14 @@
 //! The definitions: `specs/Ticks.antt` (ticks and rows of what a dump says; `ticks_law` has that
 //! these are all the rising edges, in order), `specs/Held.antt` (what clocks, columns and windows
 //! hold), `specs/Bound.antt` (what is wrong with a path, a width or a size). Below them:
-//! `specs/Samples.antt`, `specs/Rows.antt`, `specs/Stays.antt`, `specs/Cursors.antt`,
-//! `specs/Changes.antt`, `specs/Picks.antt`, `specs/Values.antt`.
+//! `specs/Between.antt`, `specs/Samples.antt`, `specs/Rows.antt`, `specs/Stays.antt`,
+//! `specs/Cursors.antt`, `specs/Changes.antt`, `specs/Picks.antt`, `specs/Values.antt`.
 //!
-//! Not promised: a memory of earlier rows, or a way back but by following a window that stands
-//! there; how much of the dump `follow` leaves unread; whether a row stays past the window's end.
-//! `slide` asks for ticks that are left, and for the dump and clocks of the window's columns, and
-//! `follow` for those of both windows; `put_row`, `put_part` and `same_after` for a tick in the
-//! window, and the first two for room.
+//! Not promised: that several threads look for ticks, or each in an equal part; a memory of earlier
+//! rows, or a way back but by following a window that stands there; how much of the dump `follow`
+//! leaves unread; whether a row stays past the window's end. `slide` asks for ticks that are left,
+//! and for the dump and clocks of the window's columns, and `follow` for those of both windows;
+//! `put_row`, `put_part` and `same_after` for a tick in the window, and the first two for room.
 #![tactic(auto)]
 
 mod clocks;

@@ -5,7 +5,7 @@ ghost use Rattle.vcd_reader.specs.Held.{HoldsContents};
 
 use crate::refused::{is_told_unjudged, paths_with, refused_of};
 use crate::team::{TeamFront, read_team, status_with};
-use cli::{Fault, NoGate, PagedReport, Paths, check_all, page_over, report_over};
+use cli::{Fault, NoGate, PagedReport, Paths, page_over, report_over};
 use cli_lint::{Rest, rest_over};
 use cli_shell::{
     FormFiles, Provenance, Refused, Sources, chosen_sources, moved_fault, open, print_report,
@@ -16,7 +16,6 @@ use cycle_window::WindowSize;
 use signals::Counted;
 use source_files::{Added, Origin};
 use std::fs::Files;
-use std::io;
 use std::io::{Cursor, Eprint, Print, Read};
 use std::sync::Wait;
 use std::thread::Threads;
@@ -28,6 +27,17 @@ use workers_core::TeamSize;
 pub struct Team {
     pub workers: u64,
     pub window: u64,
+}
+
+impl Team {
+    /// The team and the windows, where both sizes are in their ranges.
+    pub fn sizes(self) -> Result<(TeamSize, WindowSize), Fault<'static>> {
+        let windows = WindowSize::new(self.window)?;
+        match TeamSize::new(self.workers) {
+            Ok(team) => Ok((team, windows)),
+            Err(_) => Err(Fault::BadWorkers),
+        }
+    }
 }
 
 /// What is judged, by whom, and where the report goes.
@@ -74,10 +84,7 @@ fn paged_over<'a, R: Files + AllocGlobal + Threads + Wait + Sync>(
 ) -> Result<PagedReport, Fault<'a>>
     requires held { (c : Contents) × HoldsContents dump c }
 {
-    let size = WindowSize::new(asked.team.window)?;
-    let Ok(team) = TeamSize::new(asked.team.workers) else {
-        return Err(Fault::BadWorkers);
-    };
+    let (team, size) = asked.team.sizes()?;
     if asked.html.is_none() {
         let timed = report_over(rt, rt.alloc(), dump, text, team, size, &NoGate)?;
         let page = Vec::new(rt.alloc());
@@ -115,27 +122,6 @@ fn write_page<R: Files + AllocGlobal>(
     }
 }
 
-/// Judges a text over a dump by a team; the report goes to standard output.
-fn judge_by_team<'a, R: Files + Print + AllocGlobal + Threads + Wait + Sync, D: Read + Drop>(
-    rt: &R,
-    dump: D,
-    text: &'a str,
-    team: Team,
-) -> Result<[u64; 5], Fault<'a>> {
-    let mut dump = Counted::new(dump);
-    let mut out = Counted::new(io::writer(rt));
-    check_all(
-        rt,
-        rt.alloc(),
-        &mut dump,
-        text,
-        team.workers,
-        team.window,
-        &NoGate,
-        &mut out,
-    )
-}
-
 /// Judges a text over a dump in memory by a team; the report goes to files in other forms, with
 /// what was refused of the text before, and to standard output.
 fn judge_over<'a, R: Files + Print + AllocGlobal + Threads + Wait + Sync>(
@@ -168,10 +154,7 @@ fn judge_into_forms<'a, R: Files + Print + AllocGlobal + Threads + Wait + Sync, 
     origin: &Origin<'_>,
     asked: &Asked<'_>,
 ) -> Result<[u64; 5], Fault<'a>> {
-    let _size = WindowSize::new(asked.team.window)?;
-    if TeamSize::new(asked.team.workers).is_err() {
-        return Err(Fault::BadWorkers);
-    }
+    let _sizes = asked.team.sizes()?;
     let dump = read_dump(rt.alloc(), &mut Counted::new(dump))?;
     judge_over(rt, dump, text, origin, asked, &[])
 }
@@ -275,11 +258,7 @@ fn serve_whole<R: Files + Print + Eprint + AllocGlobal + Threads + Wait + Sync, 
         parts: sources.parts.as_slice(),
         added: sources.added.as_slice(),
     };
-    let outcome = if asked.files.is_empty() && asked.html.is_none() {
-        judge_by_team(rt, dump, text, asked.team)
-    } else {
-        judge_into_forms(rt, dump, text, &origin, asked)
-    };
+    let outcome = judge_into_forms(rt, dump, text, &origin, asked);
     shown(rt, origin.added, outcome)
 }
 

@@ -25,13 +25,13 @@
 //! opened, read or written.
 //!
 //! It opens files (`cli_shell`) and hands over what is in them; what a command answers is said by
-//! the contracts of `cli` (`check_all`, `report_all`, `report_over`, `judge_one`, `build_one`,
-//! `explain_one`, `failures_over`), of `report_page` (`page`), of `report_gtkwave` (`save_file`),
-//! of `report_forms` (`junit_report`, `json_report`), of `cli_bytecode` (`verify_code`, `run_code`,
-//! `upgrade_code`), of `cli_lint` (`lint_one`, `rest_over`), of `cli_names_command` (`names_one`),
-//! of `import_files` (`imported`, `text_of`, `placed`, `status_of`), of `source_files` (`joined`,
-//! `chosen`) and of `axi4_rules` (`port_rules`, `read_ports`), whose definitions stand in their
-//! `specs/`.
+//! the contracts of `vcd_reader` (`read_dump`), of `cli` (`check_over`, `report_over`, `page_over`,
+//! `judge_one`, `build_one`, `explain_one`, `failures_over`), of `report_page` (`page`), of
+//! `report_gtkwave` (`save_file`), of `report_forms` (`junit_report`, `json_report`), of
+//! `cli_bytecode` (`verify_code`, `run_code`, `upgrade_code`), of `cli_lint` (`lint_one`,
+//! `rest_over`), of `cli_names_command` (`names_one`), of `import_files` (`imported`, `text_of`,
+//! `placed`, `status_of`), of `source_files` (`joined`, `chosen`) and of `axi4_rules`
+//! (`port_rules`, `read_ports`), whose definitions stand in their `specs/`.
 //!
 //! Not promised: what a file holds, that the line of a fault reaches anyone, and that the process
 //! ends with the status: these are tested (`docs/TESTED.md`). `docs/USING.md` goes through the
@@ -43,25 +43,36 @@ mod dump_front;
 mod dump_header;
 mod explain;
 mod import;
+mod large_stack;
+mod plain_check;
 mod refused;
 mod serve;
 mod team;
 mod team_commands;
 
+ghost use Rattle.vcd_reader.specs.Dump.{Contents};
+ghost use Rattle.vcd_reader.specs.Held.{HoldsContents};
+
+use crate::large_stack::on_large_stack;
+use crate::plain_check::{judge_read, read_plain};
+use crate::serve::{read_request, serve};
 use std::process::ExitCode;
-use std::thread::Builder;
 
-/// Sizes of a stack in bytes, which are tried in this order. A chain of sequences is resolved part
-/// inside part, which takes some 900 bytes of stack for each part; what isn't used takes no memory.
-const STACKS: [usize; 4] = [1 << 32, 1 << 30, 1 << 28, 1 << 26];
-
-/// Answers the words on the largest stack that the system gives, or else on the process's own.
+/// Reads what a plain check asks for here, and does all else on a large stack.
 fn main(rt: HostRuntime) -> ExitCode {
-    for size in STACKS {
-        let worker = Builder::new().stack_size(size);
-        if let Ok(thread) = worker.spawn(&rt, move || serve::answer(&rt)) {
-            return ExitCode::from(thread.join(&rt));
+    let request = match read_request(&rt) {
+        Ok(request) => request,
+        Err(status) => return ExitCode::from(status),
+    };
+    let status = match read_plain(&rt, &request) {
+        None => on_large_stack(&rt, move || serve(&rt, &request)),
+        Some(Ok(read)) => {
+            let judged = move || -> u8
+                requires { (c : Contents) × HoldsContents read.dump c }
+            { judge_read(&rt, read) };
+            on_large_stack(&rt, judged)
         }
-    }
-    ExitCode::from(serve::answer(&rt))
+        Some(Err(status)) => status,
+    };
+    ExitCode::from(status)
 }

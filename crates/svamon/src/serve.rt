@@ -310,15 +310,15 @@ fn run_file<R: Files + Print + AllocGlobal + Threads + Wait + Sync>(
 }
 
 /// The text of an option that may be left out.
-fn path_of(option: &Option<String>) -> Option<&str> {
+pub(crate) fn path_of(option: &Option<String>) -> Option<&str> {
     match option {
         None => None,
         Some(path) => Some(path.as_str()),
     }
 }
 
-/// Does what the words ask for.
-fn serve<R: Files + Print + Eprint + AllocGlobal + Threads + Wait + Sync>(
+/// Does what the words ask for, and answers the status that a shell sees.
+pub fn serve<R: Files + Print + Eprint + AllocGlobal + Threads + Wait + Sync>(
     rt: &R,
     request: &Request,
 ) -> u8 {
@@ -443,33 +443,27 @@ fn serve<R: Files + Print + Eprint + AllocGlobal + Threads + Wait + Sync>(
     }
 }
 
-/// Does what the words ask for, unless a file would be written over one that is read, or over
-/// another one that is written.
-fn serve_apart<R: Files + Print + Eprint + AllocGlobal + Threads + Wait + Sync>(
-    rt: &R,
-    request: &Request,
-) -> u8 {
-    match clash_of(rt, request) {
-        Ok(None) => serve(rt, request),
-        Ok(Some(refusal)) => {
-            shown_lines(rt, refusal.as_str());
-            2
-        }
-        Err(_) => shown_status(rt, Err(Fault::Memory)),
-    }
-}
-
-/// Does what the words of the command line ask for, and answers the status that a shell sees.
-pub fn answer<R: Files + Env + Print + Eprint + AllocGlobal + Threads + Wait + Sync>(rt: &R) -> u8 {
+/// What the words of the command line ask for, or the status where they are answered: a file would
+/// be written over one that is read, or over another one that is written; the version was asked
+/// for; or they can't be read.
+pub fn read_request<R: Files + Env + Print + Eprint + AllocGlobal>(rt: &R) -> Result<Request, u8> {
     let words = match words_of(rt) {
         Ok(words) => words,
-        Err(error) => return refuse_words(rt, &error),
+        Err(error) => return Err(refuse_words(rt, &error)),
     };
     if let Some(status) = shown_version(rt, words.as_slice()) {
-        return status;
+        return Err(status);
     }
-    match request_of(rt, words.as_slice()) {
-        Ok(request) => serve_apart(rt, &request),
-        Err(fault) => shown_status(rt, Err(fault)),
+    let request = match request_of(rt, words.as_slice()) {
+        Ok(request) => request,
+        Err(fault) => return Err(shown_status(rt, Err(fault))),
+    };
+    match clash_of(rt, &request) {
+        Ok(None) => Ok(request),
+        Ok(Some(refusal)) => {
+            shown_lines(rt, refusal.as_str());
+            Err(2)
+        }
+        Err(_) => Err(shown_status(rt, Err(Fault::Memory))),
     }
 }

@@ -21,15 +21,22 @@ use verifier::Verified;
 use workers_core::{Job, TeamSize};
 use workers_rounds::work::Gate;
 
-/// The clock that a program names.
-fn clocks_of(alloc: Global, dump: &Dump, verified: &Verified) -> Result<Clocks, WindowFault>
+/// The clock that a program names, by as many threads at most as a team has workers.
+fn clocks_of<R: Threads>(
+    rt: &R,
+    alloc: Global,
+    dump: &Dump,
+    verified: &Verified,
+    team: TeamSize,
+) -> Result<Clocks, WindowFault>
     ensures clock { IfOk result (λ k.
         IsClock (variables_of dump.now) verified.now.header.clock (code_in k)) }
     ensures ticks { IfOk result (AreClocksOf dump.now) }
     ensures fault { IfErr result
         (IsClockFault (variables_of dump.now) verified.now.header.clock) }
 {
-    Clocks::of(alloc, dump, verified.program().clock.as_str())
+    let threads = team.workers();
+    Clocks::of_by(rt, alloc, dump, verified.program().clock.as_str(), threads)
 }
 
 /// The job of one program, at the ticks of these clocks of the dump.
@@ -46,8 +53,9 @@ fn job_of(alloc: Global, dump: Dump, verified: Verified, clocks: Clocks) -> Resu
 }
 
 /// The report of a verified program over a dump, on the clock that it names, by a team through
-/// windows of a size. Neither the team nor the size nor the gate changes it. The dump's memory is
-/// given back in a thread of its own ([`let_go`](crate::let_go)).
+/// windows of a size. Neither the team nor the size nor the gate changes it. Threads of the team
+/// look for the ticks of the clock, too. The dump's memory is given back in a thread of its own
+/// ([`let_go`](crate::let_go)).
 ///
 /// # Errors
 ///
@@ -69,7 +77,7 @@ pub fn report_run<G: Gate + Sync, R: Threads + Wait + Sync>(
     ensures refused { (c : Contents) → HoldsContents dump c
         → IfErr result (WhyNoRun c.variables verified) }
 {
-    let clocks = clocks_of(alloc, &dump, &verified)?;
+    let clocks = clocks_of(rt, alloc, &dump, &verified, team)?;
     let job = job_of(alloc, dump, verified, clocks)?;
     let _count = job.clocks().len();
     let report = job_report(rt, alloc, &job, team, size, gate)?;

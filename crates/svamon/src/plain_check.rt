@@ -1,0 +1,128 @@
+//! A check of a text, whole and without files in other forms.
+//!
+//! The dump is read on the process's first thread, where the allocator asks the system for memory
+//! in larger pieces than on another one. The rest is done on a large stack, which texts need.
+
+ghost use Rattle.std.specs.Prelude.{IfOk, IfSome};
+ghost use Rattle.vcd_reader.specs.Dump.{Contents};
+ghost use Rattle.vcd_reader.specs.Held.{HoldsContents};
+
+use crate::check::{Team, shown};
+use crate::serve::path_of;
+use cli::{Fault, NoGate, Request, check_over};
+use cli_shell::{FormFiles, Sources, open, read_chosen, shown_status};
+use cycle_window::WindowSize;
+use signals::Counted;
+use std::fs::Files;
+use std::io;
+use std::io::{Eprint, Print};
+use std::sync::Wait;
+use std::thread::Threads;
+use vcd_reader::{Dump, read_dump};
+use workers_core::TeamSize;
+
+/// A dump that was read, a text, and who is to judge it.
+#[derive(Drop)]
+pub struct ReadCheck {
+    dump: Dump,
+    sources: Sources,
+    team: TeamSize,
+    size: WindowSize,
+}
+
+/// Opens the dump, then reads the text; windows and workers out of their range are refused after
+/// that, and then the dump is read.
+fn read_all_of<R: Files + AllocGlobal>(
+    rt: &R,
+    vcd: &str,
+    sva: &[String],
+    axi: Option<&str>,
+    only: &[String],
+    team: Team,
+) -> Result<ReadCheck, Fault<'static>>
+    ensures { IfOk result (λ read. (c : Contents) × HoldsContents read.dump c) }
+{
+    let file = open(rt, vcd)?;
+    let sources = read_chosen(rt, sva, axi, only)?;
+    let (team, size) = team.sizes()?;
+    let dump = read_dump(rt.alloc(), &mut Counted::new(file))?;
+    Ok(ReadCheck {
+        dump,
+        sources,
+        team,
+        size,
+    })
+}
+
+/// Reads what a plain check asks for, or answers the status where that is refused; none where the
+/// words ask for something else.
+pub fn read_plain<R: Files + Eprint + AllocGlobal>(
+    rt: &R,
+    request: &Request,
+) -> Option<Result<ReadCheck, u8>>
+    ensures { IfSome result (λ r. IfOk r (λ read. (c : Contents) × HoldsContents read.dump c)) }
+{
+    let Request::Check {
+        vcd,
+        sva,
+        axi,
+        team: team_files,
+        only,
+        keep_going: false,
+        workers,
+        window,
+        junit,
+        json,
+        html: None,
+    } = request
+    else {
+        return None;
+    };
+    let files = FormFiles {
+        junit: path_of(junit),
+        json: path_of(json),
+    };
+    if !files.is_empty() || !team_files.files.is_empty() {
+        return None;
+    }
+    let team = Team {
+        workers: *workers,
+        window: *window,
+    };
+    let (vcd, axi) = (vcd.as_str(), path_of(axi));
+    match read_all_of(rt, vcd, sva.as_slice(), axi, only.as_slice(), team) {
+        Ok(read) => Some(Ok(read)),
+        Err(fault) => Some(Err(shown_status(rt, Err(fault)))),
+    }
+}
+
+/// Judges a text over a dump in memory; the report goes to standard output.
+fn judge_dump<'a, R: Print + AllocGlobal + Threads + Wait + Sync>(
+    rt: &R,
+    dump: Dump,
+    text: &'a str,
+    team: TeamSize,
+    size: WindowSize,
+) -> Result<[u64; 5], Fault<'a>>
+    requires held { (c : Contents) × HoldsContents dump c }
+{
+    let mut out = Counted::new(io::writer(rt));
+    check_over(rt, rt.alloc(), dump, text, team, size, &NoGate, &mut out)
+}
+
+/// Judges what was read, and answers the status.
+pub fn judge_read<R: Print + Eprint + AllocGlobal + Threads + Wait + Sync>(
+    rt: &R,
+    read: ReadCheck,
+) -> u8
+    requires held { (c : Contents) × HoldsContents read.dump c }
+{
+    let ReadCheck {
+        dump,
+        sources,
+        team,
+        size,
+    } = read;
+    let outcome = judge_dump(rt, dump, sources.text.as_str(), team, size);
+    shown(rt, sources.added.as_slice(), outcome)
+}
