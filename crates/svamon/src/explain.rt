@@ -5,7 +5,7 @@ ghost use Rattle.vcd_reader.specs.Dump.{Contents};
 ghost use Rattle.vcd_reader.specs.Held.{HoldsContents};
 
 use crate::check::{shown, shown_after_refusals};
-use crate::dump_front::read_front;
+use crate::dump_front::header_in;
 use crate::refused::is_told_unjudged;
 use cli::{Fault, NoGate, ShownFailures, Wanted, Waveform, Waves, explain_one, failures_over};
 use cli_lint::{Rest, rest_over};
@@ -17,10 +17,10 @@ use source_files::Origin;
 use std::alloc::{AllocError, Global};
 use std::fs::Files;
 use std::io;
-use std::io::{Cursor, Eprint, Print, Read};
+use std::io::{Eprint, Print, Read};
 use std::sync::Wait;
 use std::thread::Threads;
-use vcd_reader::{Dump, read_dump};
+use vcd_reader::{Dump, read_dump_and_bytes};
 use workers_core::TeamSize;
 
 /// What is explained, and where what GTKWave is to show goes.
@@ -77,7 +77,7 @@ fn explain_to_output<'a, R: Print + AllocGlobal + Threads + Wait + Sync, D: Read
     )
 }
 
-/// A dump in memory, and what GTKWave calls its variables, which is told from its front.
+/// A dump in memory, and what GTKWave calls its variables, which is told from its header.
 #[derive(Drop)]
 struct Shown {
     dump: Dump,
@@ -85,13 +85,11 @@ struct Shown {
 }
 
 /// Reads a dump, and what GTKWave calls its variables.
-fn read_shown<D: Read + Drop>(alloc: Global, mut dump: D) -> Result<Shown, Fault<'static>>
+fn read_shown<D: Read + Drop>(alloc: Global, dump: D) -> Result<Shown, Fault<'static>>
     ensures { IfOk result (λ s. (c : Contents) × HoldsContents s.dump c) }
 {
-    let head = read_front(alloc, &mut dump)?;
-    let waves = Waves::of(alloc, head.as_slice())?;
-    let dump = Cursor::new(head).chain(dump);
-    let dump = read_dump(alloc, &mut Counted::new(dump))?;
+    let (dump, bytes) = read_dump_and_bytes(alloc, &mut Counted::new(dump))?;
+    let waves = Waves::of(alloc, header_in(bytes.as_slice()))?;
     Ok(Shown { dump, waves })
 }
 

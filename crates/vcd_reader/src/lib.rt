@@ -62,6 +62,6 @@ mod variable;
 pub use dump::Dump;
 pub use fault::VcdFault;
 pub use laws::{digits_law, grammar_law};
-pub use reader::read_dump;
+pub use reader::{read_dump, read_dump_and_bytes};
 pub use step::{Change, Step};
 pub use variable::{Name, VarId};

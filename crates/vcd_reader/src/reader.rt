@@ -2,6 +2,7 @@
 
 ghost use Rattle.std.specs.Prelude.{◌≡◌, ℕ, ◌<◌, ◌≤◌, ◌^◌, List, map, length, IfOk, IfErr, OnOk};
 ghost use Rattle.std.specs.Prelude.{MatchResult};
+ghost use Rattle.std.specs.Io.KnownBytes.{Consumes};
 ghost use Rattle.vcd_reader.specs.Faults.{Gives, Fails};
 ghost use Rattle.vcd_reader.specs.Index.{codes_in, IsIndex};
 ghost use Rattle.vcd_reader.specs.Stored.{stored_step};
@@ -90,11 +91,17 @@ fn with_line(bytes: &[u8], fault: Fault) -> VcdFault
     }
 }
 
-/// The dump that the source gives, read to its end.
-pub fn read_dump<S: Source>(alloc: Global, source: &mut S) -> Result<Dump, VcdFault>
+/// The dump that the source gives, read to its end, and the bytes that it gave. Giving their memory
+/// back takes 4 ms for 50 MB, which a caller may want to spend beside something else.
+pub fn read_dump_and_bytes<S: Source>(
+    alloc: Global,
+    source: &mut S,
+) -> Result<(Dump, Vec<u8>), VcdFault>
     // What is accepted is what the grammar says of all the bytes that the source had.
-    ensures accepted { IfOk result
-        (ReadsAs (S.state source.old).remaining (S.state source.new).remaining) }
+    ensures accepted { IfOk result (λ r.
+        ReadsAs (S.state source.old).remaining (S.state source.new).remaining r.0) }
+    ensures bytes { IfOk result (λ r.
+        Consumes (S.state source.old).remaining (S.state source.new).remaining r.1.items) }
     ensures counted { OnOk result
         ((S.state source.new).failures ≡ (S.state source.old).failures) }
     // What is refused has the fault, the first one, or the source failed, or it gave too much.
@@ -107,8 +114,20 @@ pub fn read_dump<S: Source>(alloc: Global, source: &mut S) -> Result<Dump, VcdFa
         Err(ReadAllError::TooLarge) => return Err(VcdFault::TooLarge),
     };
     match parse(alloc, &bytes) {
-        Ok(dump) => Ok(dump),
+        Ok(dump) => Ok((dump, bytes)),
         Err(ReadError::Memory) => Err(VcdFault::Memory),
         Err(ReadError::Fault(fault)) => Err(with_line(&bytes, fault)),
     }
+}
+
+/// The dump that the source gives, read to its end.
+pub fn read_dump<S: Source>(alloc: Global, source: &mut S) -> Result<Dump, VcdFault>
+    ensures accepted { IfOk result
+        (ReadsAs (S.state source.old).remaining (S.state source.new).remaining) }
+    ensures counted { OnOk result
+        ((S.state source.new).failures ≡ (S.state source.old).failures) }
+    ensures refused { IfErr result (Stands (S.state source.old) (S.state source.new)) }
+{
+    let (dump, _bytes) = read_dump_and_bytes(alloc, source)?;
+    Ok(dump)
 }

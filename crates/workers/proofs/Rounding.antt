@@ -1,22 +1,20 @@
 -- What a round of a run comes to.
-use Rattle.std.proofs.Common.{◌≡◌, ℕ, ◌+◌, ◌-◌, ◌<◌, ◌≤◌, List, [], ◌∷◌, refl, length, map, Some, All, sym, ap}
-use Rattle.std.proofs.Common.{◌∙◌, subst, arith, min}
+use Rattle.std.proofs.Common.{◌≡◌, ℕ, ◌+◌, ◌<◌, ◌≤◌, List, [], ◌∷◌, refl, length, map, Some, All, sym, ap}
+use Rattle.std.proofs.Common.{◌∙◌, subst, arith}
 use Rattle.std.specs.Prelude.{slice_get}
 use Rattle.std.proofs.lemmas.Option.{slice_get_within}
 use Rattle.machine_decisions.specs.Lines.{attempts_of}
-use Rattle.cycle_window.specs.declared.columns.Columns.{Columns}
 use Rattle.cycle_window.specs.declared.window.Window.{Window}
-use Rattle.cycle_window.specs.Held.{columns_in, places_in, size_in, first_in, end_in, IsWindowOf}
+use Rattle.cycle_window.specs.Held.{first_in, end_in}
 use Rattle.workers_core.specs.declared.job.Job.{Job}
 use Rattle.workers_single.specs.declared.growing_line.GrowingLine.{GrowingLine}
 use Rattle.workers_single.proofs.TakenLaws.{some-at}
 use Rattle.workers_shared.specs.declared.board.Board.{Board}
-use Rattle.workers_shared.specs.Receipts.{IsReceiptOf, shown_by}
+use Rattle.workers_shared.specs.Receipts.{shown_by}
 use Rattle.workers_shared.specs.declared.numbered.Numbered.{Numbered}
-use Rattle.workers_shared.specs.Windows.{IsWindowFor}
 use Rattle.workers_shared.specs.Monitors.{IsMonitorAt}
 use Rattle.workers_rounds.specs.declared.work.Published.{Published}
-use Rattle.workers_rounds.specs.Works.{IsSized, IsPublished, published_count}
+use Rattle.workers_rounds.specs.Works.{IsSized, IsPublished, HasLine, published_count}
 use Rattle.workers_rounds.specs.Adding.{is_of_kind}
 use Rattle.workers.specs.Tallied.{told_by}
 use Rattle.workers.proofs.Adding.{sum-told, round-count}
@@ -44,9 +42,8 @@ module _ (j : Job) (v w : Window) (ms : List Numbered) (ls : List GrowingLine) (
     pub as-many : length ls ≡ length ps
     as-many = omega (arith, h.lines, h.many, length-published ps (length ms) order)
 
-    pub receipts : All (λ (p : Published). IsReceiptOf board p.receipt) ps
-    receipts = all-each (λ (p : Published). IsReceiptOf board p.receipt) ps
-        (λ i p is. (all-at (IsPublished j w board) ps i p published is).of_board)
+    pub counted : All HasLine ps
+    counted = all-each HasLine ps (λ i p is. (all-at (IsPublished j w board) ps i p published is).line)
 
     told-first : (i : ℕ) (l : GrowingLine) → slice_get ls i ≡ Some l → IsTold j (first_in w) i l
     told-first i l is = subst (λ (n : ℕ). IsTold j n i l) (sym is-next.first) (h.told i l is)

@@ -129,12 +129,12 @@ module _ (j : Job) (w : Window) (board : Board) (i : ℕ) (p : Published) (numbe
       → p.monitor.monitor.value.machine.program ≡ q
   own-program q at =
       program-at 0 j.programs.items i q (monitor_part p.monitor.monitor.value) at
-      (sym (ap (slice_get (parts_from 0 j.programs.items)) number) ∙ is.at_end.part)
+      (sym (ap (slice_get (parts_from 0 j.programs.items)) number) ∙ is.on.at_end.part)
 
   pub program-of : slice_get j.programs.items i ≡ Some p.monitor.monitor.value.machine.program
   program-of =
       let lt = slice_get_within (parts_from 0 j.programs.items) i (monitor_part p.monitor.monitor.value)
-      (sym (ap (slice_get (parts_from 0 j.programs.items)) number) ∙ is.at_end.part) in
+      (sym (ap (slice_get (parts_from 0 j.programs.items)) number) ∙ is.on.at_end.part) in
       let s = some-at j.programs.items i (omega (arith, length-parts 0 j.programs.items)) in
       s.1 ∙ ap (λ (q : ProgramData). Some q) (sym (own-program s.0 s.1))
     where
@@ -162,8 +162,8 @@ module _ (j : Job) (w : Window) (board : Board) (i : ℕ) (old new : GrowingLine
   all-told c says =
       let q = p.monitor.monitor.value.machine.program in
       let rows = rows_over (job_value j) c q in
-      ap (λ (ds : List Decided). batch_of q rows 0 (first_in w) ++ ds) (is.batch.decided c says)
-      ∙ joined q is.at_end.accepted rows (first_in w) (end_in w) order
+      ap (λ (ds : List Decided). batch_of q rows 0 (first_in w) ++ ds) (is.on.batch.decided c says)
+      ∙ joined q is.on.at_end.accepted rows (first_in w) (end_in w) order
 
   -- there is room for the batch
   pub room : attempts_of old.counts + length (shown_by p.receipt).decided.items ≤ end_in w
@@ -173,7 +173,7 @@ module _ (j : Job) (w : Window) (board : Board) (i : ℕ) (old new : GrowingLine
       let both = ap (λ (ds : List Decided). length ds) (all-told c says) in
       let many = (told.took c says q program).many in
       let apart = length-append (batch_of q rows 0 (first_in w)) (shown_by p.receipt).decided.items in
-      omega (arith, few-told q is.at_end.accepted rows (end_in w)))
+      omega (arith, few-told q is.on.at_end.accepted rows (end_in w)))
 
   pub told-more : Takes old (shown_by p.receipt).decided.items new → IsTold j (end_in w) i new
   told-more takes =
@@ -188,7 +188,7 @@ module _ (j : Job) (w : Window) (board : Board) (i : ℕ) (old new : GrowingLine
             (of-program r at) (took c says);
         few = less-traced (job_value j) _ (end_in w) (job-traced j) (λ c says.
             let many = (took c says).many in
-            omega (arith, few-told q is.at_end.accepted (rows_over (job_value j) c q) (end_in w)));
+            omega (arith, few-told q is.on.at_end.accepted (rows_over (job_value j) c q) (end_in w)));
       }
 
 numbers-back : (ps : List Published) → numbers (map numbered_of ps) ≡ published_numbers ps
@@ -211,7 +211,7 @@ pub back-at : (j : Job) (w : Window) (board : Board) (ps : List Published) (ms :
 back-at j w board ps ms is all =
     subst (All (IsMonitorAt j (end_in w))) (sym is)
     (all-each (IsMonitorAt j (end_in w)) (map numbered_of ps)
-    (all-back (IsMonitorAt j (end_in w)) ps (λ i p at. (all-at (IsPublished j w board) ps i p all at).at_end)))
+    (all-back (IsMonitorAt j (end_in w)) ps (λ i p at. (all-at (IsPublished j w board) ps i p all at).on.at_end)))
 
 -- ---- before the first round
 

@@ -1,4 +1,4 @@
--- A round's batches in the lines.
+-- What a round's batches count, in the lines.
 use Rattle.std.specs.Prelude.{List, ◌++◌}
 use Rattle.signals.specs.declared.verdict.Decided.{Decided}
 use Rattle.workers_core.specs.declared.monitor.Monitor.{Monitor}

@@ -3,9 +3,9 @@
 //! The trace is run window by window. In a round each monitor is claimed by one of the workers, the
 //! first in the calling thread and each other in a thread of its own, runs through the window and
 //! publishes its batch on the round's board. Meanwhile the calling thread fills the window of the
-//! round after. The batches are taken into the lines in the making, and let go with the board: what
-//! is kept is counts and failures. After the last clock the attempts that are still live are open.
-//! The totals of the last line are those of the workers' tally.
+//! round after. What the batches count is taken into the lines in the making, and the batches are
+//! let go with the board: what is kept is counts and failures. After the last clock the attempts
+//! that are still live are open. The totals of the last line are those of the workers' tally.
 //!
 //! ```text
 //! let job = Job::new(alloc, programs, dump, "top.clk")?;

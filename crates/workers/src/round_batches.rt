@@ -1,28 +1,28 @@
-//! A round's batches go into the lines.
+//! What a round's batches count goes into the lines.
 
 ghost use Rattle.std.specs.Prelude.{◌≡◌, ◌+◌, ◌^◌, ◌<◌, ℕ, Some, All, OnOk, IfOk, length, map};
 ghost use Rattle.std.specs.Prelude.{slice_get};
 ghost use Rattle.machine_decisions.specs.Lines.{attempts_of};
-ghost use Rattle.workers_shared.specs.Receipts.{IsReceiptOf, shown_by};
+ghost use Rattle.workers_shared.specs.Receipts.{shown_by};
 ghost use Rattle.workers_single.specs.declared.growing_line.GrowingLine.{GrowingLine};
 ghost use Rattle.workers_single.specs.Taken.{TookIn};
 ghost use Rattle.workers_shared.specs.declared.numbered.Numbered.{Numbered};
 ghost use Rattle.workers_rounds.specs.declared.work.Published.{Published};
+ghost use Rattle.workers_rounds.specs.Works.{HasLine};
 ghost use Rattle.workers.specs.Taking.{Takes, numbered_of};
 
 use std::alloc::{AllocError, Global};
 use workers_rounds::work::Published;
-use workers_shared::{Board, Numbered};
+use workers_shared::Numbered;
 use workers_single::GrowingLine;
 
-/// Takes the batch of each monitor into the line of its number.
+/// Takes the line of each monitor's batch into the line of its number.
 pub(crate) fn take_round(
     lines: &mut Vec<GrowingLine>,
-    board: &Board,
     published: &[Published],
 ) -> Result<(), AllocError>
     requires long { length lines.old.items ≡ length published.now }
-    requires of { All (λ p. IsReceiptOf board.now p.receipt) published.now }
+    requires counted { All HasLine published.now }
     requires room { (i : ℕ) (l : GrowingLine) (p : Published) → slice_get lines.old.items i ≡ Some l
         → slice_get published.now i ≡ Some p
         → attempts_of l.counts + length (shown_by p.receipt).decided.items < 2 ^ 64 }
@@ -32,8 +32,7 @@ pub(crate) fn take_round(
         → slice_get lines.new.items i ≡ Some m → Takes l (shown_by p.receipt).decided.items m) }
 {
     for number in 0..published.len() {
-        let batch = board.read(&published[number].receipt);
-        lines[number].take_streaks(&batch.decided)?;
+        lines[number].take_line(&published[number].line)?;
     }
     Ok(())
 }
@@ -50,6 +49,7 @@ pub(crate) fn monitors_back(
         let Published {
             monitor,
             receipt: _,
+            line: _,
         } = one;
         all.push_reserved(monitor);
     }

@@ -58,7 +58,7 @@ fn run_round<'j, L: Tallying + Send + Sync, G: Gate + Sync, R: Threads + Wait + 
     let (members, published, after) = round(
         rt, alloc, job, next, &board, tally, gate, members, monitors, beside,
     )?;
-    take_round(lines, &board, published.as_slice())?;
+    take_round(lines, published.as_slice())?;
     let monitors = monitors_back(alloc, published)?;
     Ok((members, monitors, after))
 }

@@ -1,6 +1,6 @@
 -- Monitors and batches in the order of their numbers.
-use Rattle.std.proofs.Common.{◌≡◌, ◌≢◌, ℕ, zero, suc, ◌+◌, ◌-◌, ◌<◌, ◌≤◌, List, [], ◌∷◌, ◌++◌, map, length, get_or}
-use Rattle.std.proofs.Common.{sym, refl, ap, ◌∙◌, subst, arith, rules, add-one, Option, None, false, All}
+use Rattle.std.proofs.Common.{◌≡◌, ℕ, zero, suc, ◌+◌, ◌-◌, ◌<◌, ◌≤◌, List, [], ◌∷◌, ◌++◌, length, get_or}
+use Rattle.std.proofs.Common.{sym, refl, ap, ◌∙◌, subst, arith, add-one, Option, None, All}
 use Rattle.std.specs.List.{sum_by}
 use Rattle.std.specs.List.Sorted.{IsNonDecreasingBy, IsPermutation}
 use Rattle.std.proofs.lemmas.List.Sums.{sum_by-cons}
@@ -10,11 +10,10 @@ use Rattle.std.proofs.lemmas.List.Elements.{All-head, All-tail}
 use Rattle.workers_shared.specs.declared.numbered.Numbered.{Numbered}
 use Rattle.workers_rounds.specs.declared.work.Published.{Published}
 use Rattle.workers_shared.specs.Hands.{numbers, total, NumbersRiseFrom, hand}
-use Rattle.workers_rounds.specs.Works.{published_number, numbers_back, IsPublished}
+use Rattle.workers_rounds.specs.Works.{published_number, numbers_back}
 use Rattle.workers_shared.proofs.Keeps.{total-append}
 use Rattle.workers_rounds.specs.Runs.{upto, published_numbers, Begins, EndsRound}
 use Rattle.workers_rounds.specs.Crews.{WorksFrom}
-use Rattle.crossbeam_queue.specs.Passes.{view}
 use Rattle.workers_shared.specs.declared.board.Board.{Board}
 use Rattle.workers_shared.specs.declared.passes.Hand.{Hand}
 use Rattle.workers_shared.specs.declared.bench.Bench.{Bench}

@@ -1,10 +1,9 @@
 -- A job's monitors in its windows.
-use Rattle.std.proofs.Common.{◌≡◌, ℕ, zero, suc, ◌+◌, ◌-◌, ◌<◌, ◌≤◌, ◌^◌, ◌++◌, List, [], ◌∷◌, length, take, drop}
-use Rattle.std.proofs.Common.{map, Option, Some, None, refl, sym, ap, ◌∙◌, subst, arith}
-use Rattle.std.specs.Prelude.{slice_get, slice_range}
+use Rattle.std.proofs.Common.{◌≡◌, ℕ, zero, suc, ◌+◌, ◌-◌, ◌<◌, ◌≤◌, ◌^◌, List, [], ◌∷◌, length, take, drop}
+use Rattle.std.proofs.Common.{map, Some, None, refl, sym, ap, ◌∙◌, subst, arith}
+use Rattle.std.specs.Prelude.{slice_get}
 use Rattle.std.specs.List.{filter_map}
-use Rattle.std.proofs.Math.Logic.{∥∥₁_map, ∥∥₁_elim}
-use Rattle.std.proofs.Math.Bridge.{le_prop}
+use Rattle.std.proofs.Math.Logic.{∥∥₁_map}
 use Rattle.std.proofs.lemmas.Option.{slice_get_within}
 use Rattle.signals.specs.declared.verdict.Decided.{Decided}
 use Rattle.bytecode.specs.Values.{SlotData, ProgramData}
@@ -16,17 +15,16 @@ use Rattle.vcd_reader.specs.Held.{HoldsContents, variables_of}
 use Rattle.cycle_window.specs.declared.window.Window.{Window}
 use Rattle.cycle_window.specs.Bound.{places_of, first_refused}
 use Rattle.cycle_window.specs.Ticks.{ticks_of, row_of}
-use Rattle.cycle_window.specs.Held.{columns_in, places_in, code_in, clock_in, dump_in, first_in, end_in, IsOver}
-use Rattle.cycle_window.specs.Held.{AreColumnsOf}
+use Rattle.cycle_window.specs.Held.{columns_in, places_in, code_in, dump_in, first_in, end_in, IsOver}
 use Rattle.machine_definition.specs.Outcomes.{Ran, done, and_then}
-use Rattle.machine_definition.specs.Machine.{State, Outcome, opening, clocks}
+use Rattle.machine_definition.specs.Machine.{State, opening, clocks}
 use Rattle.machine_definition.specs.Runs.{run_from}
 use Rattle.machine.specs.Running.{Running}
 use Rattle.machine_decisions.specs.Reported.{wanted_slot}
 use Rattle.machine_decisions.proofs.BoundLaws.{bound}
 use Rattle.machine_decisions.specs.declared.batch.Batch.{Batch}
 use Rattle.machine_decisions.specs.Batches.{rows_between, decided_in, batch_of, HasCome}
-use Rattle.machine_decisions.proofs.JoinLaws.{come-to, come-anew, ends-in, came}
+use Rattle.machine_decisions.proofs.JoinLaws.{come-to, ends-in}
 use Rattle.workers_core.specs.declared.job.Job.{Job}
 use Rattle.workers_core.specs.declared.monitor.Monitor.{Monitor}
 use Rattle.workers_core.specs.States.{BatchState, batch}
@@ -38,7 +36,7 @@ use Rattle.workers_core.specs.Values.{Says, job_value, rows_over}
 use Rattle.workers_core.proofs.CoreLaws.{holds, says-something}
 use Rattle.workers_core.proofs.PartLaws.{IsPlaced, each-placed, each-accepted}
 use Rattle.workers_core.proofs.PlaceLaws.{few-live}
-use Rattle.workers_single.proofs.RunLaws.{Runs, runs, accepted-on, accepted-clocks}
+use Rattle.workers_single.proofs.RunLaws.{accepted-on}
 use Rattle.workers_single.proofs.CoreLaws.{less-traced}
 use Rattle.workers_single.proofs.LineLaws.{job-traced}
 use Rattle.workers_shared.specs.declared.numbered.Numbered.{Numbered}

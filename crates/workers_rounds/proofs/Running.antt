@@ -1,17 +1,16 @@
 -- What a worker's round comes to.
-use Rattle.std.proofs.Common.{◌≡◌, ◌≢◌, ℕ, zero, suc, ◌+◌, ◌-◌, ◌*◌, ◌^◌, ◌<◌, ◌≤◌, Bool, true, false, Option, Some}
-use Rattle.std.proofs.Common.{None, List, [], ◌∷◌, ◌++◌, map, length, sym, refl, ap, ◌∙◌, subst, get_or, append_assoc}
+use Rattle.std.proofs.Common.{◌≡◌, ℕ, ◌+◌, ◌*◌, ◌^◌, ◌<◌, ◌≤◌, Bool, false, Option, Some}
+use Rattle.std.proofs.Common.{None, List, [], ◌∷◌, ◌++◌, length, sym, refl, ap, ◌∙◌, subst, get_or, append_assoc}
 use Rattle.std.proofs.Common.{length-append, arith, All, IfSome}
-use Rattle.std.specs.List.{slice_index, sum_by}
+use Rattle.std.specs.List.{slice_index}
 use Rattle.std.proofs.lemmas.List.Sums.{sum_by-le, sum_by_push, count_by-le-length}
 use Rattle.signals.specs.declared.verdict.Verdict.{Verdict}
 use Rattle.verdicts.specs.Tallies.{is_holds, is_vacuous, is_fails, is_disabled}
 use Rattle.cycle_window.specs.declared.window.Window.{Window}
-use Rattle.cycle_window.specs.Held.{first_in, end_in}
-use Rattle.machine_decisions.specs.declared.batch.Batch.{Batch}
 use Rattle.workers_core.specs.declared.job.Job.{Job}
 use Rattle.crossbeam_queue.specs.Passes.{Pass, view}
 use Rattle.workers_shared.specs.declared.board.Board.{Board}
+use Rattle.workers_shared.specs.declared.board.Receipt.{Receipt}
 use Rattle.workers_shared.specs.Receipts.{shown_by}
 use Rattle.workers_shared.specs.declared.tally.Share.{Share}
 use Rattle.workers_shared.specs.Counts.{count_of, counts_of}
@@ -24,7 +23,7 @@ use Rattle.workers_shared.specs.Hands.{hand, with_taken, TakesOne, NumbersRise, 
 use Rattle.workers_shared.specs.Benches.{IsPassOfBench}
 use Rattle.workers_shared.proofs.Keeps.{all_pushed, none_fail, end_push}
 use Rattle.workers_rounds.specs.declared.work.Published.{Published}
-use Rattle.workers_rounds.specs.Works.{IsPublished, published_number, kept_number, numbers_back, published_count}
+use Rattle.workers_rounds.specs.Works.{IsOnBoard, IsPublished, published_number, numbers_back, published_count}
 use Rattle.workers_rounds.specs.Works.{published_counts, monitor_clock_of, HasWorked}
 
 four : {a b c d a' b' c' d' : ℕ} → a ≡ a' → b ≡ b' → c ≡ c' → d ≡ d' → a ∷ b ∷ c ∷ d ∷ [] ≡ a' ∷ b' ∷ c' ∷ d' ∷ []
@@ -61,11 +60,16 @@ length_back [] [] kept = omega arith
 length_back [] (p ∷ ps) kept = omega (arith, length_back [] ps kept)
 length_back (x ∷ xs) ps kept = omega (arith, length_back xs ps kept)
 
+-- what is on the board by the receipt that was counted
+pub on-board-of : {j : Job} {w : Window} {board : Board} (r : Option Receipt) (p : Published) → r ≡ Some p.receipt
+    → IfSome r (IsOnBoard j w board p.monitor) → IsOnBoard j w board p.monitor p.receipt
+on-board-of {j} {w} {board} r p is on = subst (λ (o : Option Receipt). IfSome o (IsOnBoard j w board p.monitor)) is on
+
 -- a batch counts at most its verdicts
 batch_few : (is : Verdict → Bool) (j : Job) (w : Window) (board : Board) (p : Published) → IsPublished j w board p
     → count_of is (shown_by p.receipt).decided.items ≤ 131072
 batch_few is j w board p h =
-    omega (arith, count_by-le-length (λ d. is d.verdict) (shown_by p.receipt).decided.items, h.batch.few)
+    omega (arith, count_by-le-length (λ d. is d.verdict) (shown_by p.receipt).decided.items, h.on.batch.few)
 
 round_few : (is : Verdict → Bool) (j : Job) (w : Window) (board : Board) (ps : List Published)
     → All (IsPublished j w board) ps → published_count is ps ≤ length ps * 131072

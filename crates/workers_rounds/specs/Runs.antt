@@ -3,7 +3,7 @@ use Rattle.std.specs.Prelude.{◌≡◌, ℕ, zero, suc, ◌≤◌, ◌^◌, fal
 use Rattle.crossbeam_queue.specs.Passes.{Pass, view}
 use Rattle.cycle_window.specs.declared.window.Window.{Window}
 use Rattle.workers_shared.specs.declared.board.Board.{Board}
-use Rattle.workers_shared.specs.Shares.{parts, amounts, plus, EachAtMost}
+use Rattle.workers_shared.specs.Shares.{parts, amounts, EachAtMost}
 use Rattle.workers_shared.specs.declared.numbered.Numbered.{Numbered}
 use Rattle.workers_shared.specs.declared.passes.Hand.{Hand}
 use Rattle.workers_shared.specs.declared.bench.Bench.{Bench}

@@ -12,7 +12,9 @@ use Rattle.machine_decisions.specs.declared.batch.Batch.{Batch}
 use Rattle.machine_decisions.specs.Batches.{batch_of}
 use Rattle.workers_core.specs.declared.job.Job.{Job}
 use Rattle.workers_core.specs.Values.{Says, job_value, rows_over}
+use Rattle.workers_single.specs.Taken.{TookIn}
 use Rattle.workers_shared.specs.declared.board.Board.{Board}
+use Rattle.workers_shared.specs.declared.board.Receipt.{Receipt}
 use Rattle.workers_shared.specs.Receipts.{IsReceiptOf, shown_by}
 use Rattle.workers_shared.specs.declared.tally.Share.{Share}
 use Rattle.workers_shared.specs.Counts.{count_of}
@@ -46,10 +48,20 @@ pub record IsBatch (j : Job) (a b : ℕ) (x : Numbered) (batch : Batch) : Type 0
   pub few : length batch.decided.items ≤ 2 ^ 17
 
 -- The job's monitor at the end of the window, with a receipt of this board for its batch.
+pub record IsOnBoard (j : Job) (w : Window) (board : Board) (x : Numbered) (r : Receipt) :
+    Type 0 where
+  pub at_end : IsMonitorAt j (end_in w) x
+  pub of_board : IsReceiptOf board r
+  pub batch : IsBatch j (first_in w) (end_in w) x (shown_by r)
+
+-- its line took in what the batch has, and nothing else
+abbrev pub HasLine : Published → Type 0
+HasLine p = TookIn p.line (shown_by p.receipt).decided.items
+
+-- The job's monitor at the end of the window, with a receipt for its batch and the line of that.
 pub record IsPublished (j : Job) (w : Window) (board : Board) (p : Published) : Type 0 where
-  pub at_end : IsMonitorAt j (end_in w) p.monitor
-  pub of_board : IsReceiptOf board p.receipt
-  pub batch : IsBatch j (first_in w) (end_in w) p.monitor (shown_by p.receipt)
+  pub on : IsOnBoard j w board p.monitor p.receipt
+  pub line : HasLine p
 
 abbrev pub published_number : Published → ℕ
 published_number p = p.monitor.number

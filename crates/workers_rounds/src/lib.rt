@@ -2,11 +2,11 @@
 //! calling thread, each other in a thread of its own.
 //!
 //! A round has a bench and a board. All monitors are put on the bench; each worker claims one, runs
-//! it through the window, publishes its batch on the board, and adds what the batch counts to the
-//! tally, until the bench is empty. Once all have ended, their passes are brought together, and
-//! what the bench still holds is run on the calling thread. No lock is held from a claim to its
-//! publication. The calling thread starts the others one after the other, and does something else,
-//! `beside`, before its own part.
+//! it through the window, publishes its batch on the board, makes the line of the batch, and adds
+//! what it counts to the tally, until the bench is empty. Once all have ended, their passes are
+//! brought together, and what the bench still holds is run on the calling thread. No lock is held
+//! from a claim to its publication. The calling thread starts the others one after the other, and
+//! does something else, `beside`, before its own part.
 //!
 //! ```text
 //! let board = Board::new(alloc)?;

@@ -21,7 +21,7 @@ ghost use Rattle.workers_rounds.specs.Runs.{TakenIs};
 use crate::beside::Beside;
 use crate::crew::{Task, work_all};
 use crate::order::put_in_order;
-use crate::work::{Gate, Published, Worked, run_one};
+use crate::work::{Gate, Published, Worked, line_of_batch, run_one};
 use arrayvec::ArrayVec;
 use cycle_window::Window;
 use std::alloc::{AllocError, Global};
@@ -186,7 +186,7 @@ fn run_rest<L: Tallying, G: Gate, R: Wait>(
     let mut decided = ArrayVec::new();
     for monitor in rest {
         let (monitor, receipt) = run_one(rt, alloc, window, board, monitor, &mut decided);
-        let Some(receipt) = receipt else {
+        let Some((receipt, line)) = line_of_batch(alloc, board, receipt) else {
             return Err(AllocError);
         };
         if !tally.is_within(rt, share) {
@@ -194,7 +194,11 @@ fn run_rest<L: Tallying, G: Gate, R: Wait>(
         }
         let totals = tally.add(rt, share, board.read(&receipt));
         gate.tallied(0, totals);
-        published.push(Published { monitor, receipt })?;
+        published.push(Published {
+            monitor,
+            receipt,
+            line,
+        })?;
     }
     Ok(())
 }

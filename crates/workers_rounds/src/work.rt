@@ -1,17 +1,19 @@
 //! What one worker does in a round.
 
-ghost use Rattle.std.specs.Prelude.{◌≡◌, ◌≤◌, ◌^◌, ◌<◌, ℕ, List, false, length, IfSome, IfNone};
+ghost use Rattle.std.specs.Prelude.{◌≡◌, ◌≤◌, ◌^◌, ◌<◌, ℕ, List, Some, false, length, IfSome};
 ghost use Rattle.crossbeam_queue.specs.Passes.{view};
 ghost use Rattle.cycle_window.specs.Held.{first_in, end_in};
 ghost use Rattle.workers_core.specs.declared.job.Job.{Job};
 ghost use Rattle.workers_core.specs.Standing.{MonitorStands};
+ghost use Rattle.workers_single.specs.Taken.{TookIn};
+ghost use Rattle.workers_shared.specs.Receipts.{IsReceiptOf, shown_by};
 ghost use Rattle.workers_shared.specs.Shares.{parts, amounts, EachAtMost};
 ghost use Rattle.workers_shared.specs.Monitors.{IsMonitorAt};
 ghost use Rattle.workers_shared.specs.Windows.{IsWindowFor};
 ghost use Rattle.workers_shared.specs.Hands.{NumbersRise, end_after};
 ghost use Rattle.workers_shared.specs.Passes.{pass_parts};
 ghost use Rattle.workers_shared.specs.Benches.{IsPassOfBench};
-ghost use Rattle.workers_rounds.specs.Works.{Works, IsSized, IsPublished, monitor_clock_of};
+ghost use Rattle.workers_rounds.specs.Works.{Works, IsSized, IsOnBoard, monitor_clock_of};
 
 use crate::passage::pass_through;
 use arrayvec::ArrayVec;
@@ -20,6 +22,7 @@ use signals::Decided;
 use std::alloc::Global;
 use std::sync::Wait;
 use workers_shared::{Bench, Board, Numbered, Pass, Receipt, Share, Tally, Tallying};
+use workers_single::GrowingLine;
 
 /// Who wants to know what workers do. It is called with nothing held.
 pub trait Gate {
@@ -40,11 +43,12 @@ impl Gate for NoGate {
     fn tallied(&self, _worker: usize, _totals: [u64; 4]) {}
 }
 
-/// A monitor at the end of the window, and the receipt of its batch.
+/// A monitor at the end of the window, the receipt of its batch, and the line of that batch alone.
 #[derive(Drop)]
 pub struct Published {
     pub monitor: Numbered,
     pub receipt: Receipt,
+    pub line: GrowingLine,
 }
 
 /// What a worker gives back.
@@ -75,12 +79,12 @@ pub(crate) fn run_one(
     requires here { monitor_clock_of given ≡ first_in window.now }
     requires sized { IsSized window.now }
     ensures number { result.0.number ≡ given.number }
-    ensures refused { IfNone result.1 ((j : Job) → IsWindowFor j window.now
+    ensures stands { (j : Job) → IsWindowFor j window.now
         → IsMonitorAt j (first_in window.now) given
-        → IsMonitorAt j (monitor_clock_of result.0) result.0) }
+        → IsMonitorAt j (monitor_clock_of result.0) result.0 }
     ensures published { IfSome result.1 (λ receipt. (j : Job) → IsWindowFor j window.now
         → IsMonitorAt j (first_in window.now) given
-        → IsPublished j window.now board.now (record { monitor = result.0; receipt = receipt })) }
+        → IsOnBoard j window.now board.now result.0 receipt) }
 {
     match pass_through(alloc, window, &mut given, decided) {
         Err(_) => (given, None),
@@ -91,8 +95,25 @@ pub(crate) fn run_one(
     }
 }
 
-/// Claims monitors, runs them through the window and publishes their batches, until the bench is
-/// empty or memory is refused.
+/// The line of a batch that was published, if one was, with its receipt. Where memory is refused
+/// there is none.
+pub(crate) fn line_of_batch(
+    alloc: Global,
+    board: &Board,
+    receipt: Option<Receipt>,
+) -> Option<(Receipt, GrowingLine)>
+    requires of { IfSome receipt (IsReceiptOf board.now) }
+    requires few { IfSome receipt (λ r. length (shown_by r).decided.items ≤ 2 ^ 17) }
+    ensures same { IfSome result (λ made. receipt ≡ Some made.0) }
+    ensures line { IfSome result (λ made. TookIn made.1 (shown_by made.0).decided.items) }
+{
+    let receipt = receipt?;
+    let line = GrowingLine::of_streaks(alloc, &board.read(&receipt).decided).ok()?;
+    Some((receipt, line))
+}
+
+/// Claims monitors, runs them through the window, and publishes and counts their batches, until the
+/// bench is empty or memory is refused.
 pub fn work<L: Tallying, G: Gate, R: Wait>(
     rt: &R,
     alloc: Global,
@@ -144,7 +165,7 @@ pub fn work<L: Tallying, G: Gate, R: Wait>(
         claims += 1;
         gate.claimed(worker, claims);
         let (monitor, receipt) = run_one(rt, alloc, window, board, monitor, &mut decided);
-        let Some(receipt) = receipt else {
+        let Some((receipt, line)) = line_of_batch(alloc, board, receipt) else {
             return Worked {
                 pass,
                 share,
@@ -156,7 +177,11 @@ pub fn work<L: Tallying, G: Gate, R: Wait>(
         };
         let totals = tally.add(rt, &mut share, board.read(&receipt));
         gate.tallied(worker, totals);
-        published.push_reserved(Published { monitor, receipt });
+        published.push_reserved(Published {
+            monitor,
+            receipt,
+            line,
+        });
     }
     unreachable!()
 }

@@ -5,9 +5,9 @@
 //! queue each, and hold no lock. Once all passes are brought together, what was put is what they
 //! took and what the bench still holds, each as often: so no monitor is claimed twice, and none is
 //! lost. On the board batches are published, with no lock; it only grows. Who publishes a batch
-//! gets a receipt, by which that batch is read, on any thread, for as long as the board lasts,
-//! which is a round. A tally has the totals of all workers under a lock: verdicts that hold, are
-//! vacuous, fail, and are disabled. Each worker has a share, which says what it added.
+//! gets a receipt, by which that batch is read, on any thread, for as long as the board lasts. A
+//! tally has the totals of all workers under a lock: verdicts that hold, are vacuous, fail, and are
+//! disabled. Each worker has a share, which says what it added.
 //!
 //! ```text
 //! let (bench, putting, taking) = Bench::new(alloc, &job, first, monitors, workers)?;

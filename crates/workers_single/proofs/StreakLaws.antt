@@ -1,34 +1,7 @@
 -- Streaks that are taken into a line.
-use Rattle.std.proofs.Common.{
-  ◌≡◌,
-  ◌+◌,
-  ◌<◌,
-  ◌≤◌,
-  ℕ,
-  zero,
-  suc,
-  List,
-  [],
-  ◌∷◌,
-  ◌++◌,
-  Bool,
-  true,
-  false,
-  cond,
-  length,
-  get_or,
-  take,
-  drop,
-  map,
-  filter_map,
-  refl,
-  sym,
-  ap,
-  ◌∙◌,
-  arith,
-  append_assoc,
-  length-append,
-}
+use Rattle.std.proofs.Common.{◌≡◌, ◌+◌, ◌≤◌, ℕ, zero, suc, List, [], ◌∷◌, ◌++◌, Bool, false, cond}
+use Rattle.std.proofs.Common.{length, take, drop, map, filter_map, refl, sym, ap, ◌∙◌, arith}
+use Rattle.std.proofs.Common.{append_assoc, length-append}
 use Rattle.std.specs.List.{range_with_len, count_by}
 use Rattle.std.proofs.lemmas.Grind.{flat_map-append}
 use Rattle.std.proofs.lemmas.List.{take-append-drop}
@@ -42,13 +15,13 @@ use Rattle.verdicts.specs.declared.line.Counts.{Counts}
 use Rattle.verdicts.specs.declared.line.Failure.{Failure}
 use Rattle.verdicts.specs.Tallies.{tally_of, is_holds, is_vacuous, is_fails, is_disabled, is_open}
 use Rattle.machine_decisions.specs.declared.streak.Streak.{Streak}
-use Rattle.machine_decisions.specs.Ages.{verdict_moved, nth}
+use Rattle.machine_decisions.specs.Ages.{nth}
 use Rattle.machine_decisions.specs.Lines.{failure_of}
 use Rattle.machine_decisions.specs.Streaks.{streak_attempts, attempts_in_all}
 use Rattle.machine_decisions.proofs.StreakLaws.{streak-count, IsKind}
 use Rattle.machine_decisions.proofs.StreakLaws.{kind-holds, kind-vacuous, kind-fails, kind-disabled}
 use Rattle.machine_decisions.proofs.StreakLaws.{kind-open}
-use Rattle.workers_single.specs.Growing.{more_of}
+use Rattle.workers_single.specs.Growing.{more_of, both_of}
 
 verdicts-counted : (is : Verdict → Bool) (ds : List Decided) →
     count_by is (map (λ (d : Decided). d.verdict) ds)
@@ -92,6 +65,29 @@ more-tally before s c is =
     ap (λ (k : Counts). more_of k s.first.verdict s.count) is
     ∙ same-counts _ _ _ _ _ _ _ _ _ _ (sym holds) (sym vacuous) (sym fails) (sym disabled)
     (sym still_open)
+
+both-kinds : (is : Verdict → Bool) (a b : List Decided) →
+    count_by is (map (λ (d : Decided). d.verdict) (a ++ b))
+    ≡ count_by is (map (λ (d : Decided). d.verdict) a)
+    + count_by is (map (λ (d : Decided). d.verdict) b)
+both-kinds is a b =
+    let all = verdicts-counted is (a ++ b) in
+    let split = sum_by-append (λ (d : Decided). cond (is d.verdict) 1 0) a b in
+    let first = verdicts-counted is a in
+    let second = verdicts-counted is b in
+    omega (arith, all, split, first, second)
+
+-- what two lists count is what they count together
+pub both-tally : (a b : List Decided) (c d : Counts) →
+    c ≡ tally_of (map (λ (x : Decided). x.verdict) a) →
+    d ≡ tally_of (map (λ (x : Decided). x.verdict) b) →
+    both_of c d ≡ tally_of (map (λ (x : Decided). x.verdict) (a ++ b))
+both-tally a b c d first second =
+    ap (λ (k : Counts). both_of k d) first
+    ∙ ap (λ (k : Counts). both_of (tally_of (map (λ (x : Decided). x.verdict) a)) k) second
+    ∙ same-counts _ _ _ _ _ _ _ _ _ _ (sym (both-kinds is_holds a b))
+    (sym (both-kinds is_vacuous a b)) (sym (both-kinds is_fails a b))
+    (sym (both-kinds is_disabled a b)) (sym (both-kinds is_open a b))
 
 -- where the first did not fail, none did
 pub none-failed : (start : ℕ) (v : Verdict) (a n : ℕ) → is_fails v ≡ false →

@@ -1,13 +1,14 @@
 //! The line of a program in the making.
 
-ghost use Rattle.std.specs.Prelude.{◌≡◌, ◌+◌, ◌^◌, ◌<◌, ◌∷◌, ◌++◌, [], List, OnOk, length};
+ghost use Rattle.std.specs.Prelude.{◌≡◌, ◌+◌, ◌^◌, ◌<◌, ◌∷◌, ◌++◌, [], List, OnOk, IfOk};
+ghost use Rattle.std.specs.Prelude.{length};
 ghost use Rattle.std.specs.Prelude.{filter_map, string_bytes};
 ghost use Rattle.signals.specs.declared.verdict.Decided.{Decided};
 ghost use Rattle.verdicts.specs.Lines.{line};
 ghost use Rattle.verdicts.specs.Tallies.{is_fails};
 ghost use Rattle.machine_decisions.specs.Lines.{failure_of, line_over, attempts_of};
 ghost use Rattle.machine_decisions.specs.Streaks.{streak_attempts};
-ghost use Rattle.workers_single.specs.Growing.{more_of};
+ghost use Rattle.workers_single.specs.Growing.{more_of, both_of};
 
 use machine_decisions::{Streak, Streaks};
 use signals::{Decided, Verdict};
@@ -48,6 +49,21 @@ fn counts_with(counts: Counts, verdict: Verdict, many: u64) -> Counts
             still_open: counts.still_open + many,
             ..counts
         },
+    }
+}
+
+/// What two count.
+fn counts_of_both(one: Counts, other: Counts) -> Counts
+    requires { attempts_of one + attempts_of other < 2 ^ 64 }
+    ensures all { attempts_of result ≡ attempts_of one + attempts_of other }
+    ensures both { result ≡ both_of one other }
+{
+    Counts {
+        holds: one.holds + other.holds,
+        vacuous: one.vacuous + other.vacuous,
+        fails: one.fails + other.fails,
+        disabled: one.disabled + other.disabled,
+        still_open: one.still_open + other.still_open,
     }
 }
 
@@ -136,6 +152,27 @@ impl GrowingLine {
         for streak in attempts.as_slice() {
             self.take_streak(streak)?;
         }
+        Ok(())
+    }
+
+    /// What a line takes in of attempts that are kept as streaks.
+    pub fn of_streaks(alloc: Global, attempts: &Streaks) -> Result<GrowingLine, AllocError>
+        requires { length attempts.now.items < 2 ^ 64 }
+        ensures { IfOk result (λ line. TookIn line attempts.now.items) }
+    {
+        let mut line = GrowingLine::new(alloc);
+        line.take_streaks(attempts)?;
+        Ok(line)
+    }
+
+    /// Takes in what another line took in, after its own.
+    pub fn take_line(&mut self, other: &GrowingLine) -> Result<(), AllocError>
+        requires { attempts_of self.old.counts + attempts_of other.now.counts < 2 ^ 64 }
+        ensures took { (before after : List Decided) → TookIn self.old before
+            → TookIn other.now after → OnOk result (TookIn self.new (before ++ after)) }
+    {
+        self.fails.extend_from_slice(&other.fails)?;
+        self.counts = counts_of_both(self.counts, other.counts);
         Ok(())
     }
 

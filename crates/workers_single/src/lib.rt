@@ -12,8 +12,8 @@
 //! ```
 //!
 //! The faults are C3 of the size and want of memory; there is one worker, so U1 never comes. A job
-//! by several workers is run by `workers`, which takes batches into lines as it is done here
-//! (`GrowingLine`).
+//! by several workers is run by `workers`. There each batch has a line of its own (`GrowingLine`),
+//! which is taken into that of its program.
 //!
 //! The definitions: the lines of a job over the contents of its dump in `specs/Lines.antt`; a core
 //! between two rounds and in the midst of one in `specs/Rounds.antt`. The line of a program over

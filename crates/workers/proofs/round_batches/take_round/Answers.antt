@@ -1,10 +1,8 @@
-use Rattle.std.proofs.Common.{◌≡◌, ◌+◌, ◌<◌, ◌++◌, ℕ, zero, suc, List, Some, length, ap, ◌∙◌, sym, refl}
-use Rattle.std.proofs.Common.{subst, arith}
+use Rattle.std.proofs.Common.{◌≡◌, ◌+◌, ◌<◌, ◌++◌, ℕ, zero, suc, Some, length, ap, ◌∙◌, sym, refl}
+use Rattle.std.proofs.Common.{subst, get_or, arith}
 use Rattle.std.specs.Prelude.{slice_get}
 use Rattle.std.proofs.lemmas.List.{length-set}
 use Rattle.std.proofs.lemmas.Option.{slice_get_within}
-use Rattle.signals.specs.declared.verdict.Decided.{Decided}
-use Rattle.machine_decisions.specs.declared.batch.Batch.{Batch}
 use Rattle.workers_core.proofs.CorePartLaws.{get-some}
 use Rattle.workers_shared.specs.Receipts.{shown_by}
 use Rattle.workers_single.specs.declared.growing_line.GrowingLine.{GrowingLine}
@@ -21,8 +19,8 @@ below-other zero (suc n) lt other = omega arith
 below-other (suc k) zero lt other = absurd (omega (arith, lt))
 below-other (suc k) (suc n) lt other = omega (arith, below-other k n (omega (arith, lt)) (λ e. other (ap suc e)))
 
-pub take_streaks-requires : goal.take_streaks-requires
-take_streaks-requires c =
+pub take_line-requires : goal.take_line-requires
+take_line-requires c =
     let n = c.loop-number.number in
     let ls = c.loop-number.lines.items in
     let pub_ = c.args.published.now in
@@ -34,10 +32,10 @@ take_streaks-requires c =
     sym (c.loop-number.invariant.rest n (omega arith)) ∙ get-some ls n l inside
     ∙ ap (λ x. Some x) (sym c.index_mut.ensures.value) in
     let at : slice_get pub_ n ≡ Some p = get-some pub_ n p lt ∙ ap (λ x. Some x) (sym c.index-published-number.is) in
-    let same : c.read-batch.result.now.decided.items ≡ (shown_by p.receipt).decided.items =
-    ap (λ (b : Batch). b.decided.items) c.read-batch.ensures
-    ∙ ap (λ (q : Published). (shown_by q.receipt).decided.items) (sym c.index-published-number.is) in
-    omega (arith, c.requires.room n l p old at, ap (λ (ds : List Decided). length ds) same)
+    let counted : TookIn (get_or pub_ n p).line (shown_by p.receipt).decided.items =
+    subst (λ (r : Published). TookIn (get_or pub_ n p).line (shown_by r.receipt).decided.items)
+    (sym c.index-published-number.is) (c.requires.counted n p lt) in
+    omega (arith, c.requires.room n l p old at, counted.many)
 
 pub loop-number-init : goal.loop-number-init
 loop-number-init c = record {
@@ -54,15 +52,15 @@ loop-number-preserved c =
     let inv = c.loop-number.invariant in
     let l : GrowingLine = c.index_mut.result.now in
     let p : Published = c.index-published-number.result in
-    let new : GrowingLine = c.take_streaks.new.self in
+    let new : GrowingLine = c.take_line.new.self in
     let lt : n < length pub_ = c.loop-number-test.true in
     let inside : n < length ls = omega (arith, inv.long, c.requires.long, lt) in
     let old : slice_get c.args.lines.now.items n ≡ Some l =
     sym (inv.rest n (omega arith)) ∙ get-some ls n l inside ∙ ap (λ x. Some x) (sym c.index_mut.ensures.value) in
     let at : slice_get pub_ n ≡ Some p = get-some pub_ n p lt ∙ ap (λ x. Some x) (sym c.index-published-number.is) in
-    let same : c.read-batch.result.now.decided.items ≡ (shown_by p.receipt).decided.items =
-    ap (λ (b : Batch). b.decided.items) c.read-batch.ensures
-    ∙ ap (λ (q : Published). (shown_by q.receipt).decided.items) (sym c.index-published-number.is) in
+    let counted : TookIn (get_or pub_ n p).line (shown_by p.receipt).decided.items =
+    subst (λ (r : Published). TookIn (get_or pub_ n p).line (shown_by r.receipt).decided.items)
+    (sym c.index-published-number.is) (c.requires.counted n p lt) in
     record {
       long = length-set ls n new ∙ inv.long;
       first = λ i x y q less was here now.
@@ -72,9 +70,9 @@ loop-number-preserved c =
           (λ under u v was here before took.
           let is : u ≡ l = some-is u l (sym was ∙ old) in
           let one : v ≡ p = some-is v p (sym here ∙ at) in
-          subst (λ (ds : List Decided). TookIn new (before ++ ds)) (same
-          ∙ ap (λ (r : Published). (shown_by r.receipt).decided.items) (sym one))
-          (c.in_ok-take_streaks.ensures.took before (subst (λ (z : GrowingLine). TookIn z before) is took)))
+          subst (λ (r : Published). TookIn new (before ++ (shown_by r.receipt).decided.items)) (sym one)
+          (c.in_ok-take_line.ensures.took before (shown_by p.receipt).decided.items
+          (subst (λ (z : GrowingLine). TookIn z before) is took) counted))
           i y now less x q was here;
       rest = λ i le. get-other ls n i new (λ e. omega (arith, e, le)) ∙ inv.rest i (omega (arith, le));
     }

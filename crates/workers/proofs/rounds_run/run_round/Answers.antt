@@ -1,10 +1,11 @@
-use Rattle.std.proofs.Common.{◌≡◌, ℕ, ap, ◌∙◌, sym, subst, length, vec_len, List, arith}
+use Rattle.std.proofs.Common.{◌≡◌, ℕ, ap, ◌∙◌, sym, subst, length, vec_len, List, All, arith}
 use Rattle.std.specs.Prelude.{slice_get}
 use Rattle.cycle_window.specs.declared.clocks.Clocks.{Clocks}
 use Rattle.cycle_window.specs.Held.{ticks_in, end_in}
 use Rattle.workers.specs.Between.{IsFilledFrom}
 use Rattle.workers_rounds.specs.declared.work.Published.{Published}
 use Rattle.workers_rounds.specs.Runs.{upto}
+use Rattle.workers_rounds.specs.Works.{HasLine}
 use Rattle.workers.proofs.Rounding as laws
 use Rattle.workers.proofs.rounds_run.run_round.Goals as goal
 
@@ -16,6 +17,15 @@ take_round-requires-clause-long g c =
     c.requires.between c.requires.more c.requires.next c.in_ok-board.board c.in_ok-members.published.items order
     c.in_ok-members.ensures.published
     ∙ ap (λ (xs : List Published). length xs) (sym c.as_slice.ensures.value)
+
+pub take_round-requires-clause-counted : goal.take_round-requires-clause-counted
+take_round-requires-clause-counted g c =
+    let many : vec_len c.args.monitors ≡ length c.args.monitors.items = omega (arith, c.args.monitors.ok.0) in
+    let order = c.in_ok-members.ensures.order ∙ ap (upto 0) many in
+    subst (All HasLine) (sym c.as_slice.ensures.value)
+    (laws.counted c.args.job.now c.args.done c.args.next.now c.args.monitors.items c.args.lines.now.items
+    c.requires.between c.requires.more c.requires.next c.in_ok-board.board c.in_ok-members.published.items order
+    c.in_ok-members.ensures.published)
 
 pub take_round-requires-clause-room : goal.take_round-requires-clause-room
 take_round-requires-clause-room g c = λ i l p is at.

@@ -1,8 +1,8 @@
-use Rattle.std.proofs.Common.{◌≡◌, ◌∙◌, refl, sym, ap, subst, arith}
+use Rattle.std.proofs.Common.{◌≡◌, ◌∙◌, refl, ap, subst, arith}
 use Rattle.workers_core.specs.declared.monitor.Monitor.{Monitor}
 use Rattle.workers_core.specs.Standing.{IsUnmoved}
 use Rattle.workers_core.proofs.PlaceLaws.{stands-unmoved, unmoved-same, same-all, few-live}
-use Rattle.workers_rounds.proofs.Placing.{unmoved-at, at-end, batch-is}
+use Rattle.workers_rounds.proofs.Placing.{at-end, batch-is}
 use Rattle.workers_rounds.proofs.passage.pass_through.Goals as goal
 
 pub advance-requires-clause-ahead : goal.advance-requires-clause-ahead

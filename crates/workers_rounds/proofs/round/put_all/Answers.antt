@@ -1,10 +1,10 @@
-use Rattle.std.proofs.Common.{◌≡◌, ◌≤◌, ◌++◌, ◌∷◌, ap, ◌∙◌, sym, subst, vec_len, rules, All}
+use Rattle.std.proofs.Common.{◌≤◌, ◌++◌, ◌∷◌, ap, ◌∙◌, sym, subst, vec_len}
 use Rattle.std.proofs.lemmas.List.Elements.{All-same}
 use Rattle.workers_shared.specs.Monitors.{IsMonitorAt}
 use Rattle.std.specs.Vec.Iter.{into_iter_items}
 use Rattle.workers_shared.specs.declared.passes.Hand.{Hand}
 use Rattle.workers_shared.specs.declared.numbered.Numbered.{Numbered}
-use Rattle.workers_shared.specs.Hands.{end_after, numbers, NumbersRise}
+use Rattle.workers_shared.specs.Hands.{end_after, NumbersRise}
 use Rattle.workers_shared.proofs.Keeps.{next_rises}
 use Rattle.workers_rounds.proofs.Orders.{rises_upto, middle}
 use Rattle.workers_rounds.proofs.round.put_all.Goals as goal

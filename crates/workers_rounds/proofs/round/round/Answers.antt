@@ -1,8 +1,8 @@
-use Rattle.std.proofs.Common.{◌≡◌, ◌+◌, ◌∙◌, ap, sym, subst, vec_len, arith, rules}
+use Rattle.std.proofs.Common.{◌≡◌, ◌+◌, ap, vec_len, arith, rules}
 use Rattle.std.proofs.lemmas.List.Sorted.{All-permutation}
 use Rattle.crossbeam_queue.specs.Passes.{view}
 use Rattle.workers_shared.specs.declared.passes.Hand.{Hand}
-use Rattle.workers_shared.specs.Hands.{NumbersRise, total, numbers}
+use Rattle.workers_shared.specs.Hands.{total, numbers}
 use Rattle.workers_shared.specs.Passes.{taken_of}
 use Rattle.workers_rounds.specs.Works.{IsPublished}
 use Rattle.workers_shared.proofs.Keeps.{all_popped, all_pushed}

@@ -1,11 +1,12 @@
-use Rattle.std.proofs.Common.{◌≡◌, ◌+◌, ◌^◌, ◌∷◌, [], ap, ◌∙◌, sym, subst, true, All, arith}
+use Rattle.std.proofs.Common.{◌≡◌, ◌+◌, ◌^◌, ◌∷◌, [], ap, ◌∙◌, sym, subst, true, All, IfSome, arith}
+use Rattle.std.proofs.lemmas.Option.{IfSome_then}
 use Rattle.std.specs.Vec.Iter.{into_iter_items}
 use Rattle.std.proofs.lemmas.List.Elements.{All-head, All-tail}
 use Rattle.cycle_window.specs.Held.{first_in}
 use Rattle.workers_rounds.specs.declared.work.Published.{Published}
 use Rattle.workers_shared.specs.Monitors.{IsMonitorAt}
 use Rattle.workers_shared.specs.Hands.{total, numbers}
-use Rattle.workers_rounds.specs.Works.{IsPublished, published_count}
+use Rattle.workers_rounds.specs.Works.{IsOnBoard, IsPublished, published_count}
 use Rattle.workers_rounds.specs.Runs.{published_numbers}
 use Rattle.workers_shared.proofs.Keeps.{all_pushed}
 use Rattle.machine_decisions.specs.declared.batch.Batch.{Batch}
@@ -15,9 +16,10 @@ use Rattle.workers_shared.specs.Receipts.{shown_by}
 use Rattle.workers_rounds.specs.Adding.{is_of_kind, amount_of}
 use Rattle.workers_rounds.proofs.Added.{same-amount, more-amount, counts-push}
 use Rattle.workers_rounds.proofs.Placing.{stands-at}
-use Rattle.workers_rounds.proofs.Running.{fits-one}
+use Rattle.workers_rounds.proofs.Running.{on-board-of, fits-one}
 use Rattle.workers_rounds.proofs.Orders.{published_more}
 use Rattle.workers_rounds.proofs.round.run_rest.Goals as goal
+use Rattle.workers_rounds.proofs.round.run_rest.Goals.{After-run_one-monitor}
 
 pub run_one-monitor-requires-clause-stands : goal.run_one-monitor-requires-clause-stands
 run_one-monitor-requires-clause-stands g c =
@@ -33,16 +35,39 @@ run_one-monitor-requires-clause-here g c =
     let all = subst (All P) c.in-Some.ensures.steps.0 c.loop-monitor.invariant.0 in
     (All-head P c.in-Some.monitor (into_iter_items c.next.new.self) all).now
 
+on_board : (g : _) (c : After-run_one-monitor g)
+    → IfSome c.run_one-monitor.result.1
+    (IsOnBoard c.args.job.now c.args.window.now c.args.board.now c.run_one-monitor.result.0)
+on_board g c =
+    let P = IsMonitorAt c.args.job.now (first_in c.args.window.now) in
+    let all = subst (All P) c.in-Some.ensures.steps.0 c.loop-monitor.invariant.0 in
+    let here = All-head P c.in-Some.monitor (into_iter_items c.next.new.self) all in
+    IfSome_then c.run_one-monitor.result.1 c.run_one-monitor.ensures.published
+    (λ r done. done c.args.job.now c.requires.window.0 here)
+
+pub line_of_batch-requires-clause-of : goal.line_of_batch-requires-clause-of
+line_of_batch-requires-clause-of g c =
+    IfSome_then c.run_one-monitor.result.1
+    (on_board g (goal.at.line_of_batch-requires-clause-of g c).After-run_one-monitor) (λ r done. done.of_board)
+
+pub line_of_batch-requires-clause-few : goal.line_of_batch-requires-clause-few
+line_of_batch-requires-clause-few g c =
+    IfSome_then c.run_one-monitor.result.1
+    (on_board g (goal.at.line_of_batch-requires-clause-few g c).After-run_one-monitor) (λ r done. done.batch.few)
+
 pub is_within-requires : goal.is_within-requires
 is_within-requires g c = let was = c.loop-monitor.invariant in omega (arith, was.3)
 
 pub read-requires : goal.read-requires
 read-requires g c =
-    let P = IsMonitorAt c.args.job.now (first_in c.args.window.now) in
-    let all = subst (All P) c.in-Some.ensures.steps.0 c.loop-monitor.invariant.0 in
-    let here = All-head P c.in-Some.monitor (into_iter_items c.next.new.self) all in
-    let done = rw c.in-Some-receipt.is at c.run_one-monitor.ensures.published in
-    (done c.args.job.now c.requires.window.0 here).of_board
+    let ran = (goal.at.read-requires g c).After-run_one-monitor in
+    let same = rw c.in-Some-line_of_batch.is at c.line_of_batch.ensures.same in
+    let p : Published = record {
+      monitor = c.run_one-monitor.result.0;
+      receipt = c.in-Some-line_of_batch.receipt;
+      line = c.in-Some-line_of_batch.line;
+    } in
+    (on-board-of c.run_one-monitor.result.1 p same (on_board g ran)).of_board
 
 pub add-totals-requires-clause-part : goal.add-totals-requires-clause-part
 add-totals-requires-clause-part g c = let was =
@@ -50,17 +75,21 @@ add-totals-requires-clause-part g c = let was =
 
 pub add-totals-requires-clause-fits : goal.add-totals-requires-clause-fits
 add-totals-requires-clause-fits g c =
-    let P = IsMonitorAt c.args.job.now (first_in c.args.window.now) in
-    let all = subst (All P) c.in-Some.ensures.steps.0 c.loop-monitor.invariant.0 in
-    let here = All-head P c.in-Some.monitor (into_iter_items c.next.new.self) all in
-    let p : Published = record { monitor = c.run_one-monitor.result.0; receipt = c.in-Some-receipt.receipt } in
-    let done = rw c.in-Some-receipt.is at c.run_one-monitor.ensures.published in
+    let ran = (goal.at.add-totals-requires-clause-fits g c).After-run_one-monitor in
+    let p : Published = record {
+      monitor = c.run_one-monitor.result.0;
+      receipt = c.in-Some-line_of_batch.receipt;
+      line = c.in-Some-line_of_batch.line;
+    } in
+    let same = rw c.in-Some-line_of_batch.is at c.line_of_batch.ensures.same in
+    let line = rw c.in-Some-line_of_batch.is at c.line_of_batch.ensures.line in
+    let done = on-board-of c.run_one-monitor.result.1 p same (on_board g ran) in
     let yes : c.is_within.result ≡ true = cc c.if-not-is_within.false in
     subst (λ (b : Batch). EachAtMost
     (plus (amounts c.is_within.new.share) (counts_of b.decided.items)) 72057594037927936) (sym c.read.ensures)
     (fits-one c.args.job.now c.args.window.now c.args.board.now (amounts c.is_within.new.share) p
     (subst (λ l. EachAtMost l (2 ^ 55)) (sym c.is_within.ensures.same) (c.is_within.ensures.within yes))
-    (done c.args.job.now c.requires.window.0 here))
+    (record { on = done; line = line }))
 
 pub loop-monitor-preserved : goal.loop-monitor-preserved
 loop-monitor-preserved g c =
@@ -68,8 +97,15 @@ loop-monitor-preserved g c =
     let P = IsMonitorAt c.args.job.now (first_in c.args.window.now) in
     let all = subst (All P) steps.0 was.0 in
     let m = c.in-Some.monitor in
-    let p : Published = record { monitor = c.run_one-monitor.result.0; receipt = c.in-Some-receipt.receipt } in
-    let done = rw c.in-Some-receipt.is at c.run_one-monitor.ensures.published in
+    let ran = (goal.at.loop-monitor-preserved g c).After-run_one-monitor in
+    let p : Published = record {
+      monitor = c.run_one-monitor.result.0;
+      receipt = c.in-Some-line_of_batch.receipt;
+      line = c.in-Some-line_of_batch.line;
+    } in
+    let same-receipt = rw c.in-Some-line_of_batch.is at c.line_of_batch.ensures.same in
+    let line = rw c.in-Some-line_of_batch.is at c.line_of_batch.ensures.line in
+    let done = on-board-of c.run_one-monitor.result.1 p same-receipt (on_board g ran) in
     let pushed = c.in_ok-push.ensures.items in (
       All-tail P m (into_iter_items c.next.new.self) all,
       (λ h.
@@ -82,7 +118,7 @@ loop-monitor-preserved g c =
           let same : h p.monitor.number ≡ h m.number = ap h c.run_one-monitor.ensures.number in
           omega (arith, was.1 h)),
       all_pushed (IsPublished c.args.job.now c.args.window.now c.args.board.now) _ _ p pushed was.2
-          (done c.args.job.now c.requires.window.0 (All-head P m (into_iter_items c.next.new.self) all)),
+          (record { on = done; line = line }),
       c.add-totals.ensures.parts ∙ (c.is_within.ensures.parts ∙ was.3),
       (λ k.
           let one : amount_of k c.is_within.new.share ≡ amount_of k c.loop-monitor.share =

@@ -1,4 +1,4 @@
-use Rattle.std.proofs.Common.{◌≡◌, ◌+◌, ◌<◌, ℕ, All, vec_len}
+use Rattle.std.proofs.Common.{◌≡◌, ◌+◌, ℕ, All}
 use Rattle.std.specs.Vec.Iter.{into_iter_items}
 use Rattle.cycle_window.specs.Held.{first_in}
 use Rattle.workers_shared.specs.Shares.{parts}

@@ -1,7 +1,7 @@
 use Rattle.std.proofs.Common.{◌≡◌, ◌+◌, ◌^◌, true, ap, ◌∙◌, sym, subst, All, arith, rules}
 use Rattle.std.specs.Vec.Iter.{into_iter_items}
 use Rattle.std.proofs.lemmas.List.Elements.{All-head, All-tail}
-use Rattle.workers_shared.specs.Shares.{amounts, EachAtMost}
+use Rattle.workers_shared.specs.Shares.{EachAtMost}
 use Rattle.workers_shared.specs.Passes.{TakesNone}
 use Rattle.workers_shared.specs.Benches.{IsPassOfBench, round_of}
 use Rattle.workers_rounds.specs.Runs.{IsMember, Begins}

@@ -2,11 +2,11 @@ use Rattle.std.proofs.Common.{subst, sym}
 use Rattle.cycle_window.specs.Held.{first_in, end_in}
 use Rattle.workers_shared.specs.declared.numbered.Numbered.{Numbered}
 use Rattle.workers_shared.specs.Monitors.{IsMonitorAt}
-use Rattle.workers_rounds.specs.Works.{IsBatch, IsPublished}
+use Rattle.workers_rounds.specs.Works.{IsBatch}
 use Rattle.workers_rounds.proofs.work.run_one.Goals as goal
 
-pub returns-in-Err-clause-refused : goal.returns-in-Err-clause-refused
-returns-in-Err-clause-refused g c = λ j h at.
+pub returns-in-Err-clause-stands : goal.returns-in-Err-clause-stands
+returns-in-Err-clause-stands g c = λ j h at.
     let x : Numbered = c.pass_through.new.given in
     let new : IsMonitorAt j (first_in c.args.window.now) x = c.in-Err.ensures.refused j
     (first_in c.args.window.now) at in
@@ -23,8 +23,14 @@ returns-in-Ok-publish-clause-published g c = λ j h at.
           (sym c.in-Ok-publish.ensures.batch) r.1;
     }
 
-pub returns-clause-refused : goal.returns-clause-refused
-returns-clause-refused g c = λ j h at.
+pub returns-clause-stands : goal.returns-clause-stands
+returns-clause-stands g c = λ j h at.
+    let x : Numbered = c.pass_through.new.given in
+    let r = c.in-Ok.ensures.through j h at in
+    subst (λ k. IsMonitorAt j k x) (sym r.0.now) r.0
+
+pub returns-in-Ok-publish-clause-stands : goal.returns-in-Ok-publish-clause-stands
+returns-in-Ok-publish-clause-stands g c = λ j h at.
     let x : Numbered = c.pass_through.new.given in
     let r = c.in-Ok.ensures.through j h at in
     subst (λ k. IsMonitorAt j k x) (sym r.0.now) r.0

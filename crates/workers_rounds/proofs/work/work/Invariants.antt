@@ -1,4 +1,4 @@
-use Rattle.std.proofs.Common.{None, vec_len, vec_capacity, false}
+use Rattle.std.proofs.Common.{None, false}
 use Rattle.crossbeam_queue.specs.Passes.{view}
 use Rattle.workers_rounds.specs.Works.{Works}
 use Rattle.workers_rounds.proofs.work.work.Given as goal

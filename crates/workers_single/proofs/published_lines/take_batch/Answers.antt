@@ -1,8 +1,6 @@
-use Rattle.std.proofs.Common.{◌<◌, ◌++◌, List, length, ap, subst, arith}
+use Rattle.std.proofs.Common.{◌<◌, length, arith}
 use Rattle.std.specs.Prelude.{slice_index_or}
-use Rattle.signals.specs.declared.verdict.Decided.{Decided}
 use Rattle.workers_core.proofs.CorePartLaws.{get-some}
-use Rattle.workers_single.specs.Taken.{TookIn}
 use Rattle.workers_single.proofs.TakenLaws as laws
 use Rattle.workers_single.proofs.published_lines.take_batch.Goals as goal
 

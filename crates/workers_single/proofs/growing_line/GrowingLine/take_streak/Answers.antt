@@ -1,7 +1,6 @@
-use Rattle.std.proofs.Common.{◌++◌, map, filter_map, sym, ap, ◌∙◌, arith, length-append}
+use Rattle.std.proofs.Common.{◌++◌, filter_map, sym, ap, ◌∙◌, arith, length-append}
 use Rattle.std.proofs.lemmas.List.Elements.{filter_map-append}
 use Rattle.std.proofs.lemmas.List.FromFn.{length-map-range_with_len}
-use Rattle.signals.specs.declared.verdict.Decided.{Decided}
 use Rattle.machine_decisions.specs.Ages.{nth}
 use Rattle.machine_decisions.specs.Lines.{failure_of}
 use Rattle.machine_decisions.specs.Streaks.{streak_attempts}
