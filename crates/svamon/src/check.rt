@@ -19,7 +19,7 @@ use std::fs::Files;
 use std::io::{Cursor, Eprint, Print, Read};
 use std::sync::Wait;
 use std::thread::Threads;
-use vcd_reader::{Dump, read_dump};
+use vcd_reader::{Dump, read_dump, read_dump_by};
 use workers_core::TeamSize;
 
 /// By how many workers, and through windows of how many clocks.
@@ -154,8 +154,8 @@ fn judge_into_forms<'a, R: Files + Print + AllocGlobal + Threads + Wait + Sync, 
     origin: &Origin<'_>,
     asked: &Asked<'_>,
 ) -> Result<[u64; 5], Fault<'a>> {
-    let _sizes = asked.team.sizes()?;
-    let dump = read_dump(rt.alloc(), &mut Counted::new(dump))?;
+    let (team, _size) = asked.team.sizes()?;
+    let dump = read_dump_by(rt, rt.alloc(), &mut Counted::new(dump), team.workers())?;
     judge_over(rt, dump, text, origin, asked, &[])
 }
 

@@ -25,13 +25,14 @@
 //! opened, read or written.
 //!
 //! It opens files (`cli_shell`) and hands over what is in them; what a command answers is said by
-//! the contracts of `vcd_reader` (`read_dump`, `read_dump_and_bytes`), of `cli` (`check_over`,
-//! `report_over`, `page_over`, `judge_one`, `build_one`, `explain_one`, `failures_over`), of
-//! `report_page` (`page`), of `report_gtkwave` (`save_file`), of `report_forms` (`junit_report`,
-//! `json_report`), of `cli_bytecode` (`verify_code`, `run_code`, `upgrade_code`), of `cli_lint`
-//! (`lint_one`, `rest_over`), of `cli_names_command` (`names_one`), of `import_files` (`imported`,
-//! `text_of`, `placed`, `status_of`), of `source_files` (`joined`, `chosen`) and of `axi4_rules`
-//! (`port_rules`, `read_ports`), whose definitions stand in their `specs/`.
+//! the contracts of `vcd_reader` (`read_dump`, `read_dump_by`, `read_dump_and_bytes`), of `cli`
+//! (`check_over`, `report_over`, `page_over`, `judge_one`, `build_one`, `explain_one`,
+//! `failures_over`), of `report_page` (`page`), of `report_gtkwave` (`save_file`), of
+//! `report_forms` (`junit_report`, `json_report`), of `cli_bytecode` (`verify_code`, `run_code`,
+//! `upgrade_code`), of `cli_lint` (`lint_one`, `rest_over`), of `cli_names_command` (`names_one`),
+//! of `import_files` (`imported`, `text_of`, `placed`, `status_of`), of `source_files` (`joined`,
+//! `chosen`) and of `axi4_rules` (`port_rules`, `read_ports`), whose definitions stand in their
+//! `specs/`.
 //!
 //! Not promised: what a file holds, that the line of a fault reaches anyone, and that the process
 //! ends with the status: these are tested (`docs/TESTED.md`). `docs/USING.md` goes through the

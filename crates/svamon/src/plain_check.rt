@@ -1,7 +1,8 @@
 //! A check of a text, whole and without files in other forms.
 //!
-//! The dump is read on the process's first thread, where the allocator asks the system for memory
-//! in larger pieces than on another one. The rest is done on a large stack, which texts need.
+//! The dump is read by as many threads as there are workers, of which the process's first one reads
+//! the beginning: there the allocator asks the system for memory in larger pieces than on another
+//! one. The rest is done on a large stack, which texts need.
 
 ghost use Rattle.std.specs.Prelude.{IfOk, IfSome};
 ghost use Rattle.vcd_reader.specs.Dump.{Contents};
@@ -18,7 +19,7 @@ use std::io;
 use std::io::{Eprint, Print};
 use std::sync::Wait;
 use std::thread::Threads;
-use vcd_reader::{Dump, read_dump};
+use vcd_reader::{Dump, read_dump_by};
 use workers_core::TeamSize;
 
 /// A dump that was read, a text, and who is to judge it.
@@ -32,7 +33,7 @@ pub struct ReadCheck {
 
 /// Opens the dump, then reads the text; windows and workers out of their range are refused after
 /// that, and then the dump is read.
-fn read_all_of<R: Files + AllocGlobal>(
+fn read_all_of<R: Files + AllocGlobal + Threads>(
     rt: &R,
     vcd: &str,
     sva: &[String],
@@ -45,7 +46,7 @@ fn read_all_of<R: Files + AllocGlobal>(
     let file = open(rt, vcd)?;
     let sources = read_chosen(rt, sva, axi, only)?;
     let (team, size) = team.sizes()?;
-    let dump = read_dump(rt.alloc(), &mut Counted::new(file))?;
+    let dump = read_dump_by(rt, rt.alloc(), &mut Counted::new(file), team.workers())?;
     Ok(ReadCheck {
         dump,
         sources,
@@ -56,7 +57,7 @@ fn read_all_of<R: Files + AllocGlobal>(
 
 /// Reads what a plain check asks for, or answers the status where that is refused; none where the
 /// words ask for something else.
-pub fn read_plain<R: Files + Eprint + AllocGlobal>(
+pub fn read_plain<R: Files + Eprint + AllocGlobal + Threads>(
     rt: &R,
     request: &Request,
 ) -> Option<Result<ReadCheck, u8>>

@@ -24,10 +24,7 @@ use Rattle.vcd_reader.specs.Body.{with_time, change_by_code, scalar, by_kind, be
 use Rattle.vcd_reader.specs.Body.{vector, behind_ignored, steps_of, kind_of}
 use Rattle.vcd_reader.specs.Kept.{seen_kind, KeptRest, kept_result, kept_steps, with_kept, with_kept_step, with_item}
 use Rattle.vcd_reader.specs.Kept.{code_item, scalar_item}
-
--- the steps so far, the open step, and what is still read
-abbrev pub joined : List StoredStep → ℕ → List StoredChange → Result KeptRest Fault → Result (List StoredStep) Fault
-joined steps now changes read = read >>= λ r. Ok (steps ++ record { time = now; changes = changes ++ r.0 } ∷ r.1)
+use Rattle.vcd_reader.specs.Readings.{joined}
 
 pub joined-none : (read : Result Rest Fault) → kept_steps (steps_of read) ≡ joined [] 0 [] (kept_result read)
 unfolding kept_step
@@ -297,4 +294,11 @@ pub applied-later : (time at count now : ℕ) (rest : ℕ → ℕ → Result Kep
 applied-later time at count now rest h =
     let f : ltb time now ≡ false = le-ltb _ _ (omega arith) in
     let g : eqb time now ≡ false = elim (eqb_tells time now) [ inl p ↦ absurd (omega (arith, p.1)) | inr p ↦ p.0 ] in
+    rw (f, g) refl
+
+pub applied-equal : (time at count now : ℕ) (rest : ℕ → ℕ → Result KeptRest Fault) → time ≡ now
+    → with_item (Timed time at) count now rest ≡ rest count now
+applied-equal time at count now rest h =
+    let f : ltb time now ≡ false = le-ltb _ _ (omega arith) in
+    let g : eqb time now ≡ true = eq-eqb _ _ h in
     rw (f, g) refl

@@ -14,3 +14,5 @@ pub mod PackedLaws
 pub mod ScopeLaws
 pub mod HeldLaws
 pub mod ResumedLaws
+pub mod ReadingLaws
+pub mod MoveLaws

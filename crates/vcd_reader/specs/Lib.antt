@@ -15,3 +15,4 @@ pub mod Sections
 pub mod Kept
 pub mod Grammar
 pub mod Packed
+pub mod Readings

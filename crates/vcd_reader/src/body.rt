@@ -132,7 +132,11 @@ fn scalar_change(
 
 /// The next item of the body, and where it ends.
 #[tactic(auto, using(crate::proofs::BodyLaws::items))]
-fn next_item(bytes: &[u8], at: usize, codes: &Codes) -> Result<Option<(Item, usize)>, Fault>
+pub(crate) fn next_item(
+    bytes: &[u8],
+    at: usize,
+    codes: &Codes,
+) -> Result<Option<(Item, usize)>, Fault>
     requires { at ≤ length bytes.now }
     ensures high { IfOk result (λ r. IfSome r (λ p. (at < p.1) × (p.1 ≤ length bytes.now))) }
     ensures item { (count now : ℕ)
@@ -181,7 +185,7 @@ pub(crate) fn has_room(count: u32) -> bool
 }
 
 /// The change as it is stored; the high part of a value from 2^64 on goes into `high`.
-fn new_change(high: &mut Vec<u64>, code: u32, value: u128) -> Result<Change, AllocError>
+pub(crate) fn new_change(high: &mut Vec<u64>, code: u32, value: u128) -> Result<Change, AllocError>
     requires { length high.old.items < 4294967295 }
     ensures grows { IfOk result (λ c. Extends high.old.items high.new.items) }
     ensures bound { length high.new.items ≤ length high.old.items + 1 }
@@ -200,60 +204,4 @@ fn new_change(high: &mut Vec<u64>, code: u32, value: u128) -> Result<Change, All
         high: high.len() as u32,
         low,
     })
-}
-
-/// The steps of the body that begins there, and the high parts of their wide values.
-pub(crate) fn read_body(
-    alloc: Global,
-    bytes: &[u8],
-    start: usize,
-    codes: &Codes,
-) -> Result<(Vec<Step>, Vec<u64>), ReadError>
-    requires { start ≤ length bytes.now }
-    ensures { Gives (λ r. map (stored_step r.1.items) r.0.items) result
-        (kept_steps (steps_of (body (codes_in codes.now.variables.now) (length bytes.now) 0 0
-        (tokens_at bytes.now start)))) }
-{
-    let mut steps = Vec::new(alloc);
-    let mut high = Vec::new(alloc);
-    let mut changes = Vec::new(alloc);
-    let mut count = 0u32;
-    let mut now = 0;
-    let mut at = start;
-    'items: loop {
-        let Some((item, end)) = next_item(bytes, at, codes)? else {
-            let changes = Vec::from_slice(alloc, &changes)?;
-            steps.push(Step { time: now, changes })?;
-            return Ok((steps, high));
-        };
-        at = end;
-        match item {
-            Item::Skipped => continue,
-            Item::Changed(code, value) => {
-                if !has_room(count) {
-                    return Err(ReadError::Fault(Fault::TooLarge));
-                }
-                let change = new_change(&mut high, code, value)?;
-                changes.push(change)?;
-                count += 1;
-                continue;
-            }
-            Item::Timed(time, from) => {
-                if time < now {
-                    return Err(ReadError::Fault(Fault::TimeBack(from)));
-                }
-                if time == now {
-                    continue;
-                }
-                let done = Vec::from_slice(alloc, &changes)?;
-                steps.push(Step {
-                    time: now,
-                    changes: done,
-                })?;
-                changes.clear();
-                now = time;
-                continue;
-            }
-        }
-    }
 }

@@ -10,7 +10,7 @@
 //! reals and strings are skipped, and so are sections that declare nothing.
 //!
 //! ```text
-//! let dump = read_dump(alloc, &mut source)?;    // or why there is none
+//! let dump = read_dump(alloc, &mut source)?;    // or why there is none; by threads: read_dump_by
 //! let names = dump.names(alloc)?;               // the paths that can be bound, with widths
 //! let Some(data) = dump.var("top.data") else {  // no such path, or it can't be bound
 //!     return;
@@ -34,8 +34,10 @@
 //! so, and what is spelled so is read. By `digits_law` the number that is kept for a change gives
 //! its value at each size up to 128. The other files of `specs` are of what the code keeps.
 //!
-//! Not promised: that memory suffices to read, or that a dump follows the standard in what the
-//! grammar leaves open; the types of scopes and variables may be any words.
+//! A body may be read in parts, each by a thread (`src/parts.rt`, `specs/Readings.antt`).
+//!
+//! Not promised: that memory suffices to read, that several threads are at work, or that a dump
+//! follows the standard in what the grammar leaves open; scopes and types may be any words.
 #![tactic(auto)]
 
 mod body;
@@ -50,8 +52,10 @@ mod lookups;
 mod name;
 mod number;
 mod packed;
+mod parts;
 mod places;
 mod reader;
+mod reading;
 mod scope;
 mod scopes;
 mod span;
@@ -62,6 +66,6 @@ mod variable;
 pub use dump::Dump;
 pub use fault::VcdFault;
 pub use laws::{digits_law, grammar_law};
-pub use reader::{read_dump, read_dump_and_bytes};
+pub use reader::{read_dump, read_dump_and_bytes, read_dump_by};
 pub use step::{Change, Step};
 pub use variable::{Name, VarId};

@@ -12,23 +12,25 @@ ghost use Rattle.vcd_reader.specs.Sections.{tokens_at};
 ghost use Rattle.vcd_reader.specs.Dump.{dump_of, line_of, fault_at_line, Stands};
 ghost use Rattle.vcd_reader.specs.Held.{Parses, ReadsAs};
 
-use crate::body::read_body;
 use crate::dump::Dump;
 use crate::fault::{Fault, ReadError, VcdFault};
 use crate::header::{Declarations, read_header};
 use crate::packed::table_of;
+use crate::parts::{BodyReader, OneThread, Team};
 use crate::places::{Part, Places, places_of};
 use crate::step::Step;
 use crate::variable::Variable;
 use signals::{ReadAllError, Source, read_all};
 use std::alloc::Global;
+use std::thread::Threads;
 
 /// The most bytes of a dump.
 const MOST_BYTES: u64 = 1 << 48;
 
 /// The steps of the body that begins there, and the high parts of their wide values.
-fn read_steps(
+fn read_steps<B: BodyReader>(
     alloc: Global,
+    reader: &B,
     bytes: &[u8],
     start: usize,
     variables: &[Variable],
@@ -41,13 +43,13 @@ fn read_steps(
         (tokens_at bytes.now start)))) }
 {
     let header = table_of(alloc, variables, codes)?;
-    let read = read_body(alloc, bytes, start, &header);
+    let read = reader.read_body(alloc, bytes, start, &header);
     drop(header);
     read
 }
 
 /// The dump that the bytes are.
-fn parse(alloc: Global, bytes: &[u8]) -> Result<Dump, ReadError>
+fn parse<B: BodyReader>(alloc: Global, reader: &B, bytes: &[u8]) -> Result<Dump, ReadError>
     ensures { MatchResult result (Parses bytes.now) (λ e. Fails e (dump_of bytes.now)) }
 {
     let Declarations {
@@ -57,7 +59,7 @@ fn parse(alloc: Global, bytes: &[u8]) -> Result<Dump, ReadError>
     } = read_header(alloc, bytes)?;
     let paths = places_of(alloc, &scopes, &variables, Part::Path)?;
     let codes = places_of(alloc, &scopes, &variables, Part::Code)?;
-    let (steps, high) = read_steps(alloc, bytes, end, &variables, &codes)?;
+    let (steps, high) = read_steps(alloc, reader, bytes, end, &variables, &codes)?;
     Ok(Dump {
         scopes,
         variables,
@@ -91,8 +93,35 @@ fn with_line(bytes: &[u8], fault: Fault) -> VcdFault
     }
 }
 
-/// The dump that the source gives, read to its end, and the bytes that it gave. Giving their memory
-/// back takes 4 ms for 50 MB, which a caller may want to spend beside something else.
+/// The dump that the source gives, read to its end, and the bytes that it gave.
+fn read_by<S: Source, B: BodyReader>(
+    alloc: Global,
+    reader: &B,
+    source: &mut S,
+) -> Result<(Dump, Vec<u8>), VcdFault>
+    ensures accepted { IfOk result (λ r.
+        ReadsAs (S.state source.old).remaining (S.state source.new).remaining r.0) }
+    ensures bytes { IfOk result (λ r.
+        Consumes (S.state source.old).remaining (S.state source.new).remaining r.1.items) }
+    ensures counted { OnOk result
+        ((S.state source.new).failures ≡ (S.state source.old).failures) }
+    ensures refused { IfErr result (Stands (S.state source.old) (S.state source.new)) }
+{
+    let bytes = match read_all(alloc, source, MOST_BYTES) {
+        Ok(bytes) => bytes,
+        Err(ReadAllError::Memory) => return Err(VcdFault::Memory),
+        Err(ReadAllError::Failed) => return Err(VcdFault::Read),
+        Err(ReadAllError::TooLarge) => return Err(VcdFault::TooLarge),
+    };
+    match parse(alloc, reader, &bytes) {
+        Ok(dump) => Ok((dump, bytes)),
+        Err(ReadError::Memory) => Err(VcdFault::Memory),
+        Err(ReadError::Fault(fault)) => Err(with_line(&bytes, fault)),
+    }
+}
+
+/// The dump that the source gives, read to its end, and the bytes that it gave, for a caller that
+/// tells more of them than the dump does.
 pub fn read_dump_and_bytes<S: Source>(
     alloc: Global,
     source: &mut S,
@@ -107,17 +136,7 @@ pub fn read_dump_and_bytes<S: Source>(
     // What is refused has the fault, the first one, or the source failed, or it gave too much.
     ensures refused { IfErr result (Stands (S.state source.old) (S.state source.new)) }
 {
-    let bytes = match read_all(alloc, source, MOST_BYTES) {
-        Ok(bytes) => bytes,
-        Err(ReadAllError::Memory) => return Err(VcdFault::Memory),
-        Err(ReadAllError::Failed) => return Err(VcdFault::Read),
-        Err(ReadAllError::TooLarge) => return Err(VcdFault::TooLarge),
-    };
-    match parse(alloc, &bytes) {
-        Ok(dump) => Ok((dump, bytes)),
-        Err(ReadError::Memory) => Err(VcdFault::Memory),
-        Err(ReadError::Fault(fault)) => Err(with_line(&bytes, fault)),
-    }
+    read_by(alloc, &OneThread, source)
 }
 
 /// The dump that the source gives, read to its end.
@@ -129,5 +148,23 @@ pub fn read_dump<S: Source>(alloc: Global, source: &mut S) -> Result<Dump, VcdFa
     ensures refused { IfErr result (Stands (S.state source.old) (S.state source.new)) }
 {
     let (dump, _bytes) = read_dump_and_bytes(alloc, source)?;
+    Ok(dump)
+}
+
+/// What [`read_dump`] gives, by so many threads at most, the calling one among them. All have ended
+/// when it returns.
+pub fn read_dump_by<S: Source, R: Threads>(
+    rt: &R,
+    alloc: Global,
+    source: &mut S,
+    threads: usize,
+) -> Result<Dump, VcdFault>
+    ensures accepted { IfOk result
+        (ReadsAs (S.state source.old).remaining (S.state source.new).remaining) }
+    ensures counted { OnOk result
+        ((S.state source.new).failures ≡ (S.state source.old).failures) }
+    ensures refused { IfErr result (Stands (S.state source.old) (S.state source.new)) }
+{
+    let (dump, _bytes) = read_by(alloc, &Team { rt, threads }, source)?;
     Ok(dump)
 }
