@@ -111,6 +111,7 @@ random: svamon answers_bytecode answers_verifier answers_machine
 	cd crates/svamon/out && ../../../scripts/random/random_explain.py ./svamon $(CASES) $(SEED)
 	cd crates/svamon/out && ../../../scripts/random/random_import.py ./svamon $(CASES) $(SEED)
 	cd crates/svamon/out && ../../../scripts/random/mangled_files.py ./svamon $(CASES) $(SEED)
+	scripts/random/large_dumps.py crates/svamon/out/svamon 20 $(SEED)
 	scripts/random/edge_ports.py crates/svamon/out/svamon
 	scripts/random/least_axi4.py crates/svamon/out/svamon
 	scripts/random/same_reports.py crates/svamon/out/svamon

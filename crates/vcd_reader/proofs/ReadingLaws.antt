@@ -44,6 +44,7 @@ pub nothing-read : (declared : List (List ℕ)) (bytes : List ℕ) (start first 
 nothing-read declared bytes start first le = record {
   inside = le;
   wide = omega arith;
+  few = omega arith;
   same = λ before more few. let n : before + 0 ≡ before = omega arith in rw n refl;
 }
 
@@ -51,28 +52,31 @@ nothing-read declared bytes start first le = record {
 pub read-after : (declared : List (List ℕ)) (bytes : List ℕ) (start first : ℕ) (steps : List Step) (now : ℕ)
     (high : List ℕ) (count at : ℕ) (steps' : List Step) (now' : ℕ) (changes' : List Change) (high' : List ℕ)
     (count' at' : ℕ)
-    → IsRead [] declared bytes start first steps now [] high count at
+    → count + count' ≤ most_changes → IsRead [] declared bytes start first steps now [] high count at
     → IsRead high declared bytes at now steps' now' changes' high' count' at'
     → IsRead [] declared bytes start first (steps ++ steps') now' changes' (high ++ high') (count + count') at'
-read-after declared bytes start first steps now high count at steps' now' changes' high' count' at' one other = record {
-  inside = other.inside;
-  wide = let w = one.wide in let v = other.wide in let l = length-append high high' in omega arith;
-  same = λ before more few.
-      let all = high ++ (high' ++ more) in
-      let same_high : all ≡ (high ++ high') ++ more = sym (append_assoc high high' more) in
-      let sum : (before + count) + count' ≡ before + (count + count') = omega arith in
-      one.same before (high' ++ more) (omega arith)
-      ∙ joined-first (map (stored_step all) steps) now (rest_at declared bytes (before + count) now at)
-      ∙ ap (after_steps (map (stored_step all) steps)) (other.same (before + count) more (omega arith))
-      ∙ sym (joined-after (map (stored_step all) steps) (map (stored_step all) steps') now'
-      (map (stored_change all) changes') (rest_at declared bytes ((before + count) + count') now' at'))
-      ∙ ap (λ (ss : List StoredStep). joined ss now' (map (stored_change all) changes')
-      (rest_at declared bytes ((before + count) + count') now' at')) (sym (map-append (stored_step all) steps steps'))
-      ∙ ap (λ (n : ℕ). joined (map (stored_step all) (steps ++ steps')) now' (map (stored_change all) changes')
-      (rest_at declared bytes n now' at')) sum
-      ∙ ap (λ (h : List ℕ). joined (map (stored_step h) (steps ++ steps')) now' (map (stored_change h) changes')
-      (rest_at declared bytes (before + (count + count')) now' at')) same_high;
-}
+read-after declared bytes start first steps now high count at steps' now' changes' high' count' at' few one other =
+    record {
+      inside = other.inside;
+      wide = let w = one.wide in let v = other.wide in let l = length-append high high' in omega arith;
+      few = few;
+      same = λ before more room.
+          let all = high ++ (high' ++ more) in
+          let same_high : all ≡ (high ++ high') ++ more = sym (append_assoc high high' more) in
+          let sum : (before + count) + count' ≡ before + (count + count') = omega arith in
+          one.same before (high' ++ more) (omega arith)
+          ∙ joined-first (map (stored_step all) steps) now (rest_at declared bytes (before + count) now at)
+          ∙ ap (after_steps (map (stored_step all) steps)) (other.same (before + count) more (omega arith))
+          ∙ sym (joined-after (map (stored_step all) steps) (map (stored_step all) steps') now'
+          (map (stored_change all) changes') (rest_at declared bytes ((before + count) + count') now' at'))
+          ∙ ap (λ (ss : List StoredStep). joined ss now' (map (stored_change all) changes')
+          (rest_at declared bytes ((before + count) + count') now' at'))
+          (sym (map-append (stored_step all) steps steps'))
+          ∙ ap (λ (n : ℕ). joined (map (stored_step all) (steps ++ steps')) now' (map (stored_change all) changes')
+          (rest_at declared bytes n now' at')) sum
+          ∙ ap (λ (h : List ℕ). joined (map (stored_step h) (steps ++ steps')) now' (map (stored_change h) changes')
+          (rest_at declared bytes (before + (count + count')) now' at')) same_high;
+    }
 
 -- the same, moved to after high parts
 pub read-moved : (front : List ℕ) (declared : List (List ℕ)) (bytes : List ℕ) (start first : ℕ)
@@ -85,6 +89,7 @@ pub read-moved : (front : List ℕ) (declared : List (List ℕ)) (bytes : List �
 read-moved front declared bytes start first steps steps' now changes changes' high count at moved moved' read = record {
   inside = read.inside;
   wide = read.wide;
+  few = read.few;
   same = λ before more few.
       read.same before more few
       ∙ ap (λ (ss : List StoredStep). joined ss now (map (stored_change (high ++ more)) changes)
@@ -109,6 +114,7 @@ pub read-narrow : (front : List ℕ) (declared : List (List ℕ)) (bytes : List 
 read-narrow front declared bytes start first steps now changes high count at none read = record {
   inside = read.inside;
   wide = read.wide;
+  few = read.few;
   same = λ before more few.
       read.same before (front ++ more) few
       ∙ ap (λ (h : List ℕ). joined (map (stored_step h) steps) now (map (stored_change h) changes)
@@ -130,9 +136,10 @@ module _ (declared : List (List ℕ)) (bytes : List ℕ) (start first : ℕ) (st
   abbrev with_rest : List ℕ → Result KeptRest Fault → Result (List StoredStep) Fault
   with_rest all rest = joined (map (stored_step all) steps) now (map (stored_change all) changes) rest
 
-  pub read-fails : (f : Fault) → count ≤ most_changes → rest_at declared bytes count now at ≡ Err f
+  pub read-fails : (f : Fault) → rest_at declared bytes count now at ≡ Err f
       → steps_from declared bytes 0 first start ≡ Err f
-  read-fails f few is =
+  read-fails f is =
+      let few = read.few in
       let none : 0 + count ≡ count = omega arith in
       read.same 0 [] (omega arith)
       ∙ ap (λ (n : ℕ). with_rest (high ++ []) (rest_at declared bytes n now at)) none
@@ -144,6 +151,7 @@ module _ (declared : List (List ℕ)) (bytes : List ℕ) (start first : ℕ) (st
   read-skipped end le next = record {
     inside = le;
     wide = read.wide;
+    few = read.few;
     same = λ before more few. read.same before more few ∙ ap (with_rest (high ++ more)) (next (before + count));
   }
 
@@ -170,6 +178,7 @@ module _ (declared : List (List ℕ)) (bytes : List ℕ) (start first : ℕ) (st
   read-change code value end change changes' high' le few next added longer stored is = record {
     inside = le;
     wide = let w = read.wide in omega arith;
+    few = omega arith;
     same = λ before more room.
         let all = high' ++ more in
         let same_high : high ++ (added.0 ++ more) ≡ all =
@@ -196,6 +205,7 @@ module _ (declared : List (List ℕ)) (bytes : List ℕ) (start first : ℕ) (st
   read-step time from end steps' s le later next is at_now done = record {
     inside = le;
     wide = read.wide;
+    few = read.few;
     same = λ before more few.
         let all = high ++ more in
         let rest = rest_at declared bytes (before + count) time end in
@@ -211,10 +221,11 @@ module _ (declared : List (List ℕ)) (bytes : List ℕ) (start first : ℕ) (st
 -- all was read: the open step is the last
 pub read-all : (declared : List (List ℕ)) (bytes : List ℕ) (start first : ℕ) (steps : List Step) (now : ℕ)
     (changes : List Change) (high : List ℕ) (count at : ℕ) (steps' : List Step) (s : Step)
-    → IsRead [] declared bytes start first steps now changes high count at → count ≤ most_changes
+    → IsRead [] declared bytes start first steps now changes high count at
     → at ≡ length bytes → steps' ≡ steps ++ s ∷ [] → s.time ≡ now → s.changes.items ≡ changes
     → steps_from declared bytes 0 first start ≡ Ok (map (stored_step high) steps')
-read-all declared bytes start first steps now changes high count at steps' s read few ended is at_now done =
+read-all declared bytes start first steps now changes high count at steps' s read ended is at_now done =
+    let few = read.few in
     let none : rest_at declared bytes (0 + count) now at ≡ Ok ([], []) =
     ap (λ (n : ℕ). rest_at declared bytes (0 + count) now n) ended ∙ none-at-end declared bytes (0 + count) now in
     read.same 0 [] (omega arith)

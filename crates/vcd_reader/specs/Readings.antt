@@ -7,10 +7,11 @@ use Rattle.vcd_reader.specs.declared.fault.Fault.{Fault}
 use Rattle.vcd_reader.specs.Faults.{◌>>=◌}
 use Rattle.vcd_reader.specs.Stored.{StoredChange, StoredStep, stored_change, stored_step}
 use Rattle.vcd_reader.specs.Body.{body, most_changes}
-use Rattle.vcd_reader.specs.Kept.{KeptRest, kept_result}
+use Rattle.vcd_reader.specs.declared.item.Item.{Item}
+use Rattle.vcd_reader.specs.Kept.{KeptRest, kept_result, with_item}
 use Rattle.vcd_reader.specs.Sections.{tokens_at}
 
--- the steps so far, the open step, and what is still read
+-- all steps: those so far, the open one with what is still to be read of it, and those after it
 abbrev pub joined : List StoredStep → ℕ → List StoredChange → Result KeptRest Fault
     → Result (List StoredStep) Fault
 joined steps now changes read =
@@ -26,37 +27,48 @@ rest_at declared bytes count now at =
 abbrev pub steps_from : List (List ℕ) → List ℕ → ℕ → ℕ → ℕ → Result (List StoredStep) Fault
 steps_from declared bytes count now at = joined [] now [] (rest_at declared bytes count now at)
 
--- These steps, an open one and so many changes were read from a byte on, and the rest stands from
--- another on. The high parts of wide values stand after those of `front`. So it is after any number
--- of changes that leaves room for these, and whatever more is put after the high parts.
+-- What stands from a byte on is what these steps, this open one and what stands from another byte
+-- on make, or the same fault. Of the changes between the two `count` are counted, and no more high
+-- halves of wide values are kept, which stand after those of `front`. So it is after any number of
+-- changes that leaves room for these, and whatever more is put after the high halves.
 pub record IsRead (front : List ℕ) (declared : List (List ℕ)) (bytes : List ℕ) (start first : ℕ)
     (steps : List Step) (now : ℕ) (changes : List Change) (high : List ℕ) (count at : ℕ) : Type 0
   where
     pub inside : at ≤ length bytes
     pub wide : length high ≤ count
+    pub few : count ≤ most_changes
     pub same : (before : ℕ) (more : List ℕ) → before + count ≤ most_changes
         → steps_from declared bytes before first start
         ≡ joined (map (stored_step (front ++ (high ++ more))) steps) now
         (map (stored_change (front ++ (high ++ more))) changes)
         (rest_at declared bytes (before + count) now at)
 
-abbrev pub IsReadingAfter : List ℕ → List (List ℕ) → List ℕ → Reading → Type 0
-IsReadingAfter front declared bytes r =
+-- what was read, its high halves of wide values after these
+abbrev pub IsReadingBehind : List ℕ → List (List ℕ) → List ℕ → Reading → Type 0
+IsReadingBehind front declared bytes r =
     IsRead front declared bytes r.start r.first r.steps.items r.now r.changes.items r.high.items
     r.count r.at
 
+-- what was read, its high halves alone
 abbrev pub IsReading : List (List ℕ) → List ℕ → Reading → Type 0
-IsReading declared bytes r = IsReadingAfter [] declared bytes r
+IsReading declared bytes r = IsReadingBehind [] declared bytes r
+
+-- an item stands at a byte, and ends at another one
+pub record IsItemAt (declared : List (List ℕ)) (bytes : List ℕ) (at : ℕ) (item : Item) (end : ℕ)
+    : Type 0 where
+  pub inside : end ≤ length bytes
+  pub says : (count now : ℕ) → rest_at declared bytes count now at
+      ≡ with_item item count now (λ c n. rest_at declared bytes c n end)
 
 -- the other one begins where this one stands, in a step that has no change yet, and a dump may have
 -- the changes of both
-pub record GoesOn (one other : Reading) : Type 0 where
+pub record IsFollowedBy (one other : Reading) : Type 0 where
   pub start : other.start ≡ one.at
   pub first : other.first ≡ one.now
   pub blank : one.changes.items ≡ []
   pub few : one.count + other.count ≤ most_changes
 
--- changes that say, with so many high parts more in front, what these said
+-- changes that say, with so many high halves more in front, what these said
 abbrev pub AreMoved : ℕ → List Change → List Change → Type 0
 AreMoved by old new =
     (front high : List ℕ) → length front ≡ by

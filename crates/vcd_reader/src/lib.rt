@@ -36,11 +36,12 @@
 //!
 //! A body may be read in parts, each by a thread (`src/parts.rt`, `specs/Readings.antt`).
 //!
-//! Not promised: that memory suffices to read, that several threads are at work, or that a dump
-//! follows the standard in what the grammar leaves open; scopes and types may be any words.
+//! Not promised: that memory suffices; how many threads are at work, where a body is cut, or that
+//! each part is read once; that a dump follows the standard in what the grammar leaves open.
 #![tactic(auto)]
 
 mod body;
+mod body_reader;
 mod codes;
 mod dump;
 mod fault;
@@ -51,11 +52,13 @@ mod laws;
 mod lookups;
 mod name;
 mod number;
+mod one_thread;
 mod packed;
 mod parts;
 mod places;
 mod reader;
 mod reading;
+mod reading_team;
 mod scope;
 mod scopes;
 mod span;

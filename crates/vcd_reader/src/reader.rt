@@ -12,12 +12,14 @@ ghost use Rattle.vcd_reader.specs.Sections.{tokens_at};
 ghost use Rattle.vcd_reader.specs.Dump.{dump_of, line_of, fault_at_line, Stands};
 ghost use Rattle.vcd_reader.specs.Held.{Parses, ReadsAs};
 
+use crate::body_reader::BodyReader;
 use crate::dump::Dump;
 use crate::fault::{Fault, ReadError, VcdFault};
 use crate::header::{Declarations, read_header};
+use crate::one_thread::OneThread;
 use crate::packed::table_of;
-use crate::parts::{BodyReader, OneThread, Team};
 use crate::places::{Part, Places, places_of};
+use crate::reading_team::ReadingTeam;
 use crate::step::Step;
 use crate::variable::Variable;
 use signals::{ReadAllError, Source, read_all};
@@ -27,7 +29,7 @@ use std::thread::Threads;
 /// The most bytes of a dump.
 const MOST_BYTES: u64 = 1 << 48;
 
-/// The steps of the body that begins there, and the high parts of their wide values.
+/// The steps of the body that begins there, and the high halves of their wide values.
 fn read_steps<B: BodyReader>(
     alloc: Global,
     reader: &B,
@@ -94,7 +96,7 @@ fn with_line(bytes: &[u8], fault: Fault) -> VcdFault
 }
 
 /// The dump that the source gives, read to its end, and the bytes that it gave.
-fn read_by<S: Source, B: BodyReader>(
+fn read_source<S: Source, B: BodyReader>(
     alloc: Global,
     reader: &B,
     source: &mut S,
@@ -136,7 +138,7 @@ pub fn read_dump_and_bytes<S: Source>(
     // What is refused has the fault, the first one, or the source failed, or it gave too much.
     ensures refused { IfErr result (Stands (S.state source.old) (S.state source.new)) }
 {
-    read_by(alloc, &OneThread, source)
+    read_source(alloc, &OneThread, source)
 }
 
 /// The dump that the source gives, read to its end.
@@ -151,8 +153,9 @@ pub fn read_dump<S: Source>(alloc: Global, source: &mut S) -> Result<Dump, VcdFa
     Ok(dump)
 }
 
-/// What [`read_dump`] gives, by so many threads at most, the calling one among them. All have ended
-/// when it returns.
+/// What [`read_dump`] gives, by so many threads at most, the calling one among them: for each MB of
+/// the body that is begun there is at most one, and there are 8 at most. All have ended when it
+/// returns.
 pub fn read_dump_by<S: Source, R: Threads>(
     rt: &R,
     alloc: Global,
@@ -165,6 +168,6 @@ pub fn read_dump_by<S: Source, R: Threads>(
         ((S.state source.new).failures ≡ (S.state source.old).failures) }
     ensures refused { IfErr result (Stands (S.state source.old) (S.state source.new)) }
 {
-    let (dump, _bytes) = read_by(alloc, &Team { rt, threads }, source)?;
+    let (dump, _bytes) = read_source(alloc, &ReadingTeam { rt, threads }, source)?;
     Ok(dump)
 }

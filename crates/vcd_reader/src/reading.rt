@@ -1,12 +1,12 @@
 //! What was read of a body so far.
 
-ghost use Rattle.std.specs.Prelude.{◌≡◌, ◌≤◌, ◌+◌, ℕ, List, Ok, length, map, IfOk, IfErr, IfSome};
-ghost use Rattle.std.specs.Prelude.{IsTrue};
+ghost use Rattle.std.specs.Prelude.{◌≡◌, ◌≤◌, ◌+◌, ℕ, List, Ok, length, map, IfOk, IfErr};
+ghost use Rattle.std.specs.Prelude.{IfSome, OnOk, IsTrue};
 ghost use Rattle.vcd_reader.specs.Faults.{Fails};
 ghost use Rattle.vcd_reader.specs.Index.{codes_in};
 ghost use Rattle.vcd_reader.specs.Stored.{stored_step};
-ghost use Rattle.vcd_reader.specs.Readings.{IsReading, IsReadingAfter, GoesOn, steps_from};
-ghost use Rattle.vcd_reader.specs.Readings.{AreMoved, AreStepsMoved};
+ghost use Rattle.vcd_reader.specs.Readings.{IsReading, IsReadingBehind, IsFollowedBy, steps_from};
+ghost use Rattle.vcd_reader.specs.Readings.{AreMoved, AreStepsMoved, IsItemAt};
 
 use crate::body::{has_room, new_change, next_item};
 use crate::codes::Codes;
@@ -18,7 +18,7 @@ use std::alloc::{AllocError, Global};
 /// What was read of a body from a byte on, at which the step of a time stands open.
 #[derive(Drop)]
 pub(crate) struct Reading {
-    /// The byte at which it began, and the time of the step that was open there.
+    /// The byte at which it began, and the time of the step that stood open there.
     pub(crate) start: usize,
     pub(crate) first: u64,
     /// The steps before the open one.
@@ -26,7 +26,7 @@ pub(crate) struct Reading {
     /// The time of the open step, and its changes so far.
     pub(crate) now: u64,
     pub(crate) changes: Vec<Change>,
-    /// The high parts of wide values.
+    /// The high halves of wide values.
     pub(crate) high: Vec<u64>,
     /// How many changes were read.
     pub(crate) count: u32,
@@ -34,8 +34,8 @@ pub(crate) struct Reading {
     pub(crate) at: usize,
 }
 
-/// Moves the changes to after so many high parts more; not all of them where a place would be too
-/// large.
+/// Adds a number to each change's place among the high halves. False, with some of them done, where
+/// a place would be too large.
 fn move_changes(changes: &mut [Change], by: u32) -> bool
     ensures long { length changes.new ≡ length changes.old }
     ensures moved { IsTrue result → AreMoved by changes.old changes.new }
@@ -89,6 +89,50 @@ impl Reading {
         }
     }
 
+    /// Takes an item that ends there.
+    #[inline]
+    fn take(&mut self, alloc: Global, item: Item, end: usize) -> Result<(), ReadError>
+        requires high { length self.old.high.items ≤ self.old.count }
+        ensures reading { (declared : List (List ℕ)) (bytes : List ℕ)
+            → IsReading declared bytes self.old → IsItemAt declared bytes self.old.at item end
+            → OnOk result (IsReading declared bytes self.new) }
+        ensures fault { (declared : List (List ℕ)) (bytes : List ℕ)
+            → IsReading declared bytes self.old → IsItemAt declared bytes self.old.at item end
+            → IfErr result (λ e. Fails e
+            (steps_from declared bytes 0 self.old.first self.old.start)) }
+        ensures start { OnOk result (self.new.start ≡ self.old.start) }
+        ensures first { OnOk result (self.new.first ≡ self.old.first) }
+        ensures at { OnOk result (self.new.at ≡ end) }
+    {
+        match item {
+            Item::Skipped => {}
+            Item::Changed(code, value) => {
+                if !has_room(self.count) {
+                    return Err(ReadError::Fault(Fault::TooLarge));
+                }
+                let change = new_change(&mut self.high, code, value)?;
+                self.changes.push(change)?;
+                self.count += 1;
+            }
+            Item::Timed(time, from) => {
+                if time < self.now {
+                    return Err(ReadError::Fault(Fault::TimeBack(from)));
+                }
+                if time != self.now {
+                    let changes = Vec::from_slice(alloc, &self.changes)?;
+                    self.steps.push(Step {
+                        time: self.now,
+                        changes,
+                    })?;
+                    self.changes.clear();
+                    self.now = time;
+                }
+            }
+        }
+        self.at = end;
+        Ok(())
+    }
+
     /// Reads on, up to the first item that ends at a byte or after it.
     pub(crate) fn read_to(
         self,
@@ -106,72 +150,20 @@ impl Reading {
         ensures fault { IfErr result (λ e. Fails e
             (steps_from (codes_in codes.now.variables.now) bytes.now 0 self.first self.start)) }
     {
-        let Reading {
-            start,
-            first,
-            steps,
-            now,
-            changes,
-            high,
-            count,
-            at,
-        } = self;
-        let mut steps = steps;
-        let mut now = now;
-        let mut changes = changes;
-        let mut high = high;
-        let mut count = count;
-        let mut at = at;
-        'items: while at < to {
-            let Some((item, end)) = next_item(bytes, at, codes)? else {
-                at = bytes.len();
+        let mut reading = self;
+        'items: while reading.at < to {
+            let Some((item, end)) = next_item(bytes, reading.at, codes)? else {
+                reading.at = bytes.len();
                 continue;
             };
-            at = end;
-            match item {
-                Item::Skipped => continue,
-                Item::Changed(code, value) => {
-                    if !has_room(count) {
-                        return Err(ReadError::Fault(Fault::TooLarge));
-                    }
-                    let change = new_change(&mut high, code, value)?;
-                    changes.push(change)?;
-                    count += 1;
-                    continue;
-                }
-                Item::Timed(time, from) => {
-                    if time < now {
-                        return Err(ReadError::Fault(Fault::TimeBack(from)));
-                    }
-                    if time == now {
-                        continue;
-                    }
-                    let done = Vec::from_slice(alloc, &changes)?;
-                    steps.push(Step {
-                        time: now,
-                        changes: done,
-                    })?;
-                    changes.clear();
-                    now = time;
-                    continue;
-                }
-            }
+            reading.take(alloc, item, end)?;
         }
-        Ok(Reading {
-            start,
-            first,
-            steps,
-            now,
-            changes,
-            high,
-            count,
-            at,
-        })
+        Ok(reading)
     }
 
-    /// Whether the other one goes on where this one stands.
-    fn is_before(&self, other: &Reading) -> bool
-        ensures { IsTrue result → GoesOn self.entry.now other.entry.now }
+    /// Whether the other one begins where this one stands.
+    fn is_followed_by(&self, other: &Reading) -> bool
+        ensures { IsTrue result → IsFollowedBy self.entry.now other.entry.now }
     {
         other.start == self.at
             && other.first == self.now
@@ -179,12 +171,12 @@ impl Reading {
             && other.count <= u32::MAX - self.count
     }
 
-    /// This one, with so many high parts of wide values in front of its own. None where that are
-    /// more than there may be.
+    /// This one, with so many high halves of wide values in front of its own. None where a place
+    /// would be too large.
     fn moved(self, by: u32) -> Option<Reading>
         ensures reading { (declared : List (List ℕ)) (bytes front : List ℕ) → length front ≡ by
             → IsReading declared bytes self
-            → IfSome result (IsReadingAfter front declared bytes) }
+            → IfSome result (IsReadingBehind front declared bytes) }
         ensures same { IfSome result (λ r. (r.start ≡ self.start) × (r.first ≡ self.first)
             × (r.count ≡ self.count)) }
     {
@@ -198,11 +190,11 @@ impl Reading {
         Some(moved)
     }
 
-    /// This one with what the other one read after it, whose high parts stand after this one's.
+    /// This one with what the other one read after it, whose high halves stand after this one's.
     fn extended(self, other: Reading) -> Result<Reading, AllocError>
-        requires goes_on { GoesOn self other }
+        requires follows { IsFollowedBy self other }
         ensures reading { (declared : List (List ℕ)) (bytes : List ℕ)
-            → IsReading declared bytes self → IsReadingAfter self.high.items declared bytes other
+            → IsReading declared bytes self → IsReadingBehind self.high.items declared bytes other
             → IfOk result (IsReading declared bytes) }
         ensures start { IfOk result (λ r. r.start ≡ self.start) }
         ensures first { IfOk result (λ r. r.first ≡ self.first) }
@@ -225,8 +217,8 @@ impl Reading {
         })
     }
 
-    /// The same, where there is another one that goes on where this one stands; else this one.
-    pub(crate) fn with(self, other: Option<Reading>) -> Result<Reading, AllocError>
+    /// This one, and what another one read, where there is one that begins where this one stands.
+    pub(crate) fn followed_by(self, other: Option<Reading>) -> Result<Reading, AllocError>
         ensures reading { (declared : List (List ℕ)) (bytes : List ℕ)
             → IsReading declared bytes self → IfSome other (IsReading declared bytes)
             → IfOk result (IsReading declared bytes) }
@@ -236,7 +228,7 @@ impl Reading {
         let Some(other) = other else {
             return Ok(self);
         };
-        if !self.is_before(&other) {
+        if !self.is_followed_by(&other) {
             return Ok(self);
         }
         let Ok(by) = u32::try_from(self.high.len()) else {
@@ -248,7 +240,7 @@ impl Reading {
         }
     }
 
-    /// The steps, with the open one as the last, and the high parts of their wide values.
+    /// The steps, with the open one as the last, and the high halves of their wide values.
     pub(crate) fn finish(self, alloc: Global) -> Result<(Vec<Step>, Vec<u64>), AllocError>
         ensures { (declared : List (List ℕ)) (bytes : List ℕ) → IsReading declared bytes self
             → self.at ≡ length bytes → IfOk result (λ r.

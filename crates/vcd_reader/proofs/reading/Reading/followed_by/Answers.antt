@@ -1,5 +1,5 @@
 use Rattle.std.proofs.Common.{arith}
-use Rattle.vcd_reader.proofs.reading.Reading.with.Goals as goal
+use Rattle.vcd_reader.proofs.reading.Reading.followed_by.Goals as goal
 
 pub returns-in-Some-moved-clause-reading : goal.returns-in-Some-moved-clause-reading
 returns-in-Some-moved-clause-reading c = λ declared bytes read other.
