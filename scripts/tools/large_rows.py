@@ -1,5 +1,6 @@
 """What `check` tells of dumps of over 1 MB, which are read in parts, by the built program. `outside` imports it.
-Reports are those of `scripts/models/reference_report.py`, lines of faults are counted where the dump is made.
+Reports are those of `scripts/models/reference_report.py`, lines of faults are counted where the dump is made. Where
+parts begin is worked out anew, so that some begin where they can't be taken.
 """
 import os
 import subprocess
@@ -42,6 +43,28 @@ def wide(number):
     return f"b{high << 64 | low:b} w\n"
 
 
+def cuts(text, parts):
+    """Where the parts of a dump begin but the first, from the last one on."""
+    start, to, found = text.index("$enddefinitions $end") + 20, len(text), []
+    for left in range(parts, 1, -1):
+        cut = text.find("\n#", to - (to - start) // left, to)
+        to = cut + 1 if cut >= 0 else to - (to - start) // left
+        found += [cut] if cut >= 0 else []
+    return found
+
+
+def told_again(parts):
+    """Steps whose time is told once more in their middle, so that a part begins at such a time."""
+    for room in range(100):
+        text = HEADER + "$comment " + "x" * room + " $end\n"
+        text += "".join(f"#{n}0\n{n % 2}!\n#{n}0\n{int(n % 3 == 0)}a\n{int(n % 7 < 4)}b\n" for n in range(STEPS))
+        times = [text[at + 1:text.index("\n", at + 1)] for at in cuts(text, parts)]
+        before = [text[:at].rfind("\n#") + 1 for at in cuts(text, parts)]
+        if any(text[at:text.index("\n", at)] == time for at, time in zip(before, times)):
+            return text
+    raise AssertionError("no part begins at a time that is told again")
+
+
 def told_by_the_model(shell):
     words = [sys.executable, MODEL, f"{shell.folder}/large.vcd", f"{shell.folder}/large.sva"]
     return subprocess.run(words, stdout=subprocess.PIPE, check=True).stdout
@@ -56,12 +79,13 @@ def put(shell, text, rule):
 def try_reports(shell):
     plain = dump(steps())
     for text in (plain, plain.replace("\n", "\r\n"), plain.replace("\n", " "), plain.replace("\n", " \t\n\n"),
-                 dump(steps(more=comment)), dump(steps(times=2)), dump(steps(), steps(start=10 * STEPS - 10))):
+                 dump(steps(more=comment)), dump(steps(times=2)), told_again(2), told_again(3),
+                 dump(steps(), ["1a\n" * 300_000])):
         put(shell, text, RULE)
         report = told_by_the_model(shell)
         for workers in TEAMS:
             shell.expect(f"check --vcd large.vcd --sva large.sva --workers {workers}", 1, report)
-    shell.expect("check --vcd large.vcd --sva large.sva --json large.json", 1, report)
+        shell.expect("check --vcd large.vcd --sva large.sva --json large.json", 1, report)
 
 
 def try_wide(shell):
