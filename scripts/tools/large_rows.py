@@ -17,8 +17,20 @@ $enddefinitions $end
 """
 RULE = "r: assert property (@(posedge tb.clk) tb.a |-> tb.b);\n"
 WIDE = "r: assert property (@(posedge tb.clk) tb.w[127:64] == tb.w[63:0] |-> tb.b || tb.w[70:66] == 5'd3);\n"
+TEAM_FILE = """module checks(input clk, a, b);
+r: assert property (@(posedge clk) a |-> b);
+endmodule
+"""
 STEPS = 120_000
 TEAMS = (1, 2, 3, 8)
+# Other ways to judge the large dump by several workers: each reads it in parts, too.
+OTHERS = (
+    "check --vcd large.vcd --sva large.sva --json large.json",
+    "check --vcd large.vcd --sva large.sva --keep-going --workers 3",
+    "check --vcd large.vcd --sva large.sva --html large.html --workers 2",
+    "check --vcd large.vcd --sv large.sv --scope tb --workers 3",
+    "run --vcd large.vcd --code large.svm --workers 3",
+)
 
 
 def steps(count=STEPS, more=lambda number: "", times=1, start=0):
@@ -71,13 +83,15 @@ def told_by_the_model(shell):
 
 
 def put(shell, text, rule):
-    for name, content in ("large.vcd", text), ("large.sva", rule):
+    for name, content in ("large.vcd", text), ("large.sva", rule), ("large.sv", TEAM_FILE):
         with open(f"{shell.folder}/{name}", "w", newline="") as file:
             file.write(content)
 
 
 def try_reports(shell):
     plain = dump(steps())
+    put(shell, plain, RULE)
+    shell.expect("build --vcd large.vcd --sva large.sva --name r --out large.svm", 0)
     for text in (plain, plain.replace("\n", "\r\n"), plain.replace("\n", " "), plain.replace("\n", " \t\n\n"),
                  dump(steps(more=comment)), dump(steps(times=2)), told_again(2), told_again(3),
                  dump(steps(), ["1a\n" * 300_000])):
@@ -85,7 +99,8 @@ def try_reports(shell):
         report = told_by_the_model(shell)
         for workers in TEAMS:
             shell.expect(f"check --vcd large.vcd --sva large.sva --workers {workers}", 1, report)
-        shell.expect("check --vcd large.vcd --sva large.sva --json large.json", 1, report)
+        for words in OTHERS:
+            shell.expect(words, 1, report)
 
 
 def try_wide(shell):
@@ -111,6 +126,8 @@ def try_refusals(shell):
         put(shell, text, RULE)
         for workers in TEAMS:
             words = f"check --vcd large.vcd --sva large.sva --workers {workers}"
+            shell.expect(words, 2, line=f"svamon: {fault}")
+        for words in OTHERS:
             shell.expect(words, 2, line=f"svamon: {fault}")
 
 

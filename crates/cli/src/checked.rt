@@ -25,7 +25,7 @@ use signals::{Sink, Source};
 use std::alloc::Global;
 use std::sync::Wait;
 use std::thread::Threads;
-use vcd_reader::{Dump, read_dump};
+use vcd_reader::{Dump, read_dump, read_dump_by};
 use verdicts::Report;
 use workers_core::TeamSize;
 
@@ -212,6 +212,6 @@ pub(crate) fn check_by_team<'a, S: Source, W: Sink, G: Gate + Sync, R: Threads +
     ensures refused { IfErr result (WhyCheckRefused (run_of text.entry.now
         (S.state source.old) (S.state source.new) (W.state out.old) (W.state out.new))) }
 {
-    let dump = read_dump(alloc, source)?;
+    let dump = read_dump_by(rt, alloc, source, team.workers())?;
     check_over(rt, alloc, dump, text, team, size, gate, out)
 }

@@ -22,7 +22,7 @@ use source_files::Origin;
 use std::alloc::{AllocError, Global};
 use std::sync::Wait;
 use std::thread::Threads;
-use vcd_reader::{Dump, read_dump};
+use vcd_reader::{Dump, read_dump_by};
 use verdicts::ReportFault;
 use workers_core::TeamSize;
 
@@ -129,7 +129,7 @@ pub fn explain_one<'a, S: Source, W: Sink, G: Gate + Sync, R: Threads + Wait + S
         (S.state source.old) (S.state source.new) (W.state out.old) (W.state out.new))
         wanted.now) }
 {
-    let dump = read_dump(alloc, source)?;
+    let dump = read_dump_by(rt, alloc, source, team.workers())?;
     let told = text_over(rt, alloc, dump, text, origin, wanted, team, gate)?;
     write_text(out, told.text.as_str())?;
     Ok(told.count)

@@ -22,7 +22,7 @@ use signals::Source;
 use std::alloc::Global;
 use std::sync::Wait;
 use std::thread::Threads;
-use vcd_reader::{Dump, read_dump};
+use vcd_reader::{Dump, read_dump_by};
 use verdicts::Report;
 use workers_core::TeamSize;
 
@@ -84,7 +84,7 @@ fn read_and_report<'a, S: Source, G: Gate + Sync, R: Threads + Wait + Sync>(
     ensures refused { IfErr result (WhyCheckRefused
         (reading_of text.entry.now (S.state source.old) (S.state source.new))) }
 {
-    let dump = read_dump(alloc, source)?;
+    let dump = read_dump_by(rt, alloc, source, team.workers())?;
     report_over(rt, alloc, dump, text, team, size, gate)
 }
 

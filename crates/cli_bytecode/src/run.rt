@@ -18,7 +18,7 @@ use signals::{Sink, Source};
 use std::alloc::Global;
 use std::sync::Wait;
 use std::thread::Threads;
-use vcd_reader::{Dump, read_dump};
+use vcd_reader::{Dump, read_dump_by};
 use verdicts::Report;
 use workers::{Gate, report_run};
 use workers_core::TeamSize;
@@ -58,7 +58,7 @@ fn run_through<S: Source, W: Sink, G: Gate + Sync, R: Threads + Wait + Sync>(
     ensures refused { IfErr result (WhyRunFails (run_of code.now
         (S.state source.old) (S.state source.new) (W.state out.old) (W.state out.new))) }
 {
-    let dump = read_dump(alloc, source)?;
+    let dump = read_dump_by(rt, alloc, source, team.workers())?;
     let report = report_of(rt, alloc, dump, code, team, size, gate)?;
     written(alloc, &report, out)
 }

@@ -1,5 +1,6 @@
 //! The command `check`.
 
+ghost use Rattle.std.specs.Prelude.{IfOk};
 ghost use Rattle.vcd_reader.specs.Dump.{Contents};
 ghost use Rattle.vcd_reader.specs.Held.{HoldsContents};
 
@@ -19,7 +20,7 @@ use std::fs::Files;
 use std::io::{Cursor, Eprint, Print, Read};
 use std::sync::Wait;
 use std::thread::Threads;
-use vcd_reader::{Dump, read_dump, read_dump_by};
+use vcd_reader::{Dump, read_dump_by};
 use workers_core::TeamSize;
 
 /// By how many workers, and through windows of how many clocks.
@@ -145,8 +146,21 @@ fn judge_over<'a, R: Files + Print + AllocGlobal + Threads + Wait + Sync>(
     print_report(rt, &asked.files, &from, refused, &made.timed.report)
 }
 
-/// Reads a dump, and judges a text over it, as [`judge_over`] does. Windows and workers out of
+/// Reads a dump by as many threads at most as the team has workers. Windows and workers out of
 /// their range are refused before anything is read.
+fn read_by_team<R: AllocGlobal + Threads, D: Read + Drop>(
+    rt: &R,
+    dump: D,
+    team: Team,
+) -> Result<Dump, Fault<'static>>
+    ensures { IfOk result (λ read. (c : Contents) × HoldsContents read c) }
+{
+    let (team, _size) = team.sizes()?;
+    let read = read_dump_by(rt, rt.alloc(), &mut Counted::new(dump), team.workers())?;
+    Ok(read)
+}
+
+/// Reads a dump, and judges a text over it, as [`judge_over`] does.
 fn judge_into_forms<'a, R: Files + Print + AllocGlobal + Threads + Wait + Sync, D: Read + Drop>(
     rt: &R,
     dump: D,
@@ -154,8 +168,7 @@ fn judge_into_forms<'a, R: Files + Print + AllocGlobal + Threads + Wait + Sync, 
     origin: &Origin<'_>,
     asked: &Asked<'_>,
 ) -> Result<[u64; 5], Fault<'a>> {
-    let (team, _size) = asked.team.sizes()?;
-    let dump = read_dump_by(rt, rt.alloc(), &mut Counted::new(dump), team.workers())?;
+    let dump = read_by_team(rt, dump, asked.team)?;
     judge_over(rt, dump, text, origin, asked, &[])
 }
 
@@ -273,9 +286,9 @@ fn serve_sources<R: Files + Print + Eprint + AllocGlobal + Threads + Wait + Sync
     if !asked.keep_going {
         return serve_whole(rt, dump, sources, asked);
     }
-    match read_dump(rt.alloc(), &mut Counted::new(dump)) {
+    match read_by_team(rt, dump, asked.team) {
         Ok(dump) => serve_going(rt, dump, sources, asked),
-        Err(fault) => shown_status(rt, Err(Fault::from(fault))),
+        Err(fault) => shown_status(rt, Err(fault)),
     }
 }
 

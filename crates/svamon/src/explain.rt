@@ -85,11 +85,16 @@ struct Shown {
 }
 
 /// Reads a dump, and what GTKWave calls its variables.
-fn read_shown<D: Read + Drop>(alloc: Global, dump: D) -> Result<Shown, Fault<'static>>
+fn read_shown<R: AllocGlobal + Threads, D: Read + Drop>(
+    rt: &R,
+    dump: D,
+) -> Result<Shown, Fault<'static>>
     ensures { IfOk result (λ s. (c : Contents) × HoldsContents s.dump c) }
 {
-    let (dump, bytes) = read_dump_and_bytes(alloc, &mut Counted::new(dump))?;
-    let waves = Waves::of(alloc, header_in(bytes.as_slice()))?;
+    let threads = team_size()?.workers();
+    let mut dump = Counted::new(dump);
+    let (dump, bytes) = read_dump_and_bytes(rt, rt.alloc(), &mut dump, threads)?;
+    let waves = Waves::of(rt.alloc(), header_in(bytes.as_slice()))?;
     Ok(Shown { dump, waves })
 }
 
@@ -150,7 +155,7 @@ fn explain_to_file<'a, R: Files + Print + AllocGlobal + Threads + Wait + Sync, D
     sources: &'a Sources,
     asked: &ExplainAsked<'_>,
 ) -> Result<u64, Fault<'a>> {
-    let read = read_shown(rt.alloc(), dump)?;
+    let read = read_shown(rt, dump)?;
     explain_shown(rt, read, sources.text.as_str(), &origin_of(sources), asked)
 }
 
@@ -265,7 +270,7 @@ pub(crate) fn explain_sources<
         let added = sources.added.as_slice();
         return shown(rt, added, explain_text(rt, dump, sources, asked));
     }
-    match read_shown(rt.alloc(), dump) {
+    match read_shown(rt, dump) {
         Ok(dump) => explain_going(rt, dump, sources, asked),
         Err(fault) => shown_status(rt, Err(fault)),
     }

@@ -285,10 +285,6 @@ pub applied-change : (n value count now : ℕ) (rest : ℕ → ℕ → Result Ke
     (rest (count + 1) now)
 applied-change n value count now rest h = let t : ltb count most_changes ≡ true = lt-ltb _ _ h in rw (t, add-one) refl
 
-pub applied-back : (time at count now : ℕ) (rest : ℕ → ℕ → Result KeptRest Fault) → time < now
-    → with_item (Timed time at) count now rest ≡ Err (TimeBack at)
-applied-back time at count now rest h = let t : ltb time now ≡ true = lt-ltb _ _ h in rw t refl
-
 pub applied-later : (time at count now : ℕ) (rest : ℕ → ℕ → Result KeptRest Fault) → now < time
     → with_item (Timed time at) count now rest ≡ with_kept_step time (rest count time)
 applied-later time at count now rest h =

@@ -1,4 +1,4 @@
--- Changes whose high parts stand after others.
+-- Changes whose high halves stand after others.
 use Rattle.std.proofs.Common.{◌≡◌, ◌≢◌, ℕ, zero, suc, ◌+◌, ◌-◌, ◌*◌, ◌^◌, ◌<◌, ◌≤◌, false, eqb, List, [], ◌∷◌}
 use Rattle.std.proofs.Common.{◌++◌, length, get_or, map, refl, ap, sym, ◌∙◌, arith, inl, inr}
 use Rattle.std.proofs.lemmas.List.{ext_get_or, get_or-map, get_or-append-add, get_or-set_same, get_or-set_other}
@@ -9,7 +9,7 @@ use Rattle.vcd_reader.specs.declared.step.Change.{Change}
 use Rattle.vcd_reader.specs.declared.step.Step.{Step}
 use Rattle.vcd_reader.specs.Stored.{stored_value, stored_change, stored_step}
 
--- a change without a high part says the same over all of them
+-- a change without a high half says the same over all of them
 pub stored-low : (high other : List ℕ) (c : Change) → c.high ≡ 0 → stored_change high c ≡ stored_change other c
 unfolding stored_change stored_value
 stored-low high other c none = rw none refl
@@ -28,12 +28,6 @@ stored-moved front high c by place long some is =
     rw (old, new, at)
     (ap (λ (v : ℕ). record { code = c.code; value = c.low + 2 ^ 64 * v })
     (get_or-append-add front high (c.high - 1) 0))
-
--- inside a list the default doesn't matter
-pub get_or-any : {X : Type 0} (xs : List X) (i : ℕ) (d e : X) → i < length xs → get_or xs i d ≡ get_or xs i e
-get_or-any [] i d e lt = absurd (omega (arith, lt))
-get_or-any (x ∷ xs) zero d e lt = refl
-get_or-any (x ∷ xs) (suc i) d e lt = get_or-any xs i d e (omega (arith, lt))
 
 module _ {X Y : Type 0} (f g : X → Y) where
   -- of those before a place f is what g was, and of the one there

@@ -38,16 +38,6 @@ unfolding after_steps
 joined-first before now (Ok r) = refl
 joined-first before now (Err f) = refl
 
--- nothing was read yet
-pub nothing-read : (declared : List (List ℕ)) (bytes : List ℕ) (start first : ℕ) → start ≤ length bytes
-    → IsRead [] declared bytes start first [] first [] [] 0 start
-nothing-read declared bytes start first le = record {
-  inside = le;
-  wide = omega arith;
-  few = omega arith;
-  same = λ before more few. let n : before + 0 ≡ before = omega arith in rw n refl;
-}
-
 -- what was read from where another reading stands goes on with it
 pub read-after : (declared : List (List ℕ)) (bytes : List ℕ) (start first : ℕ) (steps : List Step) (now : ℕ)
     (high : List ℕ) (count at : ℕ) (steps' : List Step) (now' : ℕ) (changes' : List Change) (high' : List ℕ)
@@ -77,26 +67,6 @@ read-after declared bytes start first steps now high count at steps' now' change
           ∙ ap (λ (h : List ℕ). joined (map (stored_step h) (steps ++ steps')) now' (map (stored_change h) changes')
           (rest_at declared bytes (before + (count + count')) now' at')) same_high;
     }
-
--- the same, moved to after high parts
-pub read-moved : (front : List ℕ) (declared : List (List ℕ)) (bytes : List ℕ) (start first : ℕ)
-    (steps steps' : List Step) (now : ℕ) (changes changes' : List Change) (high : List ℕ) (count at : ℕ)
-    → ((more : List ℕ) → map (stored_step (front ++ (high ++ more))) steps' ≡ map (stored_step (high ++ more)) steps)
-    → ((more : List ℕ)
-    → map (stored_change (front ++ (high ++ more))) changes' ≡ map (stored_change (high ++ more)) changes)
-    → IsRead [] declared bytes start first steps now changes high count at
-    → IsRead front declared bytes start first steps' now changes' high count at
-read-moved front declared bytes start first steps steps' now changes changes' high count at moved moved' read = record {
-  inside = read.inside;
-  wide = read.wide;
-  few = read.few;
-  same = λ before more few.
-      read.same before more few
-      ∙ ap (λ (ss : List StoredStep). joined ss now (map (stored_change (high ++ more)) changes)
-      (rest_at declared bytes (before + count) now at)) (sym (moved more))
-      ∙ ap (λ (cs : List StoredChange). joined (map (stored_step (front ++ (high ++ more))) steps') now cs
-      (rest_at declared bytes (before + count) now at)) (sym (moved' more));
-}
 
 -- after none, nothing is moved
 pub read-unmoved : (front : List ℕ) (declared : List (List ℕ)) (bytes : List ℕ) (start first : ℕ)
@@ -132,7 +102,7 @@ none-at-end declared bytes count now =
 module _ (declared : List (List ℕ)) (bytes : List ℕ) (start first : ℕ) (steps : List Step) (now : ℕ)
     (changes : List Change) (high : List ℕ) (count at : ℕ)
     (read : IsRead [] declared bytes start first steps now changes high count at) where
-  -- the steps and the open one, over such high parts, before the rest
+  -- the steps and the open one, over such high halves, before the rest
   abbrev with_rest : List ℕ → Result KeptRest Fault → Result (List StoredStep) Fault
   with_rest all rest = joined (map (stored_step all) steps) now (map (stored_change all) changes) rest
 
@@ -238,18 +208,12 @@ read-all declared bytes start first steps now changes high count at steps' s rea
     ++ record { time = n; changes = map (stored_change high) changes } ∷ [])) (sym at_now)
     ∙ ap (λ (ss : List StoredStep). Ok ss) (sym (step-pushed high steps steps' s changes is done))
 
--- a body from its first byte on
-pub from-first : (declared : List (List ℕ)) (bytes : List ℕ) (start : ℕ)
-    → kept_steps (steps_of (body declared (length bytes) 0 0 (tokens_at bytes start)))
-    ≡ steps_from declared bytes 0 0 start
-from-first declared bytes start = joined-none (body declared (length bytes) 0 0 (tokens_at bytes start))
-
 -- what a reading of all of it makes of a body
 pub read-whole : (declared : List (List ℕ)) (bytes : List ℕ) (start start' first : ℕ)
     (made : Result (List StoredStep) Fault) → start' ≡ start → first ≡ 0
     → steps_from declared bytes 0 first start' ≡ made
     → kept_steps (steps_of (body declared (length bytes) 0 0 (tokens_at bytes start))) ≡ made
 read-whole declared bytes start start' first made here zero is =
-    from-first declared bytes start
+    joined-none (body declared (length bytes) 0 0 (tokens_at bytes start))
     ∙ sym (ap (λ (n : ℕ). steps_from declared bytes 0 0 n) here)
     ∙ sym (ap (λ (n : ℕ). steps_from declared bytes 0 n start') zero) ∙ is

@@ -122,34 +122,17 @@ fn read_source<S: Source, B: BodyReader>(
     }
 }
 
-/// The dump that the source gives, read to its end, and the bytes that it gave, for a caller that
-/// tells more of them than the dump does.
-pub fn read_dump_and_bytes<S: Source>(
-    alloc: Global,
-    source: &mut S,
-) -> Result<(Dump, Vec<u8>), VcdFault>
+/// The dump that the source gives, read to its end.
+pub fn read_dump<S: Source>(alloc: Global, source: &mut S) -> Result<Dump, VcdFault>
     // What is accepted is what the grammar says of all the bytes that the source had.
-    ensures accepted { IfOk result (λ r.
-        ReadsAs (S.state source.old).remaining (S.state source.new).remaining r.0) }
-    ensures bytes { IfOk result (λ r.
-        Consumes (S.state source.old).remaining (S.state source.new).remaining r.1.items) }
+    ensures accepted { IfOk result
+        (ReadsAs (S.state source.old).remaining (S.state source.new).remaining) }
     ensures counted { OnOk result
         ((S.state source.new).failures ≡ (S.state source.old).failures) }
     // What is refused has the fault, the first one, or the source failed, or it gave too much.
     ensures refused { IfErr result (Stands (S.state source.old) (S.state source.new)) }
 {
-    read_source(alloc, &OneThread, source)
-}
-
-/// The dump that the source gives, read to its end.
-pub fn read_dump<S: Source>(alloc: Global, source: &mut S) -> Result<Dump, VcdFault>
-    ensures accepted { IfOk result
-        (ReadsAs (S.state source.old).remaining (S.state source.new).remaining) }
-    ensures counted { OnOk result
-        ((S.state source.new).failures ≡ (S.state source.old).failures) }
-    ensures refused { IfErr result (Stands (S.state source.old) (S.state source.new)) }
-{
-    let (dump, _bytes) = read_dump_and_bytes(alloc, source)?;
+    let (dump, _bytes) = read_source(alloc, &OneThread, source)?;
     Ok(dump)
 }
 
@@ -168,6 +151,25 @@ pub fn read_dump_by<S: Source, R: Threads>(
         ((S.state source.new).failures ≡ (S.state source.old).failures) }
     ensures refused { IfErr result (Stands (S.state source.old) (S.state source.new)) }
 {
-    let (dump, _bytes) = read_source(alloc, &ReadingTeam { rt, threads }, source)?;
+    let (dump, _bytes) = read_dump_and_bytes(rt, alloc, source, threads)?;
     Ok(dump)
+}
+
+/// What [`read_dump_by`] gives, and the bytes that the source gave, for a caller that tells more of
+/// them than the dump does.
+pub fn read_dump_and_bytes<S: Source, R: Threads>(
+    rt: &R,
+    alloc: Global,
+    source: &mut S,
+    threads: usize,
+) -> Result<(Dump, Vec<u8>), VcdFault>
+    ensures accepted { IfOk result (λ r.
+        ReadsAs (S.state source.old).remaining (S.state source.new).remaining r.0) }
+    ensures bytes { IfOk result (λ r.
+        Consumes (S.state source.old).remaining (S.state source.new).remaining r.1.items) }
+    ensures counted { OnOk result
+        ((S.state source.new).failures ≡ (S.state source.old).failures) }
+    ensures refused { IfErr result (Stands (S.state source.old) (S.state source.new)) }
+{
+    read_source(alloc, &ReadingTeam { rt, threads }, source)
 }

@@ -11,7 +11,7 @@ returns-in_err-told-clause-refused g c =
     let read = c.in_ok-dump.ensures.accepted in
     let out = g.W.Sink.state c.args.out.now in
     let r =
-    run_of c.args.text.now (g.S.Source.state c.args.source.now) (g.S.Source.state c.read_dump.new.source) out out in
+    run_of c.args.text.now (g.S.Source.state c.args.source.now) (g.S.Source.state c.read_dump_by.new.source) out out in
     let fault = c.in_err-told.field-0.0 in
     err_is c.from_residual-in_err-told.result fault (WhyExplainRefused r c.args.wanted.now)
     c.from_residual-in_err-told.ensures.1
@@ -24,7 +24,7 @@ returns-in_err-write_text-clause-refused g c =
     let before = g.W.Sink.state c.args.out.now in
     let after = g.W.Sink.state c.write_text.new.out in
     let r =
-    run_of c.args.text.now (g.S.Source.state c.args.source.now) (g.S.Source.state c.read_dump.new.source) before
+    run_of c.args.text.now (g.S.Source.state c.args.source.now) (g.S.Source.state c.read_dump_by.new.source) before
     after in
     let told = c.in_ok-told.told in
     let fault = c.in_err-write_text.field-0.0 in

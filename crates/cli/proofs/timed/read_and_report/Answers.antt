@@ -28,7 +28,7 @@ pub returns-clause-refused : goal.returns-clause-refused
 returns-clause-refused g c =
     let read = c.in_ok-dump.ensures.accepted in
     let r =
-    reading_of c.args.text.now (g.S.Source.state c.args.source.now) (g.S.Source.state c.read_dump.new.source) in
+    reading_of c.args.text.now (g.S.Source.state c.args.source.now) (g.S.Source.state c.read_dump_by.new.source) in
     IfErr-weaker c.report_over.result _ _
     (refused_check r read.0 read.1 c.in_ok-dump.ensures.counted (record { held = refl; counted = refl }))
     (c.report_over.ensures.err read.0 read.2)

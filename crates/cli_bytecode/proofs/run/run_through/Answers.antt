@@ -11,7 +11,7 @@ pub returns-in_err-report-clause-refused : goal.returns-in_err-report-clause-ref
 returns-in_err-report-clause-refused g c =
     let read = c.in_ok-dump.ensures.accepted in
     let before = g.S.Source.state c.args.source.now in
-    let after = g.S.Source.state c.read_dump.new.source in
+    let after = g.S.Source.state c.read_dump_by.new.source in
     let held = g.W.Sink.state c.args.out.now in
     let r = run_of c.args.code.now before after held held in
     let fault = c.in_err-report.field-0.0 in
@@ -25,7 +25,7 @@ returns-clause-answered g c =
     let read = c.in_ok-dump.ensures.accepted in
     let r =
     run_of c.args.code.now (g.S.Source.state c.args.source.now)
-    (g.S.Source.state c.read_dump.new.source) (g.W.Sink.state c.args.out.now)
+    (g.S.Source.state c.read_dump_by.new.source) (g.W.Sink.state c.args.out.now)
     (g.W.Sink.state c.written.new.out) in
     answered r (data_of c.in_ok-report.report) read.1.0 read.1.1 (record {
       few = read.1.1.few;
@@ -40,7 +40,7 @@ returns-clause-refused g c =
     let read = c.in_ok-dump.ensures.accepted in
     let r =
     run_of c.args.code.now (g.S.Source.state c.args.source.now)
-    (g.S.Source.state c.read_dump.new.source) (g.W.Sink.state c.args.out.now)
+    (g.S.Source.state c.read_dump_by.new.source) (g.W.Sink.state c.args.out.now)
     (g.W.Sink.state c.written.new.out) in
     cut r (data_of c.in_ok-report.report) read.1.0 read.1.1 (record {
       few = read.1.1.few;

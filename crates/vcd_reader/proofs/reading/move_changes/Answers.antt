@@ -1,7 +1,8 @@
 use Rattle.std.proofs.Common.{[], ◌<◌, ◌++◌, ◌∙◌, length, get_or, refl, ap, arith}
+use Rattle.std.proofs.lemmas.List.{get_or_default}
 use Rattle.vcd_reader.specs.declared.step.Change.{Change}
 use Rattle.vcd_reader.specs.Stored.{stored_change}
-use Rattle.vcd_reader.proofs.MoveLaws.{stored-low, stored-moved, get_or-any, and-this, more-moved, others-stay}
+use Rattle.vcd_reader.proofs.MoveLaws.{stored-low, stored-moved, and-this, more-moved, others-stay}
 use Rattle.vcd_reader.proofs.MoveLaws.{all-moved}
 use Rattle.vcd_reader.proofs.reading.move_changes.Goals as goal
 
@@ -21,7 +22,7 @@ loop-place-preserved-then-change-eq0 c = record {
       (c.loop-place.invariant.moved front high long)
       (λ d.
       stored-low (front ++ high) high (get_or now n d)
-      (ap (λ (x : Change). x.high) (get_or-any now n d _ inside) ∙ c.if-change-eq0.true)
+      (ap (λ (x : Change). x.high) (get_or_default now n d _ inside) ∙ c.if-change-eq0.true)
       ∙ ap (stored_change high) (c.loop-place.invariant.rest n d (omega arith)));
   rest = λ i d le. c.loop-place.invariant.rest i d (omega (arith, le));
 }
@@ -38,7 +39,7 @@ loop-place-preserved c =
           (λ d.
           stored-moved front high _ c.args.by c.in-Some.high long c.if-change-eq0.false c.in-Some.ensures.1
           ∙ ap (stored_change high)
-          (get_or-any now n _ d inside ∙ c.loop-place.invariant.rest n d (omega arith)));
+          (get_or_default now n _ d inside ∙ c.loop-place.invariant.rest n d (omega arith)));
       rest = others-stay (stored_change []) (stored_change []) c.args.changes.now now n _ c.loop-place.invariant.rest;
     }
 

@@ -1,10 +1,11 @@
 use Rattle.std.proofs.Common.{[], ◌≡◌, ◌<◌, ◌++◌, ◌∙◌, List, length, get_or, map, refl, ap, arith}
 use Rattle.std.specs.Vec.{with_items}
 use Rattle.std.proofs.lemmas.List.{with_items_is}
+use Rattle.std.proofs.lemmas.List.{get_or_default}
 use Rattle.vcd_reader.specs.declared.step.Step.{Step}
 use Rattle.vcd_reader.specs.declared.step.Change.{Change}
 use Rattle.vcd_reader.specs.Stored.{stored_change, stored_step}
-use Rattle.vcd_reader.proofs.MoveLaws.{step-moved, get_or-any, more-moved, others-stay, all-moved}
+use Rattle.vcd_reader.proofs.MoveLaws.{step-moved, more-moved, others-stay, all-moved}
 use Rattle.vcd_reader.proofs.reading.move_steps.Goals as goal
 
 pub loop-place-init : goal.loop-place-init
@@ -34,7 +35,7 @@ loop-place-preserved c =
           (ap (map (stored_change (front ++ high))) refilled
           ∙ c.if-not-move_changes.ensures.moved refl front high is ∙ ap (map (stored_change high)) changes)
           ∙ ap (stored_step high)
-          (get_or-any now n _ d inside ∙ c.loop-place.invariant.rest n d (omega arith)));
+          (get_or_default now n _ d inside ∙ c.loop-place.invariant.rest n d (omega arith)));
       rest = others-stay (stored_step []) (stored_step []) c.args.steps.now now n new c.loop-place.invariant.rest;
     }
 
