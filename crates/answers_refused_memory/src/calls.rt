@@ -14,7 +14,7 @@ use vcd_reader::{VcdFault, read_dump};
 use verdicts::{Report, write_report};
 use verifier::{Verified, verify};
 use workers::run;
-use workers_core::Job;
+use workers_core::{Job, RunFault};
 
 /// Three ticks, at which x is 1, 0, 1, and y is 0, 1, 0.
 const DUMP: &str = "$scope module top $end\n$var wire 1 ! clk $end\n$var wire 1 x x $end\n\
@@ -144,12 +144,23 @@ fn report_line(alloc: Global, report: &Report) -> Result<String, AllocError> {
     }
 }
 
-/// The report of the job, by two workers.
-pub fn run_job<R: Threads + Wait + Sync + AllocGlobal>(rt: &R) -> Result<String, AllocError> {
+/// The job, made once more where there was no memory for it.
+pub fn job_for_runs(alloc: Global) -> Result<Job, AllocError> {
+    match job(alloc) {
+        Ok(job) => Ok(job),
+        Err(_) => job(alloc),
+    }
+}
+
+/// The report of a job, by two workers.
+pub fn run_job<R: Threads + Wait + Sync + AllocGlobal>(
+    rt: &R,
+    job: &Job,
+) -> Result<String, AllocError> {
     let alloc = rt.alloc();
-    let job = job(alloc)?;
-    match run(rt, alloc, &job, 2, 2, &NoGate) {
+    match run(rt, alloc, job, 2, 2, &NoGate) {
         Ok(report) => report_line(alloc, &report),
-        Err(_) => Err(AllocError),
+        Err(RunFault::Memory) => Err(AllocError),
+        Err(_) => String::from_str(alloc, "another fault"),
     }
 }

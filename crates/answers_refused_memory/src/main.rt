@@ -15,8 +15,9 @@
 //! ```
 //!
 //! The calls are `read_dump`, `check_one`, `judge_one`, `build_one`, `run_code`, the steps of a
-//! core, and `run` with two workers. What they answer is said by their contracts, which stand with
-//! their definitions in `vcd_reader`, `cli`, `cli_bytecode`, `workers_core` and `workers`.
+//! core, and `run` with two workers, twice over the same job. What they answer is said by their
+//! contracts, which stand with their definitions in `vcd_reader`, `cli`, `cli_bytecode`,
+//! `workers_core` and `workers`.
 //!
 //! Not promised: that these are all requests that these calls can make.
 #![tactic(auto)]
@@ -27,6 +28,8 @@ mod steps;
 use std::alloc::AllocError;
 use std::io;
 use std::io::Print;
+use std::sync::Wait;
+use std::thread::Threads;
 
 /// Prints the line of a call's answer.
 fn show<R: Print>(rt: &R, name: &str, answer: Result<String, AllocError>) -> io::Result<()> {
@@ -34,6 +37,18 @@ fn show<R: Print>(rt: &R, name: &str, answer: Result<String, AllocError>) -> io:
         Ok(line) => println!(rt; "{name}: {line}"),
         Err(_) => println!(rt; "out of memory"),
     }
+}
+
+/// Runs one job twice.
+fn show_runs<R: Print + Threads + Wait + Sync + AllocGlobal>(rt: &R) -> io::Result<()> {
+    let job = match calls::job_for_runs(rt.alloc()) {
+        Ok(job) => job,
+        Err(_) => return show(rt, "run", Err(AllocError)),
+    };
+    for _ in 0..2 {
+        show(rt, "run", calls::run_job(rt, &job))?;
+    }
+    Ok(())
 }
 
 fn main(rt: HostRuntime) -> io::Result<()> {
@@ -56,8 +71,5 @@ fn main(rt: HostRuntime) -> io::Result<()> {
     for _ in 0..2 {
         show(&rt, "steps of a core", calls::step(alloc))?;
     }
-    for _ in 0..2 {
-        show(&rt, "run", calls::run_job(&rt))?;
-    }
-    Ok(())
+    show_runs(&rt)
 }

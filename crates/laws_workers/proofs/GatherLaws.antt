@@ -42,12 +42,12 @@ use Rattle.laws_workers.specs.Steps.{owned_from}
 use Rattle.laws_workers.specs.Rounds.{with_done}
 use Rattle.laws_workers.proofs.OwnedLaws.{front, fronted}
 
-put-before : (i x : ℕ) (xs : List ℕ) → i < x → put i (x ∷ xs) ≡ i ∷ x ∷ xs
+pub put-before : (i x : ℕ) (xs : List ℕ) → i < x → put i (x ∷ xs) ≡ i ∷ x ∷ xs
 put-before i x xs lt =
     let yes : nat_lt i x ≡ true = grind (arith, lt) in
     ap (λ (b : Bool). cond b (i ∷ x ∷ xs) (x ∷ put i xs)) yes
 
-put-after : (i x : ℕ) (xs : List ℕ) → x ≤ i → put i (x ∷ xs) ≡ x ∷ put i xs
+pub put-after : (i x : ℕ) (xs : List ℕ) → x ≤ i → put i (x ∷ xs) ≡ x ∷ put i xs
 put-after i x xs le =
     let no : nat_lt i x ≡ false = grind (arith, le) in
     ap (λ (b : Bool). cond b (i ∷ x ∷ xs) (x ∷ put i xs)) no

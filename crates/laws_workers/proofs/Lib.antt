@@ -7,3 +7,5 @@ pub mod MonitorLaws
 pub mod TurnLaws
 pub mod RoundLaws
 pub mod OpeningLaws
+pub mod SourceOrder
+pub mod ThreadLaws

@@ -125,10 +125,10 @@ abbrev AllRise : ℕ → List (List ℕ) → Type 0
 AllRise low lists = (w : ℕ) (xs : List ℕ) → slice_get lists w ≡ Some xs → AreRisingFrom low xs
 
 -- how often a number is there
-abbrev only : ℕ → ℕ → ℕ
+abbrev pub only : ℕ → ℕ → ℕ
 only low x = cond (x == low) 1 0
 
-only-above : (low : ℕ) (xs : List ℕ) → AreRisingFrom (low + 1) xs → total (only low) xs ≡ 0
+pub only-above : (low : ℕ) (xs : List ℕ) → AreRisingFrom (low + 1) xs → total (only low) xs ≡ 0
 only-above low [] h = refl
 only-above low (x ∷ xs) h =
     let no : (x == low) ≡ false = grind (arith, h.0) in
@@ -136,7 +136,7 @@ only-above low (x ∷ xs) h =
     let rest = only-above low xs (rises-low (low + 1) (x + 1) xs (omega (arith, h.0)) h.1) in
     omega (arith, none, rest)
 
-range-rises : (a n : ℕ) → AreRisingFrom a (range_with_len a n)
+pub range-rises : (a n : ℕ) → AreRisingFrom a (range_with_len a n)
 range-rises a zero = tt
 range-rises a (suc n) = (omega arith, range-rises (a + 1) n)
 

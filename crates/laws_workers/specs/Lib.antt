@@ -3,3 +3,4 @@ pub mod Steps
 pub mod Rounds
 pub mod Owners
 pub mod RoundTheorems
+pub mod ThreadRounds

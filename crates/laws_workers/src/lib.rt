@@ -14,26 +14,28 @@
 //! and `Publish`. After it each monitor stands at the window's end, and the board has one batch
 //! more of each, in source order. Before `Gather` each worker's done list is what it owns. "Each
 //! once" is said by weights: whatever each number weighs, the lists weigh together what the
-//! monitors do.
+//! monitors do. What the calls of a round by threads ensure makes that round such a list of steps:
+//! its done lists are what each worker ran, its monitors and batches those of the threads.
 //!
 //! ```text
 //! let mut core = Core::new(alloc, &job, workers, 1024)?;
 //! core.step(alloc, step);       // any steps
 //! headline(&core);              // a contract and no code
 //! round_law();                  // from a state of rest the steps of a round lead to the next one
+//! thread_round_law();           // and so does a round by threads
 //! ```
 //!
 //! The definitions: `specs/Headline.antt` (the sentence), `specs/Steps.antt`, `specs/Rounds.antt`,
-//! `specs/Owners.antt` (rounds), `specs/RoundTheorems.antt`; `workers_core/specs/Following.antt`
+//! `specs/Owners.antt` (rounds), `specs/RoundTheorems.antt`, `specs/ThreadRounds.antt` (rounds by
+//! threads, by the clauses of `workers_rounds`); `workers_core/specs/Following.antt`
 //! (what follows the checked machine) and `States.antt` (steps), `compiler/specs/Programs.antt`,
 //! `assertions/specs/Attempts.antt` (verdicts), `cycle_window/specs/Ticks.antt` (ticks and rows).
 //!
-//! Not promised: that any monitor is ever claimed, what a foreign program means, or anything of
-//! threads, which the crates say that start them.
+//! Not promised: that any monitor is ever claimed, or what a foreign program means.
 #![tactic(auto)]
 
 mod headline_law;
 mod round_laws;
 
 pub use headline_law::headline;
-pub use round_laws::{opening_law, owned_law, owners_law, round_law};
+pub use round_laws::{opening_law, owned_law, owners_law, round_law, thread_round_law};

@@ -2,6 +2,7 @@
 
 ghost use Rattle.laws_workers.specs.RoundTheorems.{RoundsAreSteps, CoresRestAtFirst};
 ghost use Rattle.laws_workers.specs.RoundTheorems.{OwnersAreDealt, DealtHaveOwners};
+ghost use Rattle.laws_workers.specs.ThreadRounds.{ThreadRoundsAreSteps, TakenIsInOrder};
 
 /// A round is a list of the core's steps, whichever workers run the monitors.
 pub fn round_law()
@@ -21,4 +22,11 @@ pub fn owned_law()
 /// Rising lists that together are all monitors, each once, are what some round's workers own.
 pub fn owners_law()
     ensures { DealtHaveOwners }
+{}
+
+/// A round by threads, by what its calls ensure, is a round of the core: its done lists are what
+/// each worker ran, its monitors and batches those that the threads leave.
+pub fn thread_round_law()
+    ensures steps { ThreadRoundsAreSteps }
+    ensures order { TakenIsInOrder }
 {}
