@@ -62,16 +62,17 @@ fn claims_in_order(rt: HostRuntime) -> Result<(), Fail> {
     Ok(())
 }
 
-/// What a worker's round came to: its claims, how many monitors it published, and how many the
-/// bench held at the end.
+/// What a worker's round came to: its claims, how many monitors it published, how many the bench
+/// held at the end, and the tally's totals.
 #[derive(Clone, Copy, PartialEq, Eq)]
 struct Alone {
     claims: u64,
     published: usize,
     rest: usize,
+    totals: [u64; 4],
 }
 
-/// The round of one worker, through the empty window before the first clock.
+/// The round of one worker, through the first window.
 fn round_alone<L: Tallying>(
     rt: &impl Wait,
     alloc: Global,
@@ -82,9 +83,13 @@ fn round_alone<L: Tallying>(
     requires parts { HaveParts 1 blanks }
     requires names { HaveNames L.holds L.vacuous L.fails L.disabled blanks }
 {
-    let Ok(window) = window_of(alloc, job, WindowSize::usual()) else {
+    let Ok(mut window) = window_of(alloc, job, WindowSize::usual()) else {
         return Err(AllocError);
     };
+    if job.clocks().len() == 0 {
+        return Err(AllocError);
+    }
+    window.slide(job.dump(), job.clocks());
     let board = Board::new(alloc)?;
     let (tally, mut shares) = Tally::<L>::new(alloc, blanks, 1)?;
     let monitors = first_monitors(alloc, job)?;
@@ -103,14 +108,17 @@ fn round_alone<L: Tallying>(
     let published = worked.published.len();
     passes.push(worked.pass)?;
     let rest = bench.finish(rt, pass, passes);
+    shares.push(worked.share)?;
     Ok(Alone {
         claims,
         published,
         rest: rest.len(),
+        totals: tally.total(rt, shares),
     })
 }
 
-/// A worker claims until the bench is empty.
+/// A worker claims until the bench is empty. Of two monitors each attempt is decided at its tick,
+/// and of the one between them two of three.
 #[test]
 fn worker_leaves_none(rt: HostRuntime) -> Result<(), Fail> {
     let codes = [OVERLAPPED, TWO_POSITIONS, OVERLAPPED];
@@ -120,6 +128,7 @@ fn worker_leaves_none(rt: HostRuntime) -> Result<(), Fail> {
         claims: 3,
         published: 3,
         rest: 0,
+        totals: [1, 3, 4, 0],
     };
     assert!(rt; alone == wanted);
     Ok(())

@@ -1,6 +1,6 @@
 -- What workers added to the tally.
 use Rattle.std.proofs.Common.{◌≡◌, ℕ, zero, suc, ◌+◌, ◌<◌, Bool, List, [], ◌∷◌, ◌++◌, length, get_or, ap, ◌∙◌}
-use Rattle.std.proofs.Common.{arith}
+use Rattle.std.proofs.Common.{arith, slice_index_or, slice_set}
 use Rattle.std.specs.List.{slice_index}
 use Rattle.std.specs.List.Sorted.{IsPermutation}
 use Rattle.std.proofs.lemmas.List.Sums.{sum_by_push, sum_by-append}
@@ -13,6 +13,7 @@ use Rattle.workers_shared.specs.Receipts.{shown_by}
 use Rattle.workers_shared.specs.declared.tally.Share.{Share}
 use Rattle.workers_shared.specs.Counts.{count_of, counts_of}
 use Rattle.workers_shared.specs.Shares.{amounts, plus}
+use Rattle.workers_shared.specs.Hands.{total}
 use Rattle.workers_shared.specs.declared.bench.Bench.{Bench}
 use Rattle.workers_rounds.specs.declared.crew.Task.{Task}
 use Rattle.workers_rounds.specs.declared.work.Published.{Published}
@@ -73,3 +74,10 @@ pub counts-moved : (is : Verdict → Bool) (ps qs : List Published) → IsPermut
     ≡ published_count is ps
 counts-moved is ps qs m =
     sum_by-IsPermutation (λ (q : Published). count_of is (shown_by q.receipt).decided.items) ps qs m
+
+-- ---- after a change of the first
+
+pub total-first : {X : Type 0} (f : X → ℕ) (xs : List X) (x y : X) → 0 < length xs → x ≡ slice_index_or xs 0 y
+    → total f (slice_set xs 0 y) + f x ≡ total f xs + f y
+total-first f [] x y some is = absurd (omega (arith, some))
+total-first f (z ∷ zs) x y some is = omega (arith, ap f is)

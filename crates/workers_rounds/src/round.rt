@@ -252,7 +252,7 @@ pub fn round<
         mut published,
     } = gathered(alloc, room, &bench, window, board, all)?;
     let rest = bench.finish(rt, pass, passes);
-    let Some(mut last) = members.pop() else {
+    let Some(first) = members.first_mut() else {
         unreachable!()
     };
     run_rest(
@@ -263,11 +263,10 @@ pub fn round<
         board,
         tally,
         gate,
-        &mut last.share,
+        &mut first.share,
         rest,
         &mut published,
     )?;
-    members.push(last)?;
     put_in_order(&mut published);
     Ok((members, published, told))
 }

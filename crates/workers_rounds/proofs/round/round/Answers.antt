@@ -1,17 +1,16 @@
 use Rattle.std.proofs.Common.{◌≡◌, ◌+◌, ap, vec_len, arith, rules}
+use Rattle.std.proofs.lemmas.List.Elements.{All-set}
 use Rattle.std.proofs.lemmas.List.Sorted.{All-permutation}
 use Rattle.crossbeam_queue.specs.Passes.{view}
 use Rattle.workers_shared.specs.declared.passes.Hand.{Hand}
 use Rattle.workers_shared.specs.Hands.{total, numbers}
 use Rattle.workers_shared.specs.Passes.{taken_of}
 use Rattle.workers_rounds.specs.Works.{IsPublished}
-use Rattle.workers_shared.proofs.Keeps.{all_popped, all_pushed}
 use Rattle.workers_rounds.specs.Runs.{published_numbers, upto, IsMember}
 use Rattle.workers_rounds.specs.declared.round.Member.{Member}
 use Rattle.workers_rounds.specs.Works.{published_count}
-use Rattle.workers_rounds.specs.Adding.{is_of_kind, amount_of, added_by, added_by_tasks, added_by_worked, kind_counted}
-use Rattle.workers_shared.proofs.Keeps.{total_push}
-use Rattle.workers_rounds.proofs.Added.{works-add, counts-moved}
+use Rattle.workers_rounds.specs.Adding.{is_of_kind, amount_of, added_by_tasks, added_by_worked, kind_counted}
+use Rattle.workers_rounds.proofs.Added.{works-add, counts-moved, total-first}
 use Rattle.workers_rounds.proofs.Orders.{ends_all, ordered, moved}
 use Rattle.workers_rounds.proofs.round.round.Goals as goal
 
@@ -53,10 +52,9 @@ returns-clause-published g c =
 
 pub returns-clause-members : goal.returns-clause-members
 returns-clause-members g c =
-    let was = c.in_ok-passes.ensures.members in
-    let popped = all_popped IsMember _ _ c.in-Some.last c.in-Some.ensures.items was.1 in (
+    let was = c.in_ok-passes.ensures.members in (
       search rules,
-      all_pushed IsMember _ _ _ c.in_ok-push.ensures.items popped.0 c.run_rest.ensures.part,
+      All-set IsMember c.in_ok-passes.field-0.members.items 0 _ c.run_rest.ensures.part was.1,
     )
 
 pub returns-clause-added : goal.returns-clause-added
@@ -70,12 +68,11 @@ returns-clause-added g c = λ k.
     c.in_ok-all.all.items c.in_ok-all.ensures.count c.in_ok-all.ensures.each in
     let back = c.in_ok-passes.ensures.added k in
     let counted = c.in_ok-passes.ensures.counted k in
-    let popped : added_by k c.in_ok-passes.field-0.members.items
-    ≡ added_by k c.pop.new.self.items + amount_of k c.in-Some.last.share =
-    total_push one _ _ _ c.in-Some.ensures.items in
-    let pushed : added_by k c.push.new.self.items
-    ≡ added_by k c.pop.new.self.items + amount_of k c.run_rest.new.share =
-    total_push one _ _ _ c.in_ok-push.ensures.items in
+    let first : Member g.row.L.Denot =
+    record { share = c.run_rest.new.share; claims = c.in-Some.first.now.claims } in
+    let there = c.in-Some.ensures.item.3 in
+    let changed = total-first one c.in_ok-passes.field-0.members.items c.in-Some.first.now first there.0
+    (there.1 first) in
     let rest = c.in_ok-run_rest.ensures.added k in
     let same : published_count is c.put_in_order.new.published.items
     ≡ published_count is c.run_rest.new.published.items = counts-moved is _ _ c.put_in_order.ensures.moved in
