@@ -62,14 +62,13 @@ fn claims_in_order(rt: HostRuntime) -> Result<(), Fail> {
     Ok(())
 }
 
-/// What a worker's round came to: its claims, how many monitors it published, how many the bench
-/// held at the end, and the tally's totals.
+/// What a worker's round came to: its claims, how many monitors it published, and how many the
+/// bench held at the end.
 #[derive(Clone, Copy, PartialEq, Eq)]
 struct Alone {
     claims: u64,
     published: usize,
     rest: usize,
-    totals: [u64; 4],
 }
 
 /// The round of one worker, through the first window.
@@ -108,17 +107,14 @@ fn round_alone<L: Tallying>(
     let published = worked.published.len();
     passes.push(worked.pass)?;
     let rest = bench.finish(rt, pass, passes);
-    shares.push(worked.share)?;
     Ok(Alone {
         claims,
         published,
         rest: rest.len(),
-        totals: tally.total(rt, shares),
     })
 }
 
-/// A worker claims until the bench is empty. Of two monitors each attempt is decided at its tick,
-/// and of the one between them two of three.
+/// A worker claims until the bench is empty.
 #[test]
 fn worker_leaves_none(rt: HostRuntime) -> Result<(), Fail> {
     let codes = [OVERLAPPED, TWO_POSITIONS, OVERLAPPED];
@@ -128,7 +124,6 @@ fn worker_leaves_none(rt: HostRuntime) -> Result<(), Fail> {
         claims: 3,
         published: 3,
         rest: 0,
-        totals: [1, 3, 4, 0],
     };
     assert!(rt; alone == wanted);
     Ok(())
