@@ -45,6 +45,11 @@ fn rule_of(stack: &mut Vec<Expr>) -> Result<Option<Rule>> {
     Ok(Some(Rule { when, by }))
 }
 
+/// Puts a value in the place of another, which is let go by one call.
+fn set<T: Drop>(place: &mut T, value: T) {
+    *place = value;
+}
+
 /// Gives a counter a clause of what stands on the stack, or applies an operator there.
 fn add_clause(
     alloc: Global,
@@ -53,10 +58,10 @@ fn add_clause(
     word: &str,
 ) -> Result<()> {
     match word {
-        "clear" => counter.clear = Some(words::pop(stack)?),
-        "load" => counter.load = rule_of(stack)?,
-        "add" => counter.add = rule_of(stack)?,
-        "sub" => counter.sub = rule_of(stack)?,
+        "clear" => set(&mut counter.clear, Some(words::pop(stack)?)),
+        "load" => set(&mut counter.load, rule_of(stack)?),
+        "add" => set(&mut counter.add, rule_of(stack)?),
+        "sub" => set(&mut counter.sub, rule_of(stack)?),
         _ => words::apply(alloc, stack, word)?,
     }
     Ok(())
