@@ -59,8 +59,11 @@ fn is_spelled(alloc: Global, program: &Program, bytes: &[u8]) -> Result<bool> {
 
 /// Whether a program and its copy are written as these bytes.
 fn is_kept(alloc: Global, program: &Program, bytes: &[u8]) -> Result<bool> {
+    if !is_spelled(alloc, program, bytes)? {
+        return Ok(false);
+    }
     let copied = program.copy(alloc)?;
-    Ok(is_spelled(alloc, program, bytes)? && is_spelled(alloc, &copied, bytes)?)
+    is_spelled(alloc, &copied, bytes)
 }
 
 /// Whether these are the bytes of a file, but for the version, which is 2.
@@ -71,25 +74,32 @@ fn is_in_version_2(upgraded: &[u8], bytes: &[u8]) -> bool {
     upgraded[4] == 2 && upgraded[..4] == bytes[..4] && upgraded[5..] == bytes[5..]
 }
 
-/// What the bytes of a program are, which are these when upgraded; with all that it holds where it
-/// is to be listed.
-fn answer_upgraded(
-    alloc: Global,
-    bytes: &[u8],
-    upgraded: &[u8],
-    is_listed: bool,
-) -> Result<String> {
-    let program = match decode(alloc, bytes) {
-        Ok(program) => program,
-        Err(fault) => return Ok(format!(in alloc; "{fault}")?),
-    };
-    if !is_in_version_2(upgraded, bytes) || !is_kept(alloc, &program, upgraded)? {
+/// What is told of a program that is written as these bytes in version 2; with all that it holds
+/// where it is to be listed.
+fn told(alloc: Global, program: &Program, upgraded: &[u8], is_listed: bool) -> Result<String> {
+    if !is_kept(alloc, program, upgraded)? {
         return Ok(String::from_str(alloc, "another spelling")?);
     }
     if is_listed {
         return Ok(format!(in alloc; "{program:?}")?);
     }
     Ok(String::from_str(alloc, "program")?)
+}
+
+/// What the bytes of a program are, which are these when upgraded.
+fn answer_upgraded(
+    alloc: Global,
+    bytes: &[u8],
+    upgraded: &[u8],
+    is_listed: bool,
+) -> Result<String> {
+    if !is_in_version_2(upgraded, bytes) {
+        return Ok(String::from_str(alloc, "another spelling")?);
+    }
+    match decode(alloc, bytes) {
+        Ok(program) => told(alloc, &program, upgraded, is_listed),
+        Err(fault) => Ok(format!(in alloc; "{fault}")?),
+    }
 }
 
 /// What the bytes are, with all that a program holds where it is to be listed.
@@ -118,22 +128,30 @@ fn answers_of(alloc: Global, lines: &str) -> Result<String> {
     Ok(answers)
 }
 
-/// How many microseconds reading and writing a file took.
-fn time_once(rt: &HostRuntime, bytes: &[u8]) -> Result<(u128, u128)> {
+/// How many microseconds writing a program took, as these bytes.
+fn time_written(rt: &HostRuntime, program: &Program, bytes: &[u8]) -> Result<u128> {
     let start = Instant::now(rt)?;
-    let decoded = decode(rt.alloc(), bytes);
-    let read = start.elapsed(rt)?.as_micros();
-    let program = match decoded {
-        Ok(program) => program,
-        Err(fault) => bail!("{fault}"),
-    };
-    let start = Instant::now(rt)?;
-    let spelled = encode(rt.alloc(), &program)?;
+    let spelled = encode(rt.alloc(), program)?;
     let written = start.elapsed(rt)?.as_micros();
     if spelled.as_slice() != bytes {
         bail!("another spelling");
     }
-    Ok((read, written))
+    Ok(written)
+}
+
+/// How many microseconds reading and writing a file took.
+fn time_once(rt: &HostRuntime, bytes: &[u8]) -> Result<(u128, u128)> {
+    let start = Instant::now(rt)?;
+    let decoded = decode(rt.alloc(), bytes);
+    let read = start.elapsed(rt);
+    match decoded {
+        Ok(program) => {
+            let written = time_written(rt, &program, bytes);
+            drop(program);
+            Ok((read?.as_micros(), written?))
+        }
+        Err(fault) => bail!("{fault}"),
+    }
 }
 
 /// Prints the least times of a hundred rounds.
@@ -148,15 +166,17 @@ fn time_file(rt: &HostRuntime, bytes: &[u8]) -> Result<()> {
     Ok(())
 }
 
-fn main(rt: HostRuntime) -> Result<()> {
-    let mut args = env::args(&rt)?;
-    let _name = args.next();
-    if let Some(path) = args.next() {
-        let bytes = fs::read(&rt, path.as_str())?;
-        return time_file(&rt, bytes.as_slice());
-    }
-    let lines = fs::read_to_string(&rt, "cases.txt")?;
+/// Prints what the files of all cases are.
+fn show_cases(rt: &HostRuntime) -> Result<()> {
+    let lines = fs::read_to_string(rt, "cases.txt")?;
     let answers = answers_of(rt.alloc(), lines.as_str())?;
     print!(rt; "{answers}")?;
     Ok(())
+}
+
+fn main(rt: HostRuntime) -> Result<()> {
+    match env::args(&rt)?.nth(1) {
+        Some(path) => time_file(&rt, fs::read(&rt, path.as_str())?.as_slice()),
+        None => show_cases(&rt),
+    }
 }

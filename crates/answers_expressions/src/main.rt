@@ -40,14 +40,14 @@ fn row_of(alloc: Global, line: &str) -> Result<Vec<u128>> {
 
 /// The rule on top: its condition and its number.
 fn rule_of(stack: &mut Vec<Expr>) -> Result<Option<Rule>> {
-    let by = words::pop(stack)?;
-    let when = words::pop(stack)?;
+    let (when, by) = words::pop_two(stack)?;
     Ok(Some(Rule { when, by }))
 }
 
-/// Puts a value in the place of another, which is let go by one call.
-fn set<T: Drop>(place: &mut T, value: T) {
-    *place = value;
+/// Puts a value, if there is one, in the place of another, which is let go by one call.
+fn set<T: Drop>(place: &mut T, value: Result<T>) -> Result<()> {
+    *place = value?;
+    Ok(())
 }
 
 /// Gives a counter a clause of what stands on the stack, or applies an operator there.
@@ -58,11 +58,25 @@ fn add_clause(
     word: &str,
 ) -> Result<()> {
     match word {
-        "clear" => set(&mut counter.clear, Some(words::pop(stack)?)),
-        "load" => set(&mut counter.load, rule_of(stack)?),
-        "add" => set(&mut counter.add, rule_of(stack)?),
-        "sub" => set(&mut counter.sub, rule_of(stack)?),
-        _ => words::apply(alloc, stack, word)?,
+        "clear" => set(&mut counter.clear, words::pop(stack).map(Some)),
+        "load" => set(&mut counter.load, rule_of(stack)),
+        "add" => set(&mut counter.add, rule_of(stack)),
+        "sub" => set(&mut counter.sub, rule_of(stack)),
+        _ => words::apply(alloc, stack, word),
+    }
+}
+
+/// The value, where what was done to it worked. Else it is let go by one call.
+fn made<T: Drop>(value: T, done: Result<()>) -> Result<T> {
+    done?;
+    Ok(value)
+}
+
+/// Gives a counter its clauses.
+fn add_clauses(alloc: Global, counter: &mut Counter, clauses: &str) -> Result<()> {
+    let mut stack = Vec::new(alloc);
+    for word in clauses.split_whitespace() {
+        add_clause(alloc, counter, &mut stack, word)?;
     }
     Ok(())
 }
@@ -81,62 +95,101 @@ fn counter_of(alloc: Global, line: &str) -> Result<Counter> {
         add: None,
         sub: None,
     };
-    let mut stack = Vec::new(alloc);
-    for word in clauses.split_whitespace() {
-        add_clause(alloc, &mut counter, &mut stack, word)?;
+    let added = add_clauses(alloc, &mut counter, clauses);
+    made(counter, added)
+}
+
+/// Adds the words of an expression to a stack.
+fn apply_words(alloc: Global, stack: &mut Vec<Expr>, line: &str) -> Result<()> {
+    for word in line.split(' ') {
+        words::apply(alloc, stack, word)?;
     }
-    Ok(counter)
+    Ok(())
 }
 
 /// The expression that the words make.
 fn expression_of(alloc: Global, line: &str) -> Result<Expr> {
     let mut stack = Vec::new(alloc);
-    for word in line.split(' ') {
-        words::apply(alloc, &mut stack, word)?;
-    }
-    words::pop(&mut stack)
+    let applied = apply_words(alloc, &mut stack, line);
+    words::pop(&mut made(stack, applied)?)
 }
 
 /// Prints the own width and the value at each tick, in a context of so many bits or, where that is
 /// 0, of the own width.
-fn show<R: Print + AllocGlobal>(rt: &R, line: &str, rows: &Rows) -> Result<()> {
-    let (context, words) = line.split_once(' ').context("no expression")?;
-    let expr = expression_of(rt.alloc(), words)?;
+fn show_values<R: Print>(rt: &R, expr: &Expr, context: u8, rows: &Rows) -> Result<()> {
     let own = expr.width();
-    let context = match words::small(context)? {
-        0 => own,
-        context => context,
-    };
+    let context = if context == 0 { own } else { context };
     if context < own || context > 128 {
         bail!("no such context");
     }
     print!(rt; "{own}")?;
     for tick in 0..rows.signals.len() {
-        let bits = value(&expr, rows, tick, context);
+        let bits = value(expr, rows, tick, context);
         print!(rt; " {}", bits.value)?;
     }
     println!(rt; "")?;
     Ok(())
 }
 
-/// Reads the lines of one trace and prints its values.
-fn show_trace<R: Print + AllocGlobal>(rt: &R, text: &str) -> Result<()> {
-    let mut signals = Table::new(rt.alloc());
-    let mut counters = Vec::new(rt.alloc());
-    for line in text.lines() {
-        if let Some(row) = line.strip_prefix("row ") {
-            signals.push(row_of(rt.alloc(), row)?)?;
-        } else if let Some(counter) = line.strip_prefix("counter ") {
-            counters.push(counter_of(rt.alloc(), counter)?)?;
-        }
-    }
-    let rows = count(rt.alloc(), signals, counters.as_slice())?;
+/// Shows an expression after its context.
+fn show<R: Print + AllocGlobal>(rt: &R, line: &str, rows: &Rows) -> Result<()> {
+    let (context, words) = line.split_once(' ').context("no expression")?;
+    let context = words::small(context)?;
+    let expr = expression_of(rt.alloc(), words)?;
+    let shown = show_values(rt, &expr, context, rows);
+    drop(expr);
+    shown
+}
+
+/// Shows the expressions of a trace.
+fn show_expressions<R: Print + AllocGlobal>(rt: &R, text: &str, rows: &Rows) -> Result<()> {
     for line in text.lines() {
         if let Some(expression) = line.strip_prefix("value ") {
-            show(rt, expression, &rows)?;
+            show(rt, expression, rows)?;
         }
     }
     Ok(())
+}
+
+/// The signals' values in the lines of one trace.
+fn signals_of(alloc: Global, text: &str) -> Result<Table<u128>> {
+    let mut signals = Table::new(alloc);
+    for line in text.lines() {
+        if let Some(row) = line.strip_prefix("row ") {
+            signals.push(row_of(alloc, row)?)?;
+        }
+    }
+    Ok(signals)
+}
+
+/// Adds the counters in the lines of one trace.
+fn add_counters(alloc: Global, counters: &mut Vec<Counter>, text: &str) -> Result<()> {
+    for line in text.lines() {
+        if let Some(counter) = line.strip_prefix("counter ") {
+            let counter = counter_of(alloc, counter)?;
+            counters.push(counter)?;
+        }
+    }
+    Ok(())
+}
+
+/// The counters in the lines of one trace.
+fn counters_of(alloc: Global, text: &str) -> Result<Vec<Counter>> {
+    let mut counters = Vec::new(alloc);
+    let added = add_counters(alloc, &mut counters, text);
+    made(counters, added)
+}
+
+/// Reads the lines of one trace and prints its values.
+fn show_trace<R: Print + AllocGlobal>(rt: &R, text: &str) -> Result<()> {
+    let signals = signals_of(rt.alloc(), text);
+    let (signals, counters) = words::both(signals, counters_of(rt.alloc(), text))?;
+    let rows = count(rt.alloc(), signals, counters.as_slice());
+    drop(counters);
+    let rows = rows?;
+    let shown = show_expressions(rt, text, &rows);
+    drop(rows);
+    shown
 }
 
 fn main(rt: HostRuntime) -> Result<()> {

@@ -92,6 +92,17 @@ pub fn pop(stack: &mut Vec<Expr>) -> Result<Expr> {
     stack.pop().context("an operand is missing")
 }
 
+/// Both, where both are there. What one of them holds is let go by one call.
+pub fn both<A: Drop, B: Drop>(first: Result<A>, second: Result<B>) -> Result<(A, B)> {
+    Ok((first?, second?))
+}
+
+/// The two operands on top, of which the upper one is the second.
+pub fn pop_two(stack: &mut Vec<Expr>) -> Result<(Expr, Expr)> {
+    let second = pop(stack);
+    both(pop(stack), second)
+}
+
 /// An operator of one operand.
 #[derive(Clone, Copy)]
 enum One {
@@ -158,6 +169,8 @@ fn made_of_one(alloc: Global, op: One, operand: Expr) -> Result<Expr, AllocError
 /// `{left, right}`
 fn join(alloc: Global, left: Expr, right: Expr) -> Result<Expr> {
     if left.width() > 128 - right.width() {
+        drop(left);
+        drop(right);
         bail!("over 128 bits");
     }
     Ok(left.concat(alloc, right)?)
@@ -185,8 +198,7 @@ fn apply_one(alloc: Global, stack: &mut Vec<Expr>, op: One) -> Result<()> {
 
 /// Applies an operator to the two operands on top, of which the lower one is the first.
 fn apply_two(alloc: Global, stack: &mut Vec<Expr>, op: Two) -> Result<()> {
-    let right = pop(stack)?;
-    let left = pop(stack)?;
+    let (left, right) = pop_two(stack)?;
     let made = made_of_two(alloc, op, left, right)?;
     stack.push(made)?;
     Ok(())
@@ -194,9 +206,8 @@ fn apply_two(alloc: Global, stack: &mut Vec<Expr>, op: Two) -> Result<()> {
 
 /// The choice of the three operands on top.
 fn choose(alloc: Global, stack: &mut Vec<Expr>) -> Result<()> {
-    let second = pop(stack)?;
-    let first = pop(stack)?;
-    let condition = pop(stack)?;
+    let chosen = pop_two(stack);
+    let ((first, second), condition) = both(chosen, pop(stack))?;
     let made = condition.choose(alloc, first, second)?;
     stack.push(made)?;
     Ok(())
@@ -219,23 +230,31 @@ fn name_of(origin: &str, place: &str, width: &str) -> Result<Name> {
     Name::new(origin, place, small(width)?).context("no such width")
 }
 
-/// `WIDTH'VALUE`, or `signal:PLACE:WIDTH` or `counter:PLACE:WIDTH`, and `:HIGH:LOW` after these
-/// for some bits.
-fn leaf(word: &str) -> Result<Expr> {
-    if let Some((width, value)) = word.split_once('\'') {
-        return constant(width, value);
+/// `HIGH:LOW` of a name, where they stand, or all its bits.
+fn part_of(name: Name, bits: Option<&str>) -> Result<Expr> {
+    let Some(bits) = bits else {
+        return Ok(Expr::name(name));
+    };
+    let (high, low) = bits.split_once(':').context("no low bit")?;
+    let part = Slice::new(name, small(high)?, small(low)?);
+    Ok(Expr::slice(part.context("no such bits")?))
+}
+
+/// `signal:PLACE:WIDTH` or `counter:PLACE:WIDTH`, and `:HIGH:LOW` after these for some bits.
+fn named(word: &str) -> Result<Expr> {
+    let (origin, rest) = word.split_once(':').context("no place")?;
+    let (place, rest) = rest.split_once(':').context("no width")?;
+    match rest.split_once(':') {
+        None => part_of(name_of(origin, place, rest)?, None),
+        Some((width, bits)) => part_of(name_of(origin, place, width)?, Some(bits)),
     }
-    let mut fields = word.split(':');
-    let origin = fields.next().context("no origin")?;
-    let place = fields.next().context("no place")?;
-    let name = name_of(origin, place, fields.next().context("no width")?)?;
-    match fields.next() {
-        None => Ok(Expr::name(name)),
-        Some(high) => {
-            let low = fields.next().context("no low bit")?;
-            let part = Slice::new(name, small(high)?, small(low)?);
-            Ok(Expr::slice(part.context("no such bits")?))
-        }
+}
+
+/// A constant, or a name.
+fn leaf(word: &str) -> Result<Expr> {
+    match word.split_once('\'') {
+        Some((width, value)) => constant(width, value),
+        None => named(word),
     }
 }
 

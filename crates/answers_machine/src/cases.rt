@@ -54,10 +54,15 @@ fn show_decided<R: Print + AllocGlobal>(rt: &R, decided: &Decided) -> Result<()>
     Ok(())
 }
 
+/// Runs a clock over a line's row.
+fn run_clock(alloc: Global, run: &mut Run, line: &str) -> Result<()> {
+    let row = row_of(alloc, line)?;
+    run.clock(row.as_slice())
+}
+
 /// Runs a clock, and prints what it came to.
 fn show_clock<R: Print + AllocGlobal>(rt: &R, run: &mut Run, line: &str) -> Result<()> {
-    let row = row_of(rt.alloc(), line)?;
-    run.clock(row.as_slice())?;
+    run_clock(rt.alloc(), run, line)?;
     let spent = run.spent();
     print!(rt; "cost {spent}")?;
     for decided in run.decisions() {

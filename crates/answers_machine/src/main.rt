@@ -33,15 +33,24 @@ use anyhow::{Context, Result};
 use std::io::Read;
 use std::{env, fs};
 
+/// Shows the cases on standard input.
+fn show_cases(rt: &HostRuntime) -> Result<()> {
+    let mut text = String::new(rt.alloc());
+    rt.stdin().read_to_string(&mut text)?;
+    cases::show_cases(rt, text.as_str())
+}
+
+/// Times so many clocks of the program in a file.
+fn time_file(rt: &HostRuntime, path: &str, clocks: Option<&str>) -> Result<()> {
+    let clocks = clocks.context("no number of clocks")?.parse::<u64>()?;
+    let digits = fs::read_to_string(rt, path)?;
+    timing::time_clocks(rt, digits.as_str(), clocks)
+}
+
 fn main(rt: HostRuntime) -> Result<()> {
     let mut args = env::args(&rt)?;
-    let _name = args.next();
-    let Some(path) = args.next() else {
-        let mut text = String::new(rt.alloc());
-        rt.stdin().read_to_string(&mut text)?;
-        return cases::show_cases(&rt, text.as_str());
-    };
-    let clocks = args.next().context("no number of clocks")?;
-    let digits = fs::read_to_string(&rt, path.as_str())?;
-    timing::time_clocks(&rt, digits.as_str(), clocks.as_str().parse::<u64>()?)
+    match args.nth(1) {
+        Some(path) => time_file(&rt, path.as_str(), args.next().as_deref()),
+        None => show_cases(&rt),
+    }
 }

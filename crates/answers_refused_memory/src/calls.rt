@@ -10,7 +10,7 @@ use std::alloc::{AllocError, Global};
 use std::sync::Wait;
 use std::thread::Threads;
 use tests_bytecode::{PROGRAM, told};
-use vcd_reader::{VcdFault, read_dump};
+use vcd_reader::{Dump, VcdFault, read_dump};
 use verdicts::{Report, write_report};
 use verifier::{Verified, verify};
 use workers::run;
@@ -114,15 +114,36 @@ fn verified(alloc: Global) -> Result<Verified, AllocError> {
     }
 }
 
+/// The program twice, where there was memory for both.
+fn push_two(alloc: Global, programs: &mut Vec<Verified>) -> Result<(), AllocError> {
+    for _ in 0..2 {
+        let program = verified(alloc)?;
+        programs.push(program)?;
+    }
+    Ok(())
+}
+
+/// The dump.
+fn dump(alloc: Global) -> Result<Dump, AllocError> {
+    let mut source = Counted::new(DUMP.as_bytes());
+    match read_dump(alloc, &mut source) {
+        Ok(dump) => Ok(dump),
+        Err(_) => Err(AllocError),
+    }
+}
+
+/// The value, where what was done before it worked. Else it is let go by one call.
+fn made<T: Drop>(value: T, done: Result<(), AllocError>) -> Result<T, AllocError> {
+    done?;
+    Ok(value)
+}
+
 /// A job of two monitors.
 fn job(alloc: Global) -> Result<Job, AllocError> {
+    let dump = dump(alloc)?;
     let mut programs = Vec::new(alloc);
-    programs.push(verified(alloc)?)?;
-    programs.push(verified(alloc)?)?;
-    let mut source = Counted::new(DUMP.as_bytes());
-    let Ok(dump) = read_dump(alloc, &mut source) else {
-        return Err(AllocError);
-    };
+    let pushed = push_two(alloc, &mut programs);
+    let (dump, programs) = made((dump, programs), pushed)?;
     match Job::new(alloc, programs, dump, "top.clk") {
         Ok(job) => Ok(job),
         Err(_) => Err(AllocError),
@@ -132,7 +153,9 @@ fn job(alloc: Global) -> Result<Job, AllocError> {
 /// The replies of a core to steps, and its board.
 pub fn step(alloc: Global) -> Result<String, AllocError> {
     let job = job(alloc)?;
-    board_after(alloc, &job)
+    let board = board_after(alloc, &job);
+    drop(job);
+    board
 }
 
 /// The text of a report, on a line.

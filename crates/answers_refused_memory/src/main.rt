@@ -30,6 +30,7 @@ use std::io;
 use std::io::Print;
 use std::sync::Wait;
 use std::thread::Threads;
+use workers_core::Job;
 
 /// Prints the line of a call's answer.
 fn show<R: Print>(rt: &R, name: &str, answer: Result<String, AllocError>) -> io::Result<()> {
@@ -39,37 +40,56 @@ fn show<R: Print>(rt: &R, name: &str, answer: Result<String, AllocError>) -> io:
     }
 }
 
+/// Runs a job twice.
+fn show_two_runs<R: Print + Threads + Wait + Sync + AllocGlobal>(
+    rt: &R,
+    job: &Job,
+) -> io::Result<()> {
+    for _ in 0..2 {
+        show(rt, "run", calls::run_job(rt, job))?;
+    }
+    Ok(())
+}
+
 /// Runs one job twice.
 fn show_runs<R: Print + Threads + Wait + Sync + AllocGlobal>(rt: &R) -> io::Result<()> {
-    let job = match calls::job_for_runs(rt.alloc()) {
-        Ok(job) => job,
-        Err(_) => return show(rt, "run", Err(AllocError)),
-    };
+    match calls::job_for_runs(rt.alloc()) {
+        Ok(job) => show_two_runs(rt, &job),
+        Err(_) => show(rt, "run", Err(AllocError)),
+    }
+}
+
+/// Reads the dump, and checks and judges the text over it, each twice.
+fn show_reports<R: Print + AllocGlobal>(rt: &R) -> io::Result<()> {
+    let alloc = rt.alloc();
     for _ in 0..2 {
-        show(rt, "run", calls::run_job(rt, &job))?;
+        show(rt, "read_dump", calls::read(alloc))?;
+    }
+    for _ in 0..2 {
+        show(rt, "check_one", calls::check(alloc))?;
+    }
+    for _ in 0..2 {
+        show(rt, "judge_one", calls::judge(alloc))?;
+    }
+    Ok(())
+}
+
+/// Builds and runs the program, and makes the steps of a core, each twice.
+fn show_programs<R: Print + Threads + Wait + Sync + AllocGlobal>(rt: &R) -> io::Result<()> {
+    for _ in 0..2 {
+        show(rt, "build_one", calls::build(rt))?;
+    }
+    for _ in 0..2 {
+        show(rt, "run_code", calls::run_program(rt))?;
+    }
+    for _ in 0..2 {
+        show(rt, "steps of a core", calls::step(rt.alloc()))?;
     }
     Ok(())
 }
 
 fn main(rt: HostRuntime) -> io::Result<()> {
-    let alloc = rt.alloc();
-    for _ in 0..2 {
-        show(&rt, "read_dump", calls::read(alloc))?;
-    }
-    for _ in 0..2 {
-        show(&rt, "check_one", calls::check(alloc))?;
-    }
-    for _ in 0..2 {
-        show(&rt, "judge_one", calls::judge(alloc))?;
-    }
-    for _ in 0..2 {
-        show(&rt, "build_one", calls::build(&rt))?;
-    }
-    for _ in 0..2 {
-        show(&rt, "run_code", calls::run_program(&rt))?;
-    }
-    for _ in 0..2 {
-        show(&rt, "steps of a core", calls::step(alloc))?;
-    }
+    show_reports(&rt)?;
+    show_programs(&rt)?;
     show_runs(&rt)
 }

@@ -58,17 +58,26 @@ fn push_batch(line: &mut String, batch: &Batch) -> Result<(), AllocError> {
     )
 }
 
-/// The replies to the steps, and the batches on the board.
-pub fn board_after(alloc: Global, job: &Job) -> Result<String, AllocError> {
-    let Ok(mut core) = Core::new(alloc, job, 1, 2) else {
-        return Err(AllocError);
-    };
+/// The replies of a core to the steps, and the batches on its board.
+fn board_of(alloc: Global, core: &mut Core<'_>) -> Result<String, AllocError> {
     let mut line = String::with_capacity(alloc, 200)?;
     for step in STEPS {
-        line.push_str(letter(reply(alloc, &mut core, step)))?;
+        line.push_str(letter(reply(alloc, core, step)))?;
     }
     for batch in core.board() {
         push_batch(&mut line, batch)?;
     }
     Ok(line)
+}
+
+/// The same of a job's core.
+pub fn board_after(alloc: Global, job: &Job) -> Result<String, AllocError> {
+    match Core::new(alloc, job, 1, 2) {
+        Ok(mut core) => {
+            let board = board_of(alloc, &mut core);
+            drop(core);
+            board
+        }
+        Err(_) => Err(AllocError),
+    }
 }

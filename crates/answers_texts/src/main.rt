@@ -25,7 +25,7 @@
 mod roots;
 
 use anyhow::Result;
-use lexer::{LexFault, lex};
+use lexer::{LexFault, Token, lex};
 use parser::{ParseFault, parse};
 use roots::root_of_file;
 use std::alloc::Global;
@@ -60,10 +60,9 @@ fn verdict(alloc: Global, text: &str) -> Result<String> {
     }
 }
 
-/// What stands at the root of an assertion of the text, or its fault.
-fn root_line(alloc: Global, asserted: &str) -> Result<String> {
-    let text = format!(in alloc; "assert property (@(posedge c) {asserted});")?;
-    let tokens = match lex(alloc, text.as_str()) {
+/// What stands at the root of the assertion of a text, or its fault.
+fn root_in(alloc: Global, text: &str) -> Result<String> {
+    let tokens = match lex(alloc, text) {
         Ok(tokens) => tokens,
         Err(fault) => return lex_line(alloc, fault),
     };
@@ -76,47 +75,64 @@ fn root_line(alloc: Global, asserted: &str) -> Result<String> {
     }
 }
 
+/// What stands at the root of what is asserted, or the fault of its text.
+fn root_line(alloc: Global, asserted: &str) -> Result<String> {
+    let text = format!(in alloc; "assert property (@(posedge c) {asserted});")?;
+    root_in(alloc, text.as_str())
+}
+
+/// Reads a text's tokens; how long that took, how many they are, and what they are.
+fn time_tokens(rt: &HostRuntime, tokens: &[Token<'_>]) -> Result<String> {
+    let start = Instant::now(rt)?;
+    let fault = parse(rt.alloc(), tokens).err();
+    let took = start.elapsed(rt)?.as_micros();
+    let read = match fault {
+        None => String::from_str(rt.alloc(), "read")?,
+        Some(fault) => parse_line(rt.alloc(), fault)?,
+    };
+    Ok(format!(in rt.alloc(); "parse {took} us tokens {} {read}", tokens.len())?)
+}
+
 /// Cuts and reads a text, and prints how long each took.
 fn time_text(rt: &HostRuntime, text: &str) -> Result<()> {
     let start = Instant::now(rt)?;
-    let tokens = match lex(rt.alloc(), text) {
-        Ok(tokens) => tokens,
-        Err(fault) => {
-            let cut = start.elapsed(rt)?.as_micros();
-            println!(rt; "lex {cut} us {fault}")?;
-            return Ok(());
-        }
+    let tokens = lex(rt.alloc(), text);
+    let cut = start.elapsed(rt);
+    let told = match tokens {
+        Ok(tokens) => time_tokens(rt, tokens.as_slice()),
+        Err(fault) => lex_line(rt.alloc(), fault),
     };
-    let cut = start.elapsed(rt)?.as_micros();
-    let start = Instant::now(rt)?;
-    let read = match parse(rt.alloc(), tokens.as_slice()) {
-        Ok(_) => String::from_str(rt.alloc(), "read")?,
-        Err(fault) => parse_line(rt.alloc(), fault)?,
-    };
-    let took = start.elapsed(rt)?.as_micros();
-    let count = tokens.len();
-    println!(rt; "lex {cut} us parse {took} us tokens {count} {read}")?;
+    println!(rt; "lex {} us {}", cut?.as_micros(), told?)?;
     Ok(())
 }
 
-fn main(rt: HostRuntime) -> Result<()> {
-    let mut args = env::args(&rt)?;
-    let _name = args.next();
-    if let Some(path) = args.next() {
-        let text = fs::read_to_string(&rt, path.as_str())?;
-        return time_text(&rt, text.as_str());
-    }
-    let texts = fs::read_to_string(&rt, "texts.txt")?;
+/// Prints what the texts of a file are.
+fn show_texts(rt: &HostRuntime) -> Result<()> {
+    let texts = fs::read_to_string(rt, "texts.txt")?;
     let mut number = 0u64;
     for text in texts.lines() {
         number = number.saturating_add(1);
         let verdict = verdict(rt.alloc(), text)?;
         println!(rt; "{number} {verdict}")?;
     }
-    let texts = fs::read_to_string(&rt, "roots.txt")?;
+    Ok(())
+}
+
+/// Prints what stands at the roots of what a file's lines assert.
+fn show_roots(rt: &HostRuntime) -> Result<()> {
+    let texts = fs::read_to_string(rt, "roots.txt")?;
     for text in texts.lines() {
         let root = root_line(rt.alloc(), text)?;
         println!(rt; "root {root}")?;
     }
     Ok(())
+}
+
+fn main(rt: HostRuntime) -> Result<()> {
+    if let Some(path) = env::args(&rt)?.nth(1) {
+        let text = fs::read_to_string(&rt, path.as_str())?;
+        return time_text(&rt, text.as_str());
+    }
+    show_texts(&rt)?;
+    show_roots(&rt)
 }

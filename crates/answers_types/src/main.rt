@@ -21,6 +21,8 @@
 //! Not promised: which of several faults of one kind is told but the one at the lowest byte.
 #![tactic(auto)]
 
+ghost use Rattle.std.specs.Prelude.{◌≤◌, IfOk};
+
 mod verdicts;
 
 use anyhow::{Context, Result, bail};
@@ -31,17 +33,37 @@ use std::time::Instant;
 use std::{env, fs};
 use types::{Names, TypeFault, check};
 
+/// A path and its width.
+fn name_of(line: &str) -> Result<(&str, u8)>
+    ensures { IfOk result (λ name. (1 ≤ name.1) × (name.1 ≤ 128)) }
+{
+    let (path, width) = line.split_once(' ').context("a path without a width")?;
+    let Ok(width @ 1..=128) = width.parse::<u8>() else {
+        bail!("no such width");
+    };
+    Ok((path, width))
+}
+
+/// Adds paths with their widths, one a line.
+fn push_names(alloc: Global, names: &mut Names, lines: &str) -> Result<()> {
+    for line in lines.lines() {
+        let (path, width) = name_of(line)?;
+        names.push(alloc, path, width)?;
+    }
+    Ok(())
+}
+
+/// The value, where what was done to it worked. Else it is let go by one call.
+fn made<T: Drop>(value: T, done: Result<()>) -> Result<T> {
+    done?;
+    Ok(value)
+}
+
 /// Paths with their widths, one a line.
 fn names_of(alloc: Global, lines: &str) -> Result<Names> {
     let mut names = Names::new(alloc);
-    for line in lines.lines() {
-        let (path, width) = line.split_once(' ').context("a path without a width")?;
-        let Ok(width @ 1..=128) = width.parse::<u8>() else {
-            bail!("no such width");
-        };
-        names.push(alloc, path, width)?;
-    }
-    Ok(names)
+    let pushed = push_names(alloc, &mut names, lines);
+    made(names, pushed)
 }
 
 /// How many assertions the suite of a file has, or its first fault.
@@ -81,9 +103,9 @@ fn verdict(alloc: Global, names: &Names, text: &str) -> Result<String> {
 fn time_file(rt: &HostRuntime, names: &Names, file: &File) -> Result<()> {
     let start = Instant::now(rt)?;
     let counted = count_of(rt.alloc(), names, file);
-    let took = start.elapsed(rt)?.as_micros();
+    let took = start.elapsed(rt);
     let told = told(rt.alloc(), counted)?;
-    println!(rt; "check {took} us {told}")?;
+    println!(rt; "check {} us {told}", took?.as_micros())?;
     Ok(())
 }
 
@@ -98,23 +120,45 @@ fn time_text(rt: &HostRuntime, names: &Names, text: &str) -> Result<()> {
     time_file(rt, names, &file)
 }
 
-fn main(rt: HostRuntime) -> Result<()> {
-    let mut args = env::args(&rt)?;
-    let _name = args.next();
-    if let Some(path) = args.next() {
-        let lines = fs::read_to_string(&rt, path.as_str())?;
-        let names = names_of(rt.alloc(), lines.as_str())?;
-        let path = args.next().context("no text")?;
-        let text = fs::read_to_string(&rt, path.as_str())?;
-        return time_text(&rt, &names, text.as_str());
-    }
-    let lines = fs::read_to_string(&rt, "names.txt")?;
-    let names = names_of(rt.alloc(), lines.as_str())?;
-    let texts = fs::read_to_string(&rt, "suites.txt")?;
+/// The names in a file.
+fn names_in(rt: &HostRuntime, path: &str) -> Result<Names> {
+    let lines = fs::read_to_string(rt, path)?;
+    names_of(rt.alloc(), lines.as_str())
+}
+
+/// Prints what the texts of a file come to.
+fn show_suites(rt: &HostRuntime, names: &Names) -> Result<()> {
+    let texts = fs::read_to_string(rt, "suites.txt")?;
     for text in texts.lines() {
-        let verdict = verdict(rt.alloc(), &names, text)?;
+        let verdict = verdict(rt.alloc(), names, text)?;
         println!(rt; "{verdict}")?;
     }
-    let lines = fs::read_to_string(&rt, "verdicts.txt")?;
-    verdicts::show(&rt, lines.as_str())
+    Ok(())
+}
+
+/// Prints the verdicts of a file's lines.
+fn show_verdicts(rt: &HostRuntime) -> Result<()> {
+    let lines = fs::read_to_string(rt, "verdicts.txt")?;
+    verdicts::show(rt, lines.as_str())
+}
+
+/// Times checking the text of one file over the names of another.
+fn time_in(rt: &HostRuntime, names: &Names, text: Option<&str>) -> Result<()> {
+    let text = fs::read_to_string(rt, text.context("no text")?)?;
+    time_text(rt, names, text.as_str())
+}
+
+fn main(rt: HostRuntime) -> Result<()> {
+    let mut args = env::args(&rt)?;
+    if let Some(path) = args.nth(1) {
+        let names = names_in(&rt, path.as_str())?;
+        let timed = time_in(&rt, &names, args.next().as_deref());
+        drop(names);
+        return timed;
+    }
+    let names = names_in(&rt, "names.txt")?;
+    let shown = show_suites(&rt, &names);
+    drop(names);
+    shown?;
+    show_verdicts(&rt)
 }

@@ -5,7 +5,7 @@
 
 use anyhow::{Context, Result, bail};
 use assertions::Suite;
-use expressions::{Table, count};
+use expressions::{Rows, Table, count};
 use judging::judge;
 use lexer::lex;
 use parser::parse;
@@ -46,15 +46,20 @@ fn bit_of(tick: &str, path: &str) -> u128 {
     }
 }
 
+/// The values of a suite's signals at a tick.
+fn row_of(alloc: Global, suite: &Suite, tick: &str) -> Result<Vec<u128>> {
+    let mut row = Vec::new(alloc);
+    for signal in &suite.names {
+        row.push(bit_of(tick, signal.path.as_str()))?;
+    }
+    Ok(row)
+}
+
 /// The values of a suite's signals at the ticks.
 fn signals_of(alloc: Global, suite: &Suite, ticks: &str) -> Result<Table<u128>> {
     let mut signals = Table::new(alloc);
     for tick in ticks.split(' ') {
-        let mut row = Vec::new(alloc);
-        for signal in &suite.names {
-            row.push(bit_of(tick, signal.path.as_str()))?;
-        }
-        signals.push(row)?;
+        signals.push(row_of(alloc, suite, tick)?)?;
     }
     Ok(signals)
 }
@@ -71,25 +76,34 @@ fn told(alloc: Global, verdict: Verdict) -> Result<String> {
     Ok(told)
 }
 
-/// The verdicts on the first assertion of a suite, one a tick.
-fn verdicts_of(alloc: Global, suite: &Suite, ticks: &str) -> Result<String> {
+/// The verdicts on the first assertion of a suite over rows, one a tick.
+fn verdicts_over(alloc: Global, suite: &Suite, rows: &Rows) -> Result<String> {
     let assertion = suite.assertions().first().context("no assertion")?;
-    let signals = signals_of(alloc, suite, ticks)?;
-    let rows = count(alloc, signals, suite.counters.as_slice())?;
     let mut answer = String::new(alloc);
     for tick in 0..rows.signals.len() {
-        let verdict = judge(alloc, assertion, suite, &rows, tick)?;
+        let verdict = judge(alloc, assertion, suite, rows, tick)?;
         answer.push_str(if tick == 0 { "" } else { ", " })?;
         answer.push_str(told(alloc, verdict)?.as_str())?;
     }
     Ok(answer)
 }
 
+/// The verdicts on the first assertion of a suite, one a tick.
+fn verdicts_of(alloc: Global, suite: &Suite, ticks: &str) -> Result<String> {
+    let signals = signals_of(alloc, suite, ticks)?;
+    let rows = count(alloc, signals, suite.counters.as_slice())?;
+    let answer = verdicts_over(alloc, suite, &rows);
+    drop(rows);
+    answer
+}
+
 /// The verdicts of a line.
 fn answer(alloc: Global, line: &str) -> Result<String> {
     let (ticks, property) = line.split_once("; ").context("a line without ticks")?;
     let suite = suite_of(alloc, property)?;
-    verdicts_of(alloc, &suite, ticks)
+    let answer = verdicts_of(alloc, &suite, ticks);
+    drop(suite);
+    answer
 }
 
 /// Prints the verdicts of each line.

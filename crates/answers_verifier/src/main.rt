@@ -26,6 +26,7 @@ use anyhow::{Result, bail};
 use bytecode::{Limits, Program};
 use bytecode_files::{CodeFault, decode, encode, upgrade};
 use std::alloc::Global;
+use std::fmt::Write;
 use std::time::Instant;
 use std::{env, fs};
 use verifier::{LeastLimits, Refusal, Verified, least_limits, verify};
@@ -59,11 +60,10 @@ fn is_same(alloc: Global, verified: &Verified, declared: Limits, bytes: &[u8]) -
 /// Whether a copy says the same as the program of these bytes.
 fn is_copied(alloc: Global, verified: &Verified, declared: Limits, bytes: &[u8]) -> Result<bool> {
     let copied = verified.copy(alloc)?;
-    Ok(
-        is_same(alloc, &copied, declared, bytes)?
-            && copied.least_limits() == verified.least_limits()
-            && copied.lives() == verified.lives(),
-    )
+    if copied.least_limits() != verified.least_limits() || copied.lives() != verified.lives() {
+        return Ok(false);
+    }
+    is_same(alloc, &copied, declared, bytes)
 }
 
 /// The least limits and the lives of a program that was accepted.
@@ -72,9 +72,10 @@ fn accepted_line(alloc: Global, verified: &Verified) -> Result<String> {
     let (history, stack, budget) = (least.history, least.stack, least.budget);
     let (attempts, obligations) = (least.attempts, least.obligations);
     let (antecedent, consequent) = verified.lives();
-    let pools = format!(in alloc; "attempts {attempts} obligations {obligations}")?;
-    let limits = format!(in alloc; "history {history} stack {stack} {pools} budget {budget}")?;
-    Ok(format!(in alloc; "accepted {limits} lives {antecedent} {consequent}")?)
+    let mut line = format!(in alloc; "accepted history {history} stack {stack}")?;
+    write!(line, " attempts {attempts} obligations {obligations}")?;
+    write!(line, " budget {budget} lives {antecedent} {consequent}")?;
+    Ok(line)
 }
 
 /// What is told of a program of these bytes that was accepted.
@@ -142,36 +143,45 @@ fn time_once(rt: &HostRuntime, program: &Program) -> Result<u128> {
     let copied = program.copy(rt.alloc())?;
     let start = Instant::now(rt)?;
     let verified = verify(rt.alloc(), copied);
-    let took = start.elapsed(rt)?.as_micros();
+    let took = start.elapsed(rt);
     match verified {
-        Ok(_) => Ok(took),
+        Ok(verified) => {
+            drop(verified);
+            Ok(took?.as_micros())
+        }
         Err(refusal) => bail!("{refusal}"),
     }
 }
 
 /// Prints the least time of three hundred rounds.
-fn time_file(rt: &HostRuntime, bytes: &[u8]) -> Result<()> {
-    let program = match decode(rt.alloc(), bytes) {
-        Ok(program) => program,
-        Err(fault) => bail!("{fault}"),
-    };
+fn time_program(rt: &HostRuntime, program: &Program) -> Result<()> {
     let mut least = u128::MAX;
     for _ in 0..300 {
-        least = least.min(time_once(rt, &program)?);
+        least = least.min(time_once(rt, program)?);
     }
     println!(rt; "verify {least} us")?;
     Ok(())
 }
 
-fn main(rt: HostRuntime) -> Result<()> {
-    let mut args = env::args(&rt)?;
-    let _name = args.next();
-    if let Some(path) = args.next() {
-        let bytes = fs::read(&rt, path.as_str())?;
-        return time_file(&rt, bytes.as_slice());
+/// The same of the program of a file.
+fn time_file(rt: &HostRuntime, bytes: &[u8]) -> Result<()> {
+    match decode(rt.alloc(), bytes) {
+        Ok(program) => time_program(rt, &program),
+        Err(fault) => bail!("{fault}"),
     }
-    let lines = fs::read_to_string(&rt, "cases.txt")?;
+}
+
+/// Prints what the files of all cases are.
+fn show_cases(rt: &HostRuntime) -> Result<()> {
+    let lines = fs::read_to_string(rt, "cases.txt")?;
     let answers = answers_of(rt.alloc(), lines.as_str())?;
     print!(rt; "{answers}")?;
     Ok(())
+}
+
+fn main(rt: HostRuntime) -> Result<()> {
+    match env::args(&rt)?.nth(1) {
+        Some(path) => time_file(&rt, fs::read(&rt, path.as_str())?.as_slice()),
+        None => show_cases(&rt),
+    }
 }

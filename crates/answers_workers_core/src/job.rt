@@ -6,7 +6,7 @@ use anyhow::{Result, bail};
 use bytecode_files::decode;
 use signals::Counted;
 use std::alloc::Global;
-use vcd_reader::read_dump;
+use vcd_reader::{Dump, read_dump};
 use verifier::{Verified, verify};
 use workers_core::Job;
 
@@ -42,22 +42,41 @@ fn program_of(alloc: Global, digits: &str) -> Result<Verified> {
     }
 }
 
+/// Adds the programs of a job, one a line.
+fn push_programs(alloc: Global, programs: &mut Vec<Verified>, lines: &str) -> Result<()> {
+    for line in lines.lines() {
+        let program = program_of(alloc, line)?;
+        programs.push(program)?;
+    }
+    Ok(())
+}
+
 /// The programs of a job, one a line.
 fn programs_of(alloc: Global, lines: &str) -> Result<Vec<Verified>> {
     let mut programs = Vec::new(alloc);
-    for line in lines.lines() {
-        programs.push(program_of(alloc, line)?)?;
-    }
+    let pushed = push_programs(alloc, &mut programs, lines);
+    let (_, programs) = both(pushed, Ok(programs))?;
     Ok(programs)
+}
+
+/// The dump of a text.
+fn dump_of(alloc: Global, text: &str) -> Result<Dump> {
+    let mut source = Counted::new(text.as_bytes());
+    match read_dump(alloc, &mut source) {
+        Ok(dump) => Ok(dump),
+        Err(_) => bail!("a dump is refused"),
+    }
+}
+
+/// Both, where both are there. What one of them holds is let go by one call.
+fn both<A: Drop, B: Drop>(first: Result<A>, second: Result<B>) -> Result<(A, B)> {
+    Ok((first?, second?))
 }
 
 /// The job of programs over a dump.
 pub fn job_of(alloc: Global, dump: &str, programs: &str) -> Result<Job> {
-    let mut source = Counted::new(dump.as_bytes());
-    let Ok(dump) = read_dump(alloc, &mut source) else {
-        bail!("a dump is refused");
-    };
-    let programs = programs_of(alloc, programs)?;
+    let dump = dump_of(alloc, dump);
+    let (dump, programs) = both(dump, programs_of(alloc, programs))?;
     match Job::new(alloc, programs, dump, "clk") {
         Ok(job) => Ok(job),
         Err(_) => bail!("there is no job"),

@@ -90,24 +90,43 @@ fn board_lines(alloc: Global, core: &Core<'_>) -> Result<String> {
     Ok(lines)
 }
 
-/// Prints what a case came to.
-fn show_case<R: Print + AllocGlobal>(rt: &R, case: &str) -> Result<()> {
-    let (dump, rest) = case.split_once('\x02').context("no programs")?;
-    let (programs, rest) = rest.split_once('\x02').context("no workers")?;
-    let (team, steps) = rest.split_once('\x02').context("no steps")?;
-    let job = job_of(rt.alloc(), dump, programs)?;
-    let steps = steps_of(rt.alloc(), steps)?;
-    let mut core = core_of(rt.alloc(), &job, team)?;
-    let replies = replies(rt.alloc(), &mut core, steps.as_slice())?;
-    let lines = board_lines(rt.alloc(), &core)?;
-    println!(rt; "replies {replies}")?;
-    if steps.len() <= SHORT {
+/// Prints the board of a core: its lines, or their sum after many steps.
+fn show_board<R: Print + AllocGlobal>(rt: &R, core: &Core<'_>, steps: usize) -> Result<()> {
+    let lines = board_lines(rt.alloc(), core)?;
+    if steps <= SHORT {
         print!(rt; "{lines}")?;
     } else {
         let sum = sum_of(lines.as_bytes());
         println!(rt; "batches {} sum {sum:016x}", core.board().len())?;
     }
     Ok(())
+}
+
+/// Makes the steps, and prints the replies and the board.
+fn show_steps<R: Print + AllocGlobal>(rt: &R, core: &mut Core<'_>, steps: &[Step]) -> Result<()> {
+    let replies = replies(rt.alloc(), core, steps)?;
+    println!(rt; "replies {replies}")?;
+    show_board(rt, core, steps.len())
+}
+
+/// Prints what steps of a job's core come to.
+fn show_core<R: Print + AllocGlobal>(rt: &R, job: &Job, team: &str, steps: &str) -> Result<()> {
+    let steps = steps_of(rt.alloc(), steps)?;
+    let mut core = core_of(rt.alloc(), job, team)?;
+    let shown = show_steps(rt, &mut core, steps.as_slice());
+    drop(core);
+    shown
+}
+
+/// Prints what a case came to.
+fn show_case<R: Print + AllocGlobal>(rt: &R, case: &str) -> Result<()> {
+    let (dump, rest) = case.split_once('\x02').context("no programs")?;
+    let (programs, rest) = rest.split_once('\x02').context("no workers")?;
+    let (team, steps) = rest.split_once('\x02').context("no steps")?;
+    let job = job_of(rt.alloc(), dump, programs)?;
+    let shown = show_core(rt, &job, team, steps);
+    drop(job);
+    shown
 }
 
 fn main(rt: HostRuntime) -> Result<()> {

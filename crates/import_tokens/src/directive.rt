@@ -23,24 +23,38 @@ pub(crate) enum Directive {
     Use,
 }
 
+/// Each directive beside its name, with its mark.
+const DIRECTIVES: [(&[u8], Directive); 20] = [
+    (b"`ifdef", Directive::IfDefined),
+    (b"`ifndef", Directive::IfNotDefined),
+    (b"`elsif", Directive::ElseIf),
+    (b"`else", Directive::Else),
+    (b"`endif", Directive::EndIf),
+    (b"`define", Directive::Define),
+    (b"`undef", Directive::Undefine),
+    (b"`undefineall", Directive::UndefineAll),
+    (b"`include", Directive::Include),
+    (b"`default_nettype", Directive::Word),
+    (b"`begin_keywords", Directive::Word),
+    (b"`unconnected_drive", Directive::Word),
+    (b"`timescale", Directive::Line),
+    (b"`line", Directive::Line),
+    (b"`pragma", Directive::Line),
+    (b"`resetall", Directive::Alone),
+    (b"`celldefine", Directive::Alone),
+    (b"`endcelldefine", Directive::Alone),
+    (b"`end_keywords", Directive::Alone),
+    (b"`nounconnected_drive", Directive::Alone),
+];
+
 /// The directive of a name, with its mark.
 pub(crate) fn directive_of(name: &[u8]) -> Directive {
-    match name {
-        b"`ifdef" => Directive::IfDefined,
-        b"`ifndef" => Directive::IfNotDefined,
-        b"`elsif" => Directive::ElseIf,
-        b"`else" => Directive::Else,
-        b"`endif" => Directive::EndIf,
-        b"`define" => Directive::Define,
-        b"`undef" => Directive::Undefine,
-        b"`undefineall" => Directive::UndefineAll,
-        b"`include" => Directive::Include,
-        b"`default_nettype" | b"`begin_keywords" | b"`unconnected_drive" => Directive::Word,
-        b"`timescale" | b"`line" | b"`pragma" => Directive::Line,
-        b"`resetall" | b"`celldefine" | b"`endcelldefine" => Directive::Alone,
-        b"`end_keywords" | b"`nounconnected_drive" => Directive::Alone,
-        _ => Directive::Use,
+    for (word, directive) in &DIRECTIVES {
+        if name == *word {
+            return *directive;
+        }
     }
+    Directive::Use
 }
 
 /// The directive that a piece is, if it is one.

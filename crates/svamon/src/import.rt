@@ -65,6 +65,21 @@ fn show_none<R: Eprint + AllocGlobal>(rt: &R, parts: &[Part]) -> Result<(), Faul
     Ok(())
 }
 
+/// Tells what is refused and noted of the assertions of files.
+fn tell_messages<R: Eprint + AllocGlobal>(
+    rt: &R,
+    parts: &[Part],
+    bound: Option<u8>,
+    all: &Imported,
+) -> Result<(), Fault<'static>> {
+    let told = messages_of(rt.alloc(), parts, bound, all)?;
+    shown_lines(rt, told.as_str());
+    if all.outcomes.is_empty() {
+        show_none(rt, parts)?;
+    }
+    Ok(())
+}
+
 /// The assertions of files, of which is told what is refused and noted; none where a comment has
 /// no end, which is told.
 pub(crate) fn told_import<R: Eprint + AllocGlobal>(
@@ -82,14 +97,13 @@ pub(crate) fn told_import<R: Eprint + AllocGlobal>(
         team.define.as_slice(),
         &reading,
     ) {
-        Ok(all) => {
-            let told = messages_of(rt.alloc(), parts, reading.bound, &all)?;
-            shown_lines(rt, told.as_str());
-            if all.outcomes.is_empty() {
-                show_none(rt, parts)?;
+        Ok(all) => match tell_messages(rt, parts, reading.bound, &all) {
+            Ok(()) => Ok(Some(all)),
+            Err(fault) => {
+                drop(all);
+                Err(fault)
             }
-            Ok(Some(all))
-        }
+        },
         Err(ImportFault::Memory) => Err(Fault::Memory),
         Err(fault) => {
             let line = unread_line(rt.alloc(), parts, fault)?;
@@ -97,6 +111,13 @@ pub(crate) fn told_import<R: Eprint + AllocGlobal>(
             Ok(None)
         }
     }
+}
+
+/// Writes the assertions; the answer is the status.
+fn print_imported<R: Print + AllocGlobal>(rt: &R, all: &Imported) -> Result<u8, Fault<'static>> {
+    let text = text_of(rt.alloc(), all)?;
+    print_bytes(rt, text.as_slice())?;
+    Ok(status_of(all))
 }
 
 /// Reads the files and the header of the dump, and writes the assertions; the answer is the status.
@@ -110,9 +131,9 @@ fn import_sources<R: Files + Print + Eprint + AllocGlobal>(
     let Some(all) = told_import(rt, &sources, team, &signals)? else {
         return Ok(2);
     };
-    let text = text_of(rt.alloc(), &all)?;
-    print_bytes(rt, text.as_slice())?;
-    Ok(status_of(&all))
+    let status = print_imported(rt, &all);
+    drop(all);
+    status
 }
 
 /// Writes the assertions of SystemVerilog files as a text, and answers the status: 0 where none is

@@ -36,6 +36,22 @@ fn judged_text(
     Ok(Some(sources))
 }
 
+/// The front of a dump, and the text in place of a team's files, whose assertions these are.
+fn front_of(
+    alloc: Global,
+    head: Vec<u8>,
+    sources: Sources,
+    imported: &Imported,
+) -> Result<TeamFront, Fault<'static>> {
+    let sources = judged_text(alloc, sources, imported)?;
+    let is_whole = status_of(imported) == 0;
+    Ok(TeamFront {
+        head,
+        sources,
+        is_whole,
+    })
+}
+
 /// Reads a team's files, then the header of a dump, and tells what is refused and noted.
 pub(crate) fn read_team<R: Files + Eprint + AllocGlobal, D: Read>(
     rt: &R,
@@ -52,12 +68,9 @@ pub(crate) fn read_team<R: Files + Eprint + AllocGlobal, D: Read>(
             is_whole: false,
         });
     };
-    let is_whole = status_of(&imported) == 0;
-    Ok(TeamFront {
-        head,
-        sources: judged_text(rt.alloc(), sources, &imported)?,
-        is_whole,
-    })
+    let front = front_of(rt.alloc(), head, sources, &imported);
+    drop(imported);
+    front
 }
 
 /// The status of a command over what is written of a team's files: 2 where the rest is refused, and

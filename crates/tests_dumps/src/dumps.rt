@@ -55,6 +55,17 @@ fn steps_of(alloc: Global, text: &str) -> Result<usize, Fail> {
     Ok(dump.steps().len())
 }
 
+/// Adds the rows of a window, one after the other.
+fn push_rows(alloc: Global, window: &Window<'_>, values: &mut Vec<u128>) -> Result<(), AllocError> {
+    let (first, end) = window.bounds();
+    for tick in first..end {
+        let mut row = Vec::with_capacity(alloc, window.width())?;
+        window.put_row(&mut row, tick);
+        values.extend_from_slice(row.as_slice())?;
+    }
+    Ok(())
+}
+
 /// The rows of signals at all ticks, one after the other, by windows of a size.
 fn values_in(
     alloc: Global,
@@ -73,12 +84,7 @@ fn values_in(
             break;
         }
         window.slide(dump, &clocks);
-        let (first, end) = window.bounds();
-        for tick in first..end {
-            let mut row = Vec::with_capacity(alloc, window.width())?;
-            window.put_row(&mut row, tick);
-            values.extend_from_slice(row.as_slice())?;
-        }
+        push_rows(alloc, &window, &mut values)?;
     }
     Ok(values)
 }
@@ -171,24 +177,36 @@ fn failed_reads_of_a_faulty_dump(rt: HostRuntime) -> Result<(), Fail> {
 
 /// Accepted: a scope word alone, an `$upscope` at the top, sizes to 2^32 - 1, skipped sections and
 /// values, equal times, changes before any time.
+const FORMS: &str = "$upscope $end $ x $end $scope a top $end $var wire 1 ! clk $end \
+    $var x 8 \"& v [7 :0] $end $var real 64 r f $end\n\
+    $var wire 4294967295 w wide $end $var wire 8 \"& v [3:0] $end $var wire 0 n none $end \
+    $upscope $end $enddefinitions $end\n\
+    0! b10 \"& r1.5 r sabc ? $dumpvars 1n $end $comment 1! #9 $end \
+    $dumpoff $dumpon $dumpall #5 #5 1! #18446744073709551615";
+
 #[test]
 fn accepted_forms(rt: HostRuntime) -> Result<(), Fail> {
-    let alloc = rt.alloc();
-    let text = "$upscope $end $ x $end $scope a top $end $var wire 1 ! clk $end \
-        $var x 8 \"& v [7 :0] $end $var real 64 r f $end\n\
-        $var wire 4294967295 w wide $end $var wire 8 \"& v [3:0] $end $var wire 0 n none $end \
-        $upscope $end $enddefinitions $end\n\
-        0! b10 \"& r1.5 r sabc ? $dumpvars 1n $end $comment 1! #9 $end \
-        $dumpoff $dumpon $dumpall #5 #5 1! #18446744073709551615";
-    assert!(rt; values_of(alloc, text.as_bytes(), "top.v", 8)?.as_slice() == [2].as_slice());
-    let names = names_of(alloc, text)?;
+    let values = values_of(rt.alloc(), FORMS.as_bytes(), "top.v", 8)?;
+    assert!(rt; values.as_slice() == [2].as_slice());
+    assert!(rt; steps_of(rt.alloc(), FORMS)? == 3);
+    Ok(())
+}
+
+#[test]
+fn names_in_accepted_forms(rt: HostRuntime) -> Result<(), Fail> {
+    let names = names_of(rt.alloc(), FORMS)?;
     assert!(rt; names.len() == 2);
-    assert!(rt; names[0].path.as_slice() == b"top.clk".as_slice());
-    assert!(rt; names[1].path.as_slice() == b"top.v".as_slice());
+    for (name, path) in names.iter().zip(["top.clk", "top.v"]) {
+        assert!(rt; name.path.as_slice() == path.as_bytes());
+    }
+    Ok(())
+}
+
+#[test]
+fn widths_in_accepted_forms(rt: HostRuntime) -> Result<(), Fail> {
     let paths = ["top.f", "top.wide", "top.none", "clk", "top", "top.v[7:0]"];
-    let widths = widths_of(alloc, text, &paths)?;
+    let widths = widths_of(rt.alloc(), FORMS, &paths)?;
     assert!(rt; widths.as_slice() == [0, 0, 0, 0, 0, 0].as_slice());
-    assert!(rt; steps_of(alloc, text)? == 3);
     Ok(())
 }
 
