@@ -1,18 +1,14 @@
 #!/usr/bin/env python3
 """Reads port files and works out their rules, apart from the repository's code.
 
-`scripts/models/axi4_rules.py FOLDER` writes FOLDER/data/ports.txt, ports at the edges of what a port file
-may say, FOLDER/data/faults.txt, small port files with byte 1 between them, and FOLDER/stdout: of
-each port its assertions, its tokens, and a sum of the tokens (FNV-1a of 64 bits, each token with a
-space after); of each small file how many ports it has, or its fault.
-`scripts/models/axi4_rules.py --text FILE` prints the tokens of the rules of a port file's ports, a rule a
-line.
+`scripts/models/axi4_rules.py FILE` prints the tokens of the rules of a port file's ports, a rule a line. `edge_ports`,
+`worked_ports` and `fault_files` are what the gate and random cases run: ports at the edges of what a port file may
+say, ports that were counted by hand, and small port files, some with a fault.
 
 Rules are written here as people write them, with c or x for the channel, and are cut into tokens by
 the lexer of assertions; a path is one token.
 """
 import itertools
-import os
 import re
 import sys
 
@@ -197,18 +193,6 @@ def rules(port):
     return lines
 
 
-def summed(tokens):
-    total = 0xCBF29CE484222325
-    for byte in "".join(token + " " for token in tokens).encode():
-        total = (total ^ byte) * 0x100000001B3 % 2 ** 64
-    return total
-
-
-def summary(port):
-    tokens = [token for line in rules(port) for token in line]
-    return f"{port['name']} assertions {tokens.count('assert')} tokens {len(tokens)} sum {summed(tokens):016x}"
-
-
 def answer(text):
     try:
         return f"ports {len(read(text))}"
@@ -282,25 +266,10 @@ def worked_ports():
     yield "port turned id=3 watch=5,0 case=upper reset=r clock=t.c prefix=u. addr=12 data=8"
 
 
-def write(path, text):
-    os.makedirs(os.path.dirname(path), exist_ok=True)
-    with open(path, "w", newline="") as it:
-        it.write(text)
-
-
 def main():
-    if sys.argv[1] == "--text":
-        with open(sys.argv[2], newline="") as it:
-            ports = read(it.read())
-        print("\n".join(" ".join(line) for port in ports for line in rules(port)))
-        return
-    folder = sys.argv[1]
-    ports = "".join(line + "\n" for line in itertools.chain(edge_ports(), worked_ports()))
-    faults = list(fault_files())
-    write(f"{folder}/data/ports.txt", ports)
-    write(f"{folder}/data/faults.txt", "\x01".join(faults))
-    lines = [summary(port) for port in read(ports)] + [answer(text) for text in faults]
-    write(f"{folder}/stdout", "".join(line + "\n" for line in lines))
+    with open(sys.argv[1], newline="") as it:
+        ports = read(it.read())
+    print("\n".join(" ".join(line) for port in ports for line in rules(port)))
 
 
 if __name__ == "__main__":

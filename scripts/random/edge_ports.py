@@ -1,15 +1,15 @@
 #!/usr/bin/env python3
 """Whether the rules of every port at the edges of a port file have no fault.
 
-    scripts/random/edge_ports.py SVAMON | --write
+    scripts/random/edge_ports.py SVAMON
 
 For each port of `edge_ports` (scripts/models/axi4_rules.py: every width of data, IDs of 1 and 16 bits, no wait, one
 tick and 64, both modes, both cases, with and without watched IDs) it writes a dump that has the port's signals at their
 widths and twelve ticks of random values, runs `svamon check` and `svamon judge` with --axi on an empty text, and
 `svamon check` on what `svamon rules` prints: all must write one report, with a monitor for each rule of the table.
 
-With --write it writes what the gate runs instead: the ports of crates/answers_reports, in which those ports that have
-their signals in common stand in one port file, and what must be printed of each, by axi4_judge.py.
+`cases` has the port files that the gate runs (`scripts/tools/report_rows.py`), in which those ports that have their
+signals in common stand together.
 """
 import itertools
 import os
@@ -21,10 +21,8 @@ import tempfile
 
 sys.path.insert(0, f"{os.path.dirname(os.path.realpath(__file__))}/../models")
 
-import axi4_judge
 import axi4_rules
 
-CRATE = f"{os.path.dirname(os.path.abspath(__file__))}/../../crates/answers_reports"
 WIDTHS = {"len": 8, "size": 3, "burst": 2, "cache": 4, "prot": 3, "resp": 2}
 
 
@@ -101,27 +99,7 @@ def cases():
                       for n, (wait, mode, watch) in enumerate(varied))
 
 
-def summed(report):
-    total = 0xcbf29ce484222325
-    for byte in report:
-        total = (total ^ byte) * 0x100000001b3 % 2 ** 64
-    return f"bytes {len(report)} sum {total:016x}"
-
-
-def write():
-    chance, found, lines = random.Random(1), [], []
-    for ports in cases():
-        vcd = dump(axi4_rules.port_of(ports.split("\n")[0], 1), chance, 8)
-        found.append(f"{ports}\x02{vcd}")
-        report = summed(axi4_judge.report(vcd, ports).encode())
-        lines.append(f"check {report} judge {report}\n")
-    written(f"{CRATE}/data/ports.txt", "\x01".join(found))
-    with open(f"{CRATE}/stdout") as it:
-        reports = it.read().partition("== ")
-    written(f"{CRATE}/stdout", "".join([*lines, *reports[1:]]))
-
-
 if __name__ == "__main__":
     if len(sys.argv) != 2:
         sys.exit(__doc__)
-    write() if sys.argv[1] == "--write" else main(os.path.abspath(sys.argv[1]))
+    main(os.path.abspath(sys.argv[1]))

@@ -5,7 +5,7 @@
 
 use anyhow::{Context, Result, bail};
 use assertions::Suite;
-use expressions::{Rows, Table, count};
+use expressions::{Table, count};
 use judging::judge;
 use lexer::lex;
 use parser::parse;
@@ -76,25 +76,18 @@ fn told(alloc: Global, verdict: Verdict) -> Result<String> {
     Ok(told)
 }
 
-/// The verdicts on the first assertion of a suite over rows, one a tick.
-fn verdicts_over(alloc: Global, suite: &Suite, rows: &Rows) -> Result<String> {
+/// The verdicts on the first assertion of a suite, one a tick.
+fn verdicts_of(alloc: Global, suite: &Suite, ticks: &str) -> Result<String> {
     let assertion = suite.assertions().first().context("no assertion")?;
+    let signals = signals_of(alloc, suite, ticks)?;
+    let rows = count(alloc, signals, suite.counters.as_slice())?;
     let mut answer = String::new(alloc);
     for tick in 0..rows.signals.len() {
-        let verdict = judge(alloc, assertion, suite, rows, tick)?;
+        let verdict = judge(alloc, assertion, suite, &rows, tick)?;
         answer.push_str(if tick == 0 { "" } else { ", " })?;
         answer.push_str(told(alloc, verdict)?.as_str())?;
     }
     Ok(answer)
-}
-
-/// The verdicts on the first assertion of a suite, one a tick.
-fn verdicts_of(alloc: Global, suite: &Suite, ticks: &str) -> Result<String> {
-    let signals = signals_of(alloc, suite, ticks)?;
-    let rows = count(alloc, signals, suite.counters.as_slice())?;
-    let answer = verdicts_over(alloc, suite, &rows);
-    drop(rows);
-    answer
 }
 
 /// The verdicts of a line.
