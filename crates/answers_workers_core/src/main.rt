@@ -90,23 +90,23 @@ fn board_lines(alloc: Global, core: &Core<'_>) -> Result<String> {
     Ok(lines)
 }
 
-/// Prints the board of a core: its lines, or their sum after many steps.
-fn show_board<R: Print + AllocGlobal>(rt: &R, core: &Core<'_>, steps: usize) -> Result<()> {
-    let lines = board_lines(rt.alloc(), core)?;
+/// Prints the lines of so many batches, or their sum after many steps.
+fn show_board<R: Print>(rt: &R, lines: &str, batches: usize, steps: usize) -> Result<()> {
     if steps <= SHORT {
         print!(rt; "{lines}")?;
     } else {
         let sum = sum_of(lines.as_bytes());
-        println!(rt; "batches {} sum {sum:016x}", core.board().len())?;
+        println!(rt; "batches {batches} sum {sum:016x}")?;
     }
     Ok(())
 }
 
-/// Makes the steps, and prints the replies and the board.
+/// Makes the steps, and prints the replies and the board, once there was memory for both.
 fn show_steps<R: Print + AllocGlobal>(rt: &R, core: &mut Core<'_>, steps: &[Step]) -> Result<()> {
     let replies = replies(rt.alloc(), core, steps)?;
+    let lines = board_lines(rt.alloc(), core)?;
     println!(rt; "replies {replies}")?;
-    show_board(rt, core, steps.len())
+    show_board(rt, lines.as_str(), core.board().len(), steps.len())
 }
 
 /// Prints what steps of a job's core come to.
