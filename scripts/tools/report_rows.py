@@ -1,9 +1,9 @@
 """Reports and refusals of small texts over dumps, and the rules of AXI4 ports with their reports, by the built program.
 
-`outside` imports it. What must be told of the texts of `scripts/rows/reports.txt` stands in `reports.told` beside it,
-worked out by hand from IEEE 1800-2017. Rules of ports and what is wrong with a port file are those of
-`scripts/models/axi4_rules.py`, which has a table and a reader of its own, and reports on ports those of
-`scripts/models/axi4_judge.py`, which judges what the rules mean and reads none of them.
+`outside` imports it. The texts and what must be told of them, worked out by hand from IEEE 1800-2017, are the table of
+`crates/answers_reports`. Rules of ports and what is wrong with a port file are those of `scripts/models/axi4_rules.py`,
+which has a table and a reader of its own, and reports on ports those of `scripts/models/axi4_judge.py`, which judges
+what the rules mean and reads none of them.
 """
 import itertools
 import os
@@ -26,8 +26,8 @@ def put(shell, name, text):
         file.write(text.encode())
 
 
-def read_rows(name):
-    with open(f"{HERE}/../rows/{name}", newline="") as file:
+def read_table(name):
+    with open(f"{HERE}/../../crates/answers_reports/{name}", newline="") as file:
         return file.read()
 
 
@@ -40,7 +40,7 @@ def parts(table):
 
 def told():
     """What must be told of each text, by its place: the title, the report or the line of a fault, and the status."""
-    for block in read_rows("reports.told").removeprefix("== ").split("\n== "):
+    for block in read_table("stdout").removeprefix("== ").split("\n== "):
         title, _, rest = block.rstrip("\n").partition("\n")
         text, _, status = rest.rpartition("status ")
         yield title, text, int(status)
@@ -57,7 +57,7 @@ def try_told(shell, title, words, text, status):
 def try_reports_told(shell):
     """Each text by `judge`, and by `check` through windows of each size and by a team."""
     wanted = told()
-    for dump, texts in parts(read_rows("reports.txt")):
+    for dump, texts in parts(read_table("data/reports.txt")):
         put(shell, "row.vcd", dump)
         for title, text in texts:
             name, report, status = next(wanted)

@@ -16,12 +16,12 @@
 //! What is read is said by the contracts of `vcd_reader` and `cycle_window`; the definitions stand
 //! in their `specs/`: `Dump.antt` of what a dump says, `Ticks.antt` of its ticks and rows.
 //!
-//! Not promised: that each form of a dump occurs; `tests_dumps` and `scripts/rows` have others.
+//! Not promised: that each form of a dump occurs; `tests_dumps` and `answers_reports` have others.
 #![tactic(auto)]
 
 ghost use Rattle.cycle_window.specs.Held.{AreClocksOf};
 
-use anyhow::{Context, Result, bail};
+use anyhow::{Context, Result};
 use cycle_window::{Clocks, Columns, WatchedSignal, Window, WindowSize};
 use signals::Counted;
 use std::alloc::Global;

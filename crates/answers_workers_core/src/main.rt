@@ -20,7 +20,7 @@
 //! The gate compares that with `stdout`; `scripts/models/core_cases.py` made the cases, with the
 //! answers of a core of its own. What a step does is said by the contract of
 //! `workers_core::Core::step`; the definitions stand in `workers_core/specs` (`States.antt`,
-//! `Floors.antt`).
+//! `Cores.antt`).
 //!
 //! Not promised: that each list of steps occurs.
 #![tactic(auto)]

@@ -1,5 +1,5 @@
 //! Dumps, their paths, and rows by windows, with answers worked out by hand. Values and faults of
-//! dumps are rows of `scripts/rows/reports.txt`.
+//! dumps are the table of `answers_reports`.
 
 use cycle_window::{Clocks, Columns, WatchedSignal, Window, WindowFault, WindowSize};
 use signals::{Counted, CutReader, Source};

@@ -12,8 +12,8 @@
 //! `rt test` in this crate proves the tests and runs them; `src/answers.rt` makes lines of reports
 //! and faults. The definitions that the contract of a run cites stand in `workers`, in `specs/`.
 //!
-//! Not promised: that these are all reports that matter. More, by other means, are in the table of
-//! `answers_workers_core` and in `scripts/rows`; this crate has no public functions.
+//! Not promised: that these are all reports that matter. More, by other means, are in the tables of
+//! the programs `answers_reports` and `answers_workers_core`; this crate has no public functions.
 #![tactic(auto)]
 
 #[cfg(test)]
