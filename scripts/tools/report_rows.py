@@ -80,7 +80,7 @@ def try_rules_of(shell, text):
     status, out, said = shell.run("rules --axi ports.row")
     answer = axi4_rules.answer(text)
     if answer.startswith("X"):
-        line = f"svamon: {answer}".encode()
+        line = f"svamon: {answer}\n".encode()
         shell.tally.note(text, (2, b"", line), (status, out, said[:len(line)]))
         return
     wanted = [token for port in axi4_rules.read(text) for rule in axi4_rules.rules(port) for token in rule]

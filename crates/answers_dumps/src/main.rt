@@ -21,7 +21,7 @@
 
 ghost use Rattle.cycle_window.specs.Held.{AreClocksOf};
 
-use anyhow::{Context, Result};
+use anyhow::{Context, Result, bail};
 use cycle_window::{Clocks, Columns, WatchedSignal, Window, WindowSize};
 use signals::Counted;
 use std::alloc::Global;
@@ -58,7 +58,9 @@ fn changes_of(dump: &Dump) -> u64 {
 fn signals_of<'a>(alloc: Global, dump: &Dump, paths: &'a str) -> Result<Vec<WatchedSignal<'a>>> {
     let mut signals = Vec::new(alloc);
     for path in paths.split_whitespace() {
-        let variable = dump.var(path).context("no such path")?;
+        let Some(variable) = dump.var(path) else {
+            bail!("no {path}");
+        };
         let width = dump.width(variable);
         signals.push(WatchedSignal { path, width })?;
     }

@@ -54,8 +54,7 @@ fn push_programs(alloc: Global, programs: &mut Vec<Verified>, lines: &str) -> Re
 /// The programs of a job, one a line.
 fn programs_of(alloc: Global, lines: &str) -> Result<Vec<Verified>> {
     let mut programs = Vec::new(alloc);
-    let pushed = push_programs(alloc, &mut programs, lines);
-    let (_, programs) = both(pushed, Ok(programs))?;
+    push_programs(alloc, &mut programs, lines)?;
     Ok(programs)
 }
 
