@@ -16,3 +16,4 @@ pub mod HeldLaws
 pub mod ResumedLaws
 pub mod ReadingLaws
 pub mod MoveLaws
+pub mod LineLaws

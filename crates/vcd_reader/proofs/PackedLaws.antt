@@ -32,7 +32,7 @@ pub packs-1 : (xs : List ℕ) → length xs ≡ 1 → get_or xs 0 0 < 256 → un
 unfolding unpacked_code
 packs-1 xs e a = let t : ltb (get_or xs 0 0) 256 ≡ true = lt-ltb _ _ a in rw t (list-1 xs e)
 
-two : (a b : ℕ) → a < 256 → b < 256 → 0 < b → unpacked_code (a + b * 256) ≡ a ∷ b ∷ []
+pub two : (a b : ℕ) → a < 256 → b < 256 → 0 < b → unpacked_code (a + b * 256) ≡ a ∷ b ∷ []
 unfolding unpacked_code
 two a b p q r =
     let f : ltb (a + b * 256) 256 ≡ false = le-ltb _ _ (omega arith) in
@@ -41,7 +41,7 @@ two a b p q r =
     let y : (a + b * 256) / 256 ≡ b = omega arith in
     rw (f, t, x, y) refl
 
-three : (a b c : ℕ) → a < 256 → b < 256 → c < 256 → 0 < c → unpacked_code (a + b * 256 + c * 65536) ≡ a ∷ b ∷ c ∷ []
+pub three : (a b c : ℕ) → a < 256 → b < 256 → c < 256 → 0 < c → unpacked_code (a + b * 256 + c * 65536) ≡ a ∷ b ∷ c ∷ []
 unfolding unpacked_code
 three a b c p q r s =
     let f : ltb (a + b * 256 + c * 65536) 256 ≡ false = le-ltb _ _ (omega arith) in

@@ -15,4 +15,5 @@ pub mod Sections
 pub mod Kept
 pub mod Grammar
 pub mod Packed
+pub mod Lines
 pub mod Readings

@@ -34,7 +34,8 @@
 //! so, and what is spelled so is read. By `digits_law` the number that is kept for a change gives
 //! its value at each size up to 128. The other files of `specs` are of what the code keeps.
 //!
-//! A body may be read in parts, each by a thread (`src/parts.rt`, `specs/Readings.antt`).
+//! A line that holds one scalar, vector or time alone is read at once (`src/line.rt`), and a body
+//! may be read in parts, each by a thread (`src/parts.rt`). `read_front` reads a header alone.
 //!
 //! Not promised: that memory suffices; how many threads are at work, where a body is cut, or that
 //! each part is read once; that a dump follows the standard in what the grammar leaves open.
@@ -45,10 +46,12 @@ mod body_reader;
 mod codes;
 mod dump;
 mod fault;
+mod front;
 mod header;
 mod item;
 mod key;
 mod laws;
+mod line;
 mod lookups;
 mod name;
 mod number;
@@ -67,7 +70,8 @@ mod token;
 mod variable;
 
 pub use dump::Dump;
-pub use fault::VcdFault;
+pub use fault::{Fault, ReadError, VcdFault};
+pub use front::read_front;
 pub use laws::{digits_law, grammar_law};
 pub use reader::{read_dump, read_dump_and_bytes, read_dump_by};
 pub use step::{Change, Step};

@@ -46,7 +46,7 @@ fn page_place(packed: u32) -> usize {
 }
 
 /// The place of a packed code in the table, which may be after its end.
-fn entry_place(pages: &[u32], packed: u32) -> usize {
+pub(crate) fn entry_place(pages: &[u32], packed: u32) -> usize {
     let low = (packed & 127) as usize + ((packed >> 8) & 127) as usize * 128;
     match pages.get(page_place(packed)) {
         None => low,

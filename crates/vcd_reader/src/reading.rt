@@ -12,6 +12,7 @@ use crate::body::{has_room, new_change, next_item};
 use crate::codes::Codes;
 use crate::fault::{Fault, ReadError};
 use crate::item::Item;
+use crate::line::line_item;
 use crate::step::{Change, Step};
 use std::alloc::{AllocError, Global};
 
@@ -90,7 +91,7 @@ impl Reading {
     }
 
     /// Takes an item that ends there.
-    #[inline]
+    #[inline(always)]
     fn take(&mut self, alloc: Global, item: Item, end: usize) -> Result<(), ReadError>
         requires high { length self.old.high.items ≤ self.old.count }
         ensures reading { (declared : List (List ℕ)) (bytes : List ℕ)
@@ -152,6 +153,10 @@ impl Reading {
     {
         let mut reading = self;
         'items: while reading.at < to {
+            if let Some((item, end)) = line_item(bytes, reading.at, codes) {
+                reading.take(alloc, item, end)?;
+                continue;
+            }
             let Some((item, end)) = next_item(bytes, reading.at, codes)? else {
                 reading.at = bytes.len();
                 continue;

@@ -80,6 +80,7 @@ use Rattle.workers_core.specs.Standing.{
   AreSampled,
   IsSame,
   MonitorStands,
+  StandsBehind,
   IsOneMore,
   AreMore,
   HasGone,
@@ -391,13 +392,15 @@ row-seen w c old mid row k same is =
     is ∙ ap (λ (vs : List ℕ). row_of c vs k) (same-part (places_in (columns_in w)) old mid same)
 
 -- the row is of variables that have the widths of the program's signals
-pub row-sampled : (w : Window) (old mid : Monitor) (row : List ℕ) (tick : ℕ) → MonitorStands w old → IsSame old mid
+pub row-fitting : (w : Window) (old mid : Monitor) (row : List ℕ) (tick : ℕ)
+    → ∥ ((c : Contents) × IsOver w c × (map (λ (v : ℕ). size_of c.variables v) (variables_in w old)
+    ≡ map (λ s. s.width) old.machine.program.signals)) ∥₁ → IsSame old mid
     → ((c : Contents) → IsOver w c
     → row ≡ row_of c (variables_in w mid) (slice_index (ticks_of c (clock_in (columns_in w))) tick))
     → AreSampled mid.machine.program row
-row-sampled w old mid row tick h same is =
+row-fitting w old mid row tick fits same is =
     subst (λ (p : ProgramData). AreSampled p row) (sym same.program)
-    (∥∥₁_map h.fits (λ f.
+    (∥∥₁_map fits (λ f.
     let at = slice_index (ticks_of f.0 (clock_in (columns_in w))) tick in (
       f.0,
       variables_in w old,
@@ -405,6 +408,12 @@ row-sampled w old mid row tick h same is =
       row-seen w f.0 old mid row at same (is f.0 f.1),
       f.2,
     )))
+
+pub row-sampled : (w : Window) (old mid : Monitor) (row : List ℕ) (tick : ℕ) → MonitorStands w old → IsSame old mid
+    → ((c : Contents) → IsOver w c
+    → row ≡ row_of c (variables_in w mid) (slice_index (ticks_of c (clock_in (columns_in w))) tick))
+    → AreSampled mid.machine.program row
+row-sampled w old mid row tick h same is = row-fitting w old mid row tick h.fits same is
 
 -- where the part of a row stays, the rows from a clock on are that clock's
 pub stays-seen : (w : Window) (c : Contents) (old mid : Monitor) (row : List ℕ) (tick ticks : ℕ) → IsSame old mid
@@ -458,6 +467,29 @@ stands-on w old new to h same at ahead inside gone =
           (come-on old.machine.program rows old.since old.machine.state.standing.now to
           old.machine.state new.machine.state old.decided.items g.decided h.lately ahead
           (h.come c over) g.ran));
+    }
+
+-- a monitor that went on behind so many clocks stands where it came to
+pub stands-behind-on : (before : ℕ) (w : Window) (old new : Monitor) (to : ℕ)
+    → StandsBehind before w old → IsSame old new → new.machine.state.standing.now ≡ to
+    → old.machine.state.standing.now ≤ to → to ≤ before + end_in w → StandsBehind before w new
+stands-behind-on before w old new to h same at ahead inside =
+    let parts = same-part (places_in (columns_in w)) old new same in
+    record {
+      accepted = subst IsAccepted (sym same.program) h.accepted;
+      room = subst (λ (p : ProgramData). p.header.limits.attempts ≤ 1024) (sym same.program) h.room;
+      declared = omega (
+        arith,
+        h.declared,
+        same.attempts,
+        ap (λ (p : ProgramData). p.header.limits.attempts) same.program,
+      );
+      parted = omega (arith, h.parted, same.from, same.to);
+      inside = omega (arith, h.inside, same.to);
+      fits = same-fits w (variables_in w old) (variables_in w new) old.machine.program
+          new.machine.program (sym parts) (sym same.program) h.fits;
+      low = omega (arith, h.low, at, ahead);
+      high = omega (arith, at, inside);
     }
 
 pub unmoved-same : (old new : Monitor) → IsUnmoved old new → IsSame old new

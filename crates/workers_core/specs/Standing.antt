@@ -68,6 +68,21 @@ pub record MonitorStands (w : Window) (m : Monitor) : Type 0 where
       HasCome m.machine.program (seen w c m) m.since m.machine.state.standing.now
       m.decided.items m.machine.state
 
+-- The monitor has its part of the rows, and stands in the window or at its end, so many clocks
+-- behind what the window counts: those before its first one.
+pub record StandsBehind (before : ℕ) (w : Window) (m : Monitor) : Type 0 where
+  pub accepted : IsAccepted m.machine.program
+  pub room : m.machine.program.header.limits.attempts ≤ 1024
+  pub declared : m.machine.program.header.limits.attempts ≤ m.attempts
+  pub parted : m.from ≤ m.to
+  pub inside : m.to ≤ length (places_in (columns_in w))
+  pub fits :
+      ∥ ((c : Contents) × IsOver w c
+      × (map (λ v. size_of c.variables v) (variables_in w m)
+      ≡ map (λ s. s.width) m.machine.program.signals)) ∥₁
+  pub low : before + first_in w ≤ m.machine.state.standing.now
+  pub high : m.machine.state.standing.now ≤ before + end_in w
+
 -- one clock more, over this row
 pub record IsOneMore (old : Monitor) (row : List ℕ) (new : Monitor) : Type 0 where
   pub same : IsSame old new

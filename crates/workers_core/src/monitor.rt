@@ -6,6 +6,7 @@ ghost use Rattle.std.specs.Prelude.{vec_capacity};
 ghost use Rattle.vcd_reader.specs.Dump.{Contents};
 ghost use Rattle.cycle_window.specs.Held.{end_in, IsOver};
 ghost use Rattle.workers_core.specs.States.{advanced};
+ghost use Rattle.machine_decisions.specs.Batches.{rows_between};
 ghost use Rattle.machine_definition.specs.Runs.{open_ones};
 
 use arrayvec::ArrayVec;
@@ -43,7 +44,7 @@ pub struct Monitor {
 
 impl Monitor {
     ghost use Rattle.workers_core.specs.Standing.{monitor_state, seen, AreSampled, IsSame};
-    ghost use Rattle.workers_core.specs.Standing.{MonitorStands};
+    ghost use Rattle.workers_core.specs.Standing.{MonitorStands, StandsBehind, HasGone};
     ghost use Rattle.workers_core.specs.Standing.{IsOneMore, AreMore, IsUnmoved, IsCleared};
     ghost use Rattle.workers_core.specs.Parts.{batch_state};
     ghost use Rattle.workers_core.specs.States.{batch};
@@ -178,6 +179,40 @@ impl Monitor {
             let clocks = 1 + same.min(to - 1 - clock);
             self.run(clocks, changed, decided);
             clock += clocks;
+            changed = true;
+        }
+    }
+
+    /// [`advance`](Monitor::advance) through a window over a part of a trace that begins behind so
+    /// many clocks, which the monitor counts and the window doesn't.
+    pub fn advance_behind(
+        &mut self,
+        window: &Window<'_>,
+        before: u64,
+        to: u64,
+        decided: &mut ArrayVec<Decided, 1024>,
+    )
+        requires stands { StandsBehind before window.now self.old }
+        requires ahead { self.old.machine.state.standing.now ≤ to }
+        requires inside { to ≤ before + end_in window.now }
+        requires spare { length self.old.machine.state.standing.attempts
+            + (to - self.old.machine.state.standing.now) ≤ self.old.decided.room }
+        ensures stands { StandsBehind before window.now self.new }
+        ensures same { IsSame self.old self.new }
+        ensures place { self.new.machine.state.standing.now ≡ to }
+        ensures gone { (c : Contents) → IsOver window.now c → HasGone
+            (rows_between (seen window.now c self.old)
+            (self.old.machine.state.standing.now - before) (to - before)) self.old self.new }
+    {
+        let mut tick = self.machine.now() - before;
+        let last = to - before;
+        let mut changed = false;
+        while tick < last {
+            window.put_part(&mut self.row, tick, self.from, self.to);
+            let same = window.same_after(tick, self.from, self.to);
+            let clocks = 1 + same.min(last - 1 - tick);
+            self.run(clocks, changed, decided);
+            tick += clocks;
             changed = true;
         }
     }

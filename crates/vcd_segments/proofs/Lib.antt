@@ -1,0 +1,13 @@
+pub mod StandingLaws
+pub mod RowLaws
+pub mod KeptLaws
+pub mod JoinLaws
+pub mod PieceLaws
+pub mod HeadLaws
+pub mod BeginLaws
+pub mod StepLaws
+pub mod ShiftLaws
+pub mod TellLaws
+pub mod ChunkLaws
+pub mod LeadLaws
+pub mod ReadLaws

@@ -1,0 +1,10 @@
+pub mod Rows
+pub mod Segments
+pub mod Pieces
+pub mod Beginnings
+pub mod Steps
+pub mod Shifts
+pub mod Chunks
+pub mod Reads
+pub mod Inputs
+pub mod Laws
