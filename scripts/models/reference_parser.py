@@ -448,7 +448,7 @@ LATER += ['counter n [', '/* more *///', 'req |->/* no */ ##12 ack_1 // end',
           'counter n [128] clear(r) sub(s, 2); sequence s; a ##1 b endsequence counter: assume property '
           '(@(posedge t.c) disable iff (!r) s);']
 
-# What is no text of tokens, with its fault by hand (IEEE 1800-2017, 5.7.1, and section 6 of docs/USING.md).
+# What is no text of tokens, with its fault by hand (IEEE 1800-2017, 5.7.1, and docs/REFUSALS.md).
 LEXICAL = [
     ('a 4294967296', 'L2 BadNumber 2'), ("'hFFFFFFFFF", 'L2 BadNumber 0'), ("4'b1x00", 'L2 BadNumber 0'),
     (" 0'b1", 'L2 BadNumber 1'), ("129'b1", 'L2 BadNumber 0'), ("4'b", 'L2 BadNumber 0'), ("4'b_1", 'L2 BadNumber 0'),

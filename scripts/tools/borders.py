@@ -1,5 +1,5 @@
 """What an assertion may hold at the most, by the built program: each border, and what is told one step beyond it; and
-programs that are built and run. `outside` imports it. What must be told is what docs/USING.md says.
+programs that are built and run. `outside` imports it. What must be told is what docs/REFUSALS.md says.
 """
 import os
 import sys

@@ -1,10 +1,10 @@
 """What commands answer where a file or a device ends early, and by which words, by the built program: reports by teams
 and windows of many sizes, dumps and devices that end at each byte, words, and files of bytecode with each fault.
 
-`outside` imports it. What must come was worked out by hand: lines, statuses and their order from docs/USING.md, reports
-from IEEE 1800-2017 (16.9, 16.12) by arithmetic on the numbers of the ticks, dumps that end early from IEEE 1364-2005
-(18.2), files of bytecode from what the docs and `bytecode_cases` tell of their form, and a file for GTKWave from the
-form of its version 3.3. Of files of bytecode two models are asked as well, which share no code with svamon.
+`outside` imports it. What must come was worked out by hand: lines, statuses and their order from docs/REFUSALS.md,
+reports from IEEE 1800-2017 (16.9, 16.12) by arithmetic on the numbers of the ticks, dumps that end early from IEEE
+1364-2005 (18.2), files of bytecode from what the docs and `bytecode_cases` tell of their form, and a file for GTKWave
+from the form of its version 3.3. Of files of bytecode two models are asked as well, which share no code with svamon.
 """
 import copy
 import os

@@ -1,6 +1,7 @@
 """What is told of small texts and dumps, by the built program: all that `lint` and `names` write, where items end,
 which name is meant, and what a program reads, counts and is called. `outside` imports it. What must be told was worked
-out by hand from docs/USING.md and IEEE 1800-2017; the tables of `names` are those of `scripts/models/names_model.py`.
+out by hand from docs/COMMANDS.md, docs/REFUSALS.md and IEEE 1800-2017; the tables of `names` are those of
+`scripts/models/names_model.py`.
 """
 import copy
 import os
