@@ -14,6 +14,7 @@ BYTECODE := crates/answers_bytecode/out/answers_bytecode
 VERIFIER := crates/answers_verifier/out/answers_verifier
 MACHINE := crates/answers_machine/out/answers_machine
 CORE := crates/answers_workers_core/out/answers_workers_core
+DUMPS := crates/answers_dumps/out/answers_dumps
 REFUSING := scripts/tools/fail_alloc 3 crates/svamon/out/svamon
 PROGRAM := examples/fails_at_its_tick/program.svm
 FILES = --vcd examples/$(1)/dump.vcd --sva examples/$(1)/assertion.sva
@@ -66,7 +67,7 @@ svamon:
 	cd crates/svamon && rm -f out/svamon && { rt run -- help; test -x out/svamon; }
 
 # Their runs by rt have no cases, and fail.
-answers_bytecode answers_verifier answers_machine answers_workers_core:
+answers_bytecode answers_verifier answers_machine answers_workers_core answers_dumps:
 	cd crates/$@ && rm -f out/$@ && { rt run > /dev/null 2>&1; test -x out/$@; }
 
 bench: svamon answers_bytecode answers_verifier answers_machine
@@ -103,7 +104,8 @@ allocations: svamon answers_bytecode answers_verifier answers_workers_core
 	awk 'BEGIN { RS = "\001"; ORS = "" } NR == 3' crates/answers_workers_core/stdin > $(CORE).case
 	scripts/tools/fail_alloc -i $(CORE).case 1 $(CORE)
 
-random: svamon answers_bytecode answers_verifier answers_machine
+random: svamon answers_bytecode answers_verifier answers_machine answers_dumps
+	scripts/random/mangled_dumps.py $(DUMPS) $(MUTANTS) $(SEED)
 	scripts/random/random_bytecode.py $(BYTECODE) $(MUTANTS) $(SEED)
 	scripts/random/random_verifier.py $(VERIFIER) $(CASES) $(SEED)
 	scripts/random/random_machine.py $(MACHINE) $(PROGRAMS) 100 $(SEED)
@@ -122,4 +124,4 @@ soak: svamon
 	scripts/tools/soak crates/svamon/out/svamon $(SECONDS) $(SEED)
 
 .PHONY: help demo try test test-all edits install svamon bench allocations random soak
-.PHONY: answers_bytecode answers_verifier answers_machine answers_workers_core
+.PHONY: answers_bytecode answers_verifier answers_machine answers_workers_core answers_dumps

@@ -124,10 +124,10 @@ def compare(program, folder, dumps):
             yield text, line, here
 
 
-def try_line_rows(shell, seed=1):
+def try_line_rows(root, shell):
     """Each dump, and mutants of them; the folder is emptied after each batch."""
-    program = f"{shell.root}/crates/answers_dumps/out/answers_dumps"
-    for dumps in (written_dumps(), prefixes(), mutants(MUTANTS, seed)):
+    program = f"{root}/crates/answers_dumps/out/answers_dumps"
+    for dumps in (written_dumps(), prefixes(), mutants(MUTANTS, 1)):
         dumps = [*dumps]
         wrong = [*compare(program, shell.folder, dumps)]
         for text, wanted, here in wrong[:5]:
