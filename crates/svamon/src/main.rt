@@ -39,6 +39,7 @@
 //! commands and each fault.
 #![tactic(auto)]
 
+mod build;
 mod check;
 mod dump_front;
 mod dump_header;
@@ -50,6 +51,7 @@ mod refused;
 mod serve;
 mod team;
 mod team_commands;
+mod version;
 
 ghost use Rattle.vcd_reader.specs.Dump.{Contents};
 ghost use Rattle.vcd_reader.specs.Held.{HoldsContents};

@@ -5,6 +5,7 @@ use crate::dump_front::{header_in, read_front};
 use crate::explain::{ExplainAsked, serve_explain};
 use crate::import::serve_import;
 use crate::team_commands::{serve_team_explain, serve_team_lint};
+use crate::version::shown_version_and_build;
 use axi4_rules::{Case, Port, PortFault, read_ports};
 use cli::{Fault, NoGate, Request, Wanted, build_one, judge_one};
 use cli_bytecode::{run_code, upgrade_code, verify_code};
@@ -12,7 +13,7 @@ use cli_lint::{LintFault, PortSaid, Selects, lint_one};
 use cli_names_command::{Filter, NamesFault, names_one};
 use cli_shell::{
     FormFiles, Sources, clash_of, open, print_rules, read_bytes, read_sources, refuse_words,
-    request_of, shown_lines, shown_status, shown_version, words_of, write_bytes,
+    request_of, shown_lines, shown_status, words_of, write_bytes,
 };
 use signals::Counted;
 use source_files::Origin;
@@ -451,7 +452,7 @@ pub fn read_request<R: Files + Env + Print + Eprint + AllocGlobal>(rt: &R) -> Re
         Ok(words) => words,
         Err(error) => return Err(refuse_words(rt, &error)),
     };
-    if let Some(status) = shown_version(rt, words.as_slice()) {
+    if let Some(status) = shown_version_and_build(rt, words.as_slice()) {
         return Err(status);
     }
     let request = match request_of(rt, words.as_slice()) {
