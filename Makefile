@@ -6,9 +6,9 @@ MUTANTS ?= 100000
 PROGRAMS ?= 10000
 SEED ?= 1
 SECONDS ?= 3600
-EXAMPLES := $(wildcard crates/demo/data/*/*)
-UNPROVED := Builds svamon without proof, with run-time checks: what you see is unproved and slow. \
-	make install proves and installs it.
+QUICK ?= $(PREFIX)/bin/svamon
+PROVED ?= crates/svamon/out/svamon
+GATE ?= out/gate.txt
 
 BYTECODE := crates/answers_bytecode/out/answers_bytecode
 VERIFIER := crates/answers_verifier/out/answers_verifier
@@ -20,9 +20,13 @@ PROGRAM := examples/fails_at_its_tick/program.svm
 FILES = --vcd examples/$(1)/dump.vcd --sva examples/$(1)/assertion.sva
 
 help:
-	@echo 'make demo             shows the reports on examples/ within a minute; unproved and slow'
-	@echo 'make try VCD= SVA=    the same for a small dump and a text of your own'
-	@echo 'make install PREFIX=  proves and builds svamon, and puts it into PREFIX/bin (PREFIX is $(PREFIX))'
+	@echo 'make demo             shows the reports on examples/ within a minute, unproved'
+	@echo 'make quick PREFIX=    builds svamon without proof and puts it into PREFIX/bin (PREFIX is $(PREFIX)): five'
+	@echo '                      minutes. The gate proves these sources, and make verify-quick compares the programs'
+	@echo 'make install PREFIX=  proves and builds svamon, and puts it into PREFIX/bin: hours'
+	@echo 'make verify-quick     compares the reports of the program QUICK ($(QUICK)) and of'
+	@echo '                      the program PROVED ($(PROVED)) on all examples'
+	@echo 'make dist             makes an archive, and a Containerfile, of what make install put into PREFIX/bin, in out/'
 	@echo 'make test             the gate: proves all from nothing, and runs tests, programs, and the edits of what'
 	@echo '                      changed; then tries the built programs from outside'
 	@echo 'make test-all         the gate with all edits'
@@ -41,14 +45,18 @@ help:
 	@echo '                      processors'
 
 demo:
-	@echo '$(UNPROVED)'
-	@cd crates/demo && rt try $(foreach file,$(EXAMPLES:crates/demo/%=%),--data $(file)=$(file)) -- data
+	@echo 'The reports on examples/, by a build without proof that checks each step as it runs, and is slow.'
+	@scripts/tools/demo < /dev/null
+	@echo 'For a dump of your own: make quick PREFIX=~/x, then ~/x/bin/svamon check --vcd dump.vcd --sva rules.sva'
 
-try:
-	@test -n '$(VCD)' -a -n '$(SVA)' || { echo 'make try VCD=dump.vcd SVA=assertions.sva'; exit 2; }
-	@echo '$(UNPROVED)'
-	@dump=$$(realpath '$(VCD)') && text=$$(realpath '$(SVA)') && cd crates/svamon && \
-		rt try --data "dump.vcd=$$dump" --data "text.sva=$$text" -- check --vcd dump.vcd --sva text.sva
+quick:
+	@scripts/tools/quick $(PREFIX)
+
+verify-quick:
+	@scripts/tools/verify_quick.py $(QUICK) $(PROVED)
+
+dist:
+	@scripts/tools/dist.py $(PREFIX)/bin/svamon $(GATE) out
 
 test:
 	@scripts/tools/gate
@@ -123,5 +131,5 @@ random: svamon answers_bytecode answers_verifier answers_machine answers_dumps
 soak: svamon
 	scripts/tools/soak crates/svamon/out/svamon $(SECONDS) $(SEED)
 
-.PHONY: help demo try test test-all edits install svamon bench allocations random soak
+.PHONY: help demo quick verify-quick dist test test-all edits install svamon bench allocations random soak
 .PHONY: answers_bytecode answers_verifier answers_machine answers_workers_core answers_dumps
