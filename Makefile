@@ -50,7 +50,7 @@ demo:
 	@echo 'For a dump of your own: make quick PREFIX=~/x, then ~/x/bin/svamon check --vcd dump.vcd --sva rules.sva'
 
 quick:
-	@scripts/tools/quick $(PREFIX)
+	@scripts/tools/quick $(PREFIX)/bin/svamon
 
 verify-quick:
 	@scripts/tools/verify_quick.py $(QUICK) $(PROVED)

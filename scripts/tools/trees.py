@@ -8,6 +8,7 @@ import os
 import re
 import shutil
 import subprocess
+import sys
 
 import stamps
 
@@ -82,12 +83,20 @@ def write_build(room, said):
     subprocess.run(["rt", "fmt"], cwd=f"{room}/crates/{PROGRAM}", check=True, stdout=subprocess.DEVNULL)
 
 
-def put(program, prefix):
-    """Puts a program into PREFIX/bin, and returns where it is."""
-    os.makedirs(f"{prefix}/bin", exist_ok=True)
-    placed = f"{prefix}/bin/{os.path.basename(program)}"
+def stop_on_no_place(placed):
+    """Stops if a program can't be put there, before the work and not after it."""
+    folder = os.path.dirname(placed)
+    try:
+        os.makedirs(folder, exist_ok=True)
+    except OSError as error:
+        sys.exit(f"{folder}: {error.strerror}")
+    if os.path.isdir(placed) or not os.access(folder, os.W_OK):
+        sys.exit(f"{placed} can't be written")
+
+
+def put(program, placed):
+    """Puts a program where it is wanted, at once and whole."""
     made = f"{placed}.{os.getpid()}"
     shutil.copyfile(program, made)
     os.chmod(made, 0o755)
     os.replace(made, placed)
-    return placed
