@@ -58,8 +58,7 @@ module _ (us : List DumpToken) where
 
   mutual
     unfolding header closing_token skipped_section scope_type scope_name var_type var_size var_code var_reference
-
-    unfolding var_more
+        var_more
 
     pub header-more : (scopes : List (List ℕ)) (vars : List Declared) (ts : List DumpToken)
         → IsMore us (header scopes vars ts) (header scopes vars (ts ++ us))
