@@ -176,6 +176,7 @@ def try_archive(shell):
 
 def try_builds(root, shell):
     """All of them."""
+    signal.signal(signal.SIGTERM, lambda number, _: sys.exit(128 + number))
     copy = f"{shell.folder}/clean"
     left_out = shutil.ignore_patterns("out", ".git", "__pycache__")
     shutil.copytree(root, copy, symlinks=True, ignore=left_out)
