@@ -72,8 +72,8 @@ def stop_on_others(program, build, gate):
         stop(f"{program} is no proved build ({build}); make install makes one")
     if not build.startswith(f"proved: {tree}, "):
         stop(f"{program} is of another tree ({build}) than this one ({tree}); make install builds it")
-    if f"gate: {tree}\n" not in gate:
-        stop(f"the gate's lines are of another tree than this one ({tree}); make test runs it")
+    if f"gate: {tree}\n" not in gate or not gate.endswith(", 0 failed\n"):
+        stop(f"the gate's lines are not those of a green run on this tree ({tree}); make test makes them")
 
 
 def files_of(program):

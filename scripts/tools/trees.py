@@ -80,7 +80,6 @@ def write_build(room, said):
         raise ValueError(f"{BUILD_FILE} has {count} constants")
     with open(file, "w") as it:
         it.write(text)
-    subprocess.run(["rt", "fmt"], cwd=f"{room}/crates/{PROGRAM}", check=True, stdout=subprocess.DEVNULL)
 
 
 def stop_on_no_place(placed):
