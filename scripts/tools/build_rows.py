@@ -99,11 +99,10 @@ def try_quick(shell, copy):
 
 
 def busy():
-    """Loops on one processor, and the end of a pipe with which they end. Each has a session of its own, since Linux may
-    share a processor among sessions, and not among their processes."""
+    """Loops on one processor, and the end of a pipe with which they end. They have a low priority, so that the demo gets
+    a part of it that doesn't hold up the gate for a quarter of an hour."""
     reads, writes = os.pipe()
-    how = {"stdin": reads, "preexec_fn": on(1), "start_new_session": True}
-    loops = [subprocess.Popen([sys.executable, "-c", LOOP], **how) for _ in range(LOOPS)]
+    loops = [subprocess.Popen(["nice", sys.executable, "-c", LOOP], stdin=reads, preexec_fn=on(1)) for _ in range(LOOPS)]
     os.close(reads)
     return loops, writes
 
