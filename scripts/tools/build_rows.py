@@ -99,10 +99,11 @@ def try_quick(shell, copy):
 
 
 def busy():
-    """Loops on one processor, and the end of a pipe with which they end. They have a low priority, so that the demo gets
-    a part of it that doesn't hold up the gate for a quarter of an hour."""
+    """Loops on one processor, and the end of a pipe with which they end. They have a low priority: else they would hold
+    up the gate for a quarter of an hour."""
     reads, writes = os.pipe()
-    loops = [subprocess.Popen(["nice", sys.executable, "-c", LOOP], stdin=reads, preexec_fn=on(1)) for _ in range(LOOPS)]
+    words = ["nice", sys.executable, "-c", LOOP]
+    loops = [subprocess.Popen(words, stdin=reads, preexec_fn=on(1)) for _ in range(LOOPS)]
     os.close(reads)
     return loops, writes
 
