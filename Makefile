@@ -1,5 +1,5 @@
 PREFIX ?= /usr/local
-DUMP ?= crates/answers_dumps/data/fifo_arb_bug1.vcd
+DUMP ?= crates/answers_reports/data/fifo_arb_bug1.vcd
 CLOCK ?= tb.clk
 CASES ?= 1000
 MUTANTS ?= 100000
@@ -11,10 +11,8 @@ PROVED ?= crates/svamon/out/svamon
 GATE ?= out/gate.txt
 
 BYTECODE := crates/answers_bytecode/out/answers_bytecode
-VERIFIER := crates/answers_verifier/out/answers_verifier
-MACHINE := crates/answers_machine/out/answers_machine
 CORE := crates/answers_workers_core/out/answers_workers_core
-DUMPS := crates/answers_dumps/out/answers_dumps
+REPORTS := crates/answers_reports/out/answers_reports
 REFUSING := scripts/tools/fail_alloc 3 crates/svamon/out/svamon
 PROGRAM := examples/fails_at_its_tick/program.svm
 FILES = --vcd examples/$(1)/dump.vcd --sva examples/$(1)/assertion.sva
@@ -41,6 +39,7 @@ help:
 	@echo '                      dumps and texts (SEED), the reader of bytecode with another on MUTANTS random mutants'
 	@echo '                      of each of two programs, the verifier with another on CASES random programs and their'
 	@echo '                      mutants, and the machine with another on PROGRAMS random programs of 100 clocks'
+	@echo 'make wrong-threads    builds workers with a fault of threads that no contract sees; the tests must fail'
 	@echo 'make soak             compares svamon so for SECONDS (an hour), twice as many cases at once as there are'
 	@echo '                      processors'
 
@@ -75,16 +74,14 @@ svamon:
 	cd crates/svamon && rm -f out/svamon && { rt run -- help; test -x out/svamon; }
 
 # Their runs by rt have no cases, and fail.
-answers_bytecode answers_verifier answers_machine answers_workers_core answers_dumps:
+answers_bytecode answers_texts answers_workers_core answers_reports:
 	cd crates/$@ && rm -f out/$@ && { rt run > /dev/null 2>&1; test -x out/$@; }
 
-bench: svamon answers_bytecode answers_verifier answers_machine
+bench: svamon answers_bytecode answers_texts
 	cd crates/bench_reader && rt run > /dev/null
 	bench/run $(DUMP) $(CLOCK)
 	bench/shapes
-	cd crates/answers_texts && rt run > /dev/null || test -x out/answers_texts
 	bench/texts
-	cd crates/answers_types && rt run > /dev/null || test -x out/answers_types
 	bench/suites
 	bench/bytecode
 	bench/verifier
@@ -96,9 +93,9 @@ bench: svamon answers_bytecode answers_verifier answers_machine
 	bench/core
 	bench/threads
 
-allocations: svamon answers_bytecode answers_verifier answers_workers_core
+allocations: svamon answers_bytecode answers_workers_core
 	scripts/tools/bytecode_memory.py $(BYTECODE)
-	scripts/tools/verifier_memory $(VERIFIER)
+	scripts/tools/verifier_memory $(BYTECODE)
 	$(REFUSING) check $(call FILES,fails_at_its_tick) --workers 2
 	$(REFUSING) check $(call FILES,fails_at_its_tick) --workers 1
 	$(REFUSING) check $(call FILES,one_then_down)
@@ -112,11 +109,11 @@ allocations: svamon answers_bytecode answers_verifier answers_workers_core
 	awk 'BEGIN { RS = "\001"; ORS = "" } NR == 3' crates/answers_workers_core/stdin > $(CORE).case
 	scripts/tools/fail_alloc -i $(CORE).case 1 $(CORE)
 
-random: svamon answers_bytecode answers_verifier answers_machine answers_dumps
-	scripts/random/mangled_dumps.py $(DUMPS) $(MUTANTS) $(SEED)
+random: svamon answers_bytecode answers_reports
+	scripts/random/mangled_dumps.py $(REPORTS) $(MUTANTS) $(SEED)
 	scripts/random/random_bytecode.py $(BYTECODE) $(MUTANTS) $(SEED)
-	scripts/random/random_verifier.py $(VERIFIER) $(CASES) $(SEED)
-	scripts/random/random_machine.py $(MACHINE) $(PROGRAMS) 100 $(SEED)
+	scripts/random/random_verifier.py $(BYTECODE) $(CASES) $(SEED)
+	scripts/random/random_machine.py $(BYTECODE) $(PROGRAMS) 100 $(SEED)
 	cd crates/svamon/out && ../../../scripts/random/random_judge.py ./svamon $(CASES) $(SEED)
 	cd crates/svamon/out && ../../../scripts/random/random_explain.py ./svamon $(CASES) $(SEED)
 	cd crates/svamon/out && ../../../scripts/random/random_import.py ./svamon $(CASES) $(SEED)
@@ -128,8 +125,11 @@ random: svamon answers_bytecode answers_verifier answers_machine answers_dumps
 	scripts/random/long_chains.py crates/svamon/out/svamon
 	scripts/random/random_axi4.py crates/svamon/out/svamon 100 $(SEED)
 
+wrong-threads:
+	@scripts/tools/wrong_threads
+
 soak: svamon
 	scripts/tools/soak crates/svamon/out/svamon $(SECONDS) $(SEED)
 
-.PHONY: help demo quick verify-quick dist test test-all edits install svamon bench allocations random soak
-.PHONY: answers_bytecode answers_verifier answers_machine answers_workers_core answers_dumps
+.PHONY: help demo quick verify-quick dist test test-all edits install svamon bench allocations random soak wrong-threads
+.PHONY: answers_bytecode answers_texts answers_workers_core answers_reports

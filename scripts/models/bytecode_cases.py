@@ -1,9 +1,9 @@
 #!/usr/bin/env python3
 """Makes files of bytecode with the answers of an independent reader.
 
-`scripts/models/bytecode_cases.py FOLDER` writes FOLDER/data/cases.txt, a file in hexadecimal digits on
-each line, and FOLDER/stdout, for each line `program` or the fault. Of a line that begins with `=`
-the answer is all that the program holds.
+`scripts/models/bytecode_cases.py FOLDER` writes FOLDER/data/bytecode_cases.txt, a file in hexadecimal digits on
+each line, and the part `bytecode` of FOLDER/stdout, for each line `program` or the fault. Of a line that begins
+with `=` the answer is all that the program holds.
 
 The reader here takes a file apart by a table of fields, and knows nothing of the repository's code.
 """
@@ -11,6 +11,8 @@ import os
 import random
 import re
 import sys
+
+from stored_parts import write_part
 
 # The file of the smallest monitor in version 1: `r: .. top.x |-> top.y` at `top.clk`.
 SMALL = bytes.fromhex(
@@ -312,17 +314,18 @@ def write_listed(files, path):
 
 def main(folder):
     os.makedirs(f"{folder}/data", exist_ok=True)
-    with open(f"{folder}/data/cases.txt", "w") as lines, open(f"{folder}/stdout", "w") as answers:
-        held = []
+    held, answers = [], []
+    with open(f"{folder}/data/bytecode_cases.txt", "w") as lines:
         for some_listed, others in ((listed_cases, cases), (later_listed_cases, later_cases)):
             for it in some_listed():
                 lines.write("=" + it.hex() + "\n")
                 held.append(listed(it))
-                answers.write(held[-1] + "\n")
+                answers.append(held[-1])
             for it in others():
                 lines.write(it.hex() + "\n")
-                answers.write(answer(it) + "\n")
-        assert all_are_seen(held)
+                answers.append(answer(it))
+    assert all_are_seen(held)
+    write_part(f"{folder}/stdout", "bytecode", "".join(f"{it}\n" for it in answers))
 
 
 if __name__ == "__main__":

@@ -1,6 +1,6 @@
 #!/usr/bin/env python3
 """What the bytes of a dump say, or their first fault, by a reader of its own: it goes over lists of tokens, each with
-its line, and knows nothing of how the crates read. It prints what crates/answers_dumps prints of the same file.
+its line, and knows nothing of how the crates read. It prints what crates/answers_reports prints of the same file.
 
     scripts/models/dump_model.py DUMP CLOCK [PATH ..]
 """
@@ -189,7 +189,7 @@ def read(data):
 
 
 def lines(name, data, clock, paths):
-    """What answers_dumps prints of a file; without its ticks if the clock can't be one."""
+    """What answers_reports prints of a file; without its ticks if the clock can't be one."""
     try:
         variables, steps = read(data)
     except Fault as fault:

@@ -1,9 +1,9 @@
 #!/usr/bin/env python3
-"""Makes cases for the program answers_machine with the answers of an independent machine.
+"""Makes cases for the program answers_bytecode with the answers of an independent machine.
 
-`scripts/models/machine_cases.py FOLDER` writes FOLDER/stdin and FOLDER/stdout. A case in stdin is a line
-`case NAME`, a line `program HEX` of a file of bytecode, and for each clock a line `row V V ..` of
-the signals' values. Its answer in stdout is the line `case NAME`, for each clock a line
+`scripts/models/machine_cases.py FOLDER` writes FOLDER/data/machine_cases.txt and the part `machine` of FOLDER/stdout.
+A case is a line `case NAME`, a line `program HEX` of a file of bytecode, and for each clock a line `row V V ..` of
+the signals' values. Its answer is the line `case NAME`, for each clock a line
 `cost T (START VERDICT CLOCK) ..` of the cost and what was decided, in the order of the
 starts, and a line `open START ..` of the attempts that are live after the last clock.
 
@@ -21,6 +21,7 @@ from machine_makers import (
     accepting, always, columns, monitor, over_bits, placed, size_of, some_first_program,
     some_program, some_rows, step)
 from machine_model import COMPARES, JOINS, PURE, REDUCES, SHIFTS, answer_of, case_of, most, run
+from stored_parts import write_part
 from verifier_cases import SMALL, changed, pooled
 from verifier_model import MOST, decode, encode, verdict
 
@@ -474,7 +475,7 @@ def check_spread(answers, machines):
 
 
 def write(folder):
-    os.makedirs(folder, exist_ok=True)
+    os.makedirs(f"{folder}/data", exist_ok=True)
     lines, answers, machines = [], [], []
     firsts = itertools.chain(fixed_cases(), small_random_cases(), swept_cases())
     seconds = itertools.chain(first_cases(), small_first_cases())
@@ -483,9 +484,9 @@ def write(folder):
         lines += asked
         answers += answer
         machines.append(machine)
-    for name, texts in (("stdin", lines), ("stdout", answers)):
-        with open(f"{folder}/{name}", "w") as file:
-            file.writelines(f"{it}\n" for it in texts)
+    with open(f"{folder}/data/machine_cases.txt", "w") as file:
+        file.writelines(f"{it}\n" for it in lines)
+    write_part(f"{folder}/stdout", "machine", "".join(f"{it}\n" for it in answers))
     return len(machines), len(answers), check_spread(answers, machines)
 
 

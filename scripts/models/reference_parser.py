@@ -5,11 +5,13 @@ takes nothing from the program's parser: a text's fault stands at the first toke
 goes on.
 
     scripts/models/reference_parser.py TEXTS           a verdict for each line of the file
-    scripts/models/reference_parser.py --make FOLDER   writes FOLDER/data/texts.txt and FOLDER/stdout, with mutants
+    scripts/models/reference_parser.py --make FOLDER   writes FOLDER/data/texts.txt, and `texts` of FOLDER/stdout
 """
 import random
 import re
 import sys
+
+from stored_parts import read_part, write_part
 
 TOKEN = re.compile(r'''\s+|//.*|/\*.*?\*/|(?P<word>[A-Za-z_][A-Za-z0-9_$]*)|(?P<system>\$[A-Za-z0-9_]*)
     |(?P<number>[0-9][0-9_]*'[bodhBODH][0-9a-fA-F_]+|'[bodhBODH][0-9a-fA-F_]+|[0-9][0-9_]*)
@@ -473,10 +475,10 @@ def main(arguments):
     with open(f'{arguments[1]}/data/texts.txt', 'w') as out:
         out.writelines(text + '\n' for text in texts)
     # what stands at the roots of trees was worked out by hand
-    roots = [line for line in open(f'{arguments[1]}/stdout') if line.startswith('root ')]
-    with open(f'{arguments[1]}/stdout', 'w') as out:
-        out.writelines(f'{number} {answer}\n' for number, answer in enumerate(answers, 1))
-        out.writelines(roots)
+    stored = f'{arguments[1]}/stdout'
+    roots = [line for line in read_part(stored, 'texts').splitlines() if line.startswith('root ')]
+    lines = [f'{number} {answer}' for number, answer in enumerate(answers, 1)] + roots
+    write_part(stored, 'texts', ''.join(f'{line}\n' for line in lines))
 
 
 if __name__ == '__main__':

@@ -1,9 +1,9 @@
 #!/usr/bin/env python3
 """Makes programs with the answers of an independent verifier.
 
-`scripts/models/verifier_cases.py FOLDER` writes FOLDER/data/cases.txt, a file of bytecode in hexadecimal
-digits on each line, and FOLDER/stdout, for each line what a program that is accepted needs, or the
-fault. With `-f FILE` it writes a few files alone.
+`scripts/models/verifier_cases.py FOLDER` writes FOLDER/data/verifier_cases.txt, a file of bytecode in hexadecimal
+digits on each line, and the part `verifier` of FOLDER/stdout, for each line what a program that is accepted needs, or
+the fault. With `-f FILE` it writes a few files alone.
 """
 import collections
 import copy
@@ -13,6 +13,7 @@ import random
 import sys
 
 import bytecode_cases
+from stored_parts import write_part
 from verifier_makers import EITHER, WIDTHS, random_program, settle
 from verifier_model import (
     CODES, COMPARES, JOINS, MOST, NAMES, REDUCES, SHIFTS, TAKEN, Program, Section, answer_to,
@@ -715,9 +716,9 @@ def write(folder):
     check_later_spread(seen, later_answers)
     lines += swept_lines + later_lines
     answers += swept_answers + later_answers
-    for name, written in (("data/cases.txt", lines), ("stdout", answers)):
-        with open(f"{folder}/{name}", "w") as file:
-            file.writelines(f"{it}\n" for it in written)
+    with open(f"{folder}/data/verifier_cases.txt", "w") as file:
+        file.writelines(f"{it}\n" for it in lines)
+    write_part(f"{folder}/stdout", "verifier", "".join(f"{it}\n" for it in answers))
     return answers
 
 

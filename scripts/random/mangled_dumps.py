@@ -1,8 +1,8 @@
 #!/usr/bin/env python3
 """Reads mangled dumps: scripts/random/mangled_dumps.py PROGRAM [DUMPS [SEED]]
 
-PROGRAM is the built `answers_dumps`. Small dumps whose lines are written in each way lose, repeat or get bytes. What it
-prints of each, the first fault with its line or counts and values, must be what `scripts/models/dump_model.py` says.
+PROGRAM is the built `answers_reports`. Small dumps whose lines are written in each way lose, repeat or get bytes. What
+it prints of each, the first fault with its line or counts and values, must be what `scripts/models/dump_model.py` says.
 """
 import os
 import sys

@@ -24,10 +24,10 @@ SECONDS = 120
 
 
 def answers_of(program, files, folder, named):
-    cases.write_listed(files, f"{folder}/cases.txt")
+    cases.write_listed(files, f"{folder}/bytecode_cases.txt")
     try:
         ran = subprocess.run(
-            [program], cwd=folder, capture_output=True, text=True, timeout=SECONDS)
+            [program, "bytecode"], cwd=folder, capture_output=True, text=True, timeout=SECONDS)
     except subprocess.TimeoutExpired:
         sys.exit(f"{named} take over {SECONDS} s")
     if ran.returncode:

@@ -1,8 +1,8 @@
 #!/usr/bin/env python3
-"""Compares answers_machine with an independent machine on random programs and rows:
+"""Compares answers_bytecode with an independent machine on random programs and rows:
 scripts/random/random_machine.py PROGRAM [CASES [ROWS [SEED]]]
 
-PROGRAM is answers_machine. So many programs are made that are accepted (10,000), every other one of version 2 whose
+PROGRAM is answers_bytecode. So many programs are made that are accepted (10,000), every other one of version 2 whose
 antecedent may accept first, each with so many rows (100). The answers are those of machine_model.py: for each clock the
 cost and what was decided, then the open starts. Then the same for each file with one byte changed of the smallest
 monitor that an independent verifier accepts; no clock of it may spend more than its budget. It stops at the first that
@@ -61,7 +61,7 @@ def answers_of(oracle, asked):
     """What the program answers to each case."""
     text = "".join(f"{line}\n" for it in asked for line in it)
     try:
-        ran = subprocess.run([oracle], input=text, capture_output=True, text=True, timeout=SECONDS)
+        ran = subprocess.run([oracle, "machine"], input=text, capture_output=True, text=True, timeout=SECONDS)
     except subprocess.TimeoutExpired:
         first, last = (it[0].removeprefix("case ") for it in (asked[0], asked[-1]))
         sys.exit(f"the cases {first} to {last} take over {SECONDS} s")
@@ -75,9 +75,9 @@ def difference(asked, answer, wanted):
     for at, line in enumerate(wanted):
         said = answer[at] if at < len(answer) else "nothing"
         if said != line:
-            return "\n".join([*asked[:at + 2], f"--- answers_machine at clock {at - 1}", said,
+            return "\n".join([*asked[:at + 2], f"--- answers_bytecode at clock {at - 1}", said,
                               "--- by the model", line])
-    return "\n".join([*asked, "--- answers_machine says more", *answer[len(wanted):]])
+    return "\n".join([*asked, "--- answers_bytecode says more", *answer[len(wanted):]])
 
 
 def compare(oracle, cases):

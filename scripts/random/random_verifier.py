@@ -1,8 +1,8 @@
 #!/usr/bin/env python3
-"""Compares answers_verifier with an independent verifier on random programs:
+"""Compares answers_bytecode with an independent verifier on random programs:
 scripts/random/random_verifier.py PROGRAM [CASES [SEED]]
 
-PROGRAM is answers_verifier. So many programs are made that are accepted, in about half of them the
+PROGRAM is answers_bytecode. So many programs are made that are accepted, in about half of them the
 antecedent may accept first, and four mutants of each,
 and where a changed byte still spells a program, that one too. The answers are those of
 verifier_model.py: least limits and lives, or the first fault. It stops at the first that differs,
@@ -36,10 +36,11 @@ def some_programs(rng, count):
 
 
 def answers_of(oracle, programs, folder, named):
-    with open(f"{folder}/cases.txt", "w") as file:
+    with open(f"{folder}/verifier_cases.txt", "w") as file:
         file.writelines(f"{encode(it).hex()}\n" for it in programs)
     try:
-        ran = subprocess.run([oracle], cwd=folder, capture_output=True, text=True, timeout=SECONDS)
+        ran = subprocess.run(
+            [oracle, "verifier"], cwd=folder, capture_output=True, text=True, timeout=SECONDS)
     except subprocess.TimeoutExpired:
         sys.exit(f"{named} take over {SECONDS} s")
     if ran.returncode:
@@ -56,7 +57,7 @@ def compare(oracle, programs, folder, named):
         wanted = verdict(program)
         if answer != wanted:
             spelled = encode(program).hex()
-            sys.exit(f"{spelled}\n--- answers_verifier\n{answer}\n--- by the model\n{wanted}")
+            sys.exit(f"{spelled}\n--- answers_bytecode\n{answer}\n--- by the model\n{wanted}")
     return collections.Counter(it.split()[0] for it in answers)
 
 

@@ -1,10 +1,10 @@
 #!/usr/bin/env python3
 """Whether `check` and `judge` write the same: scripts/random/same_reports.py SVAMON
 
-Over each example, and each text of answers_types and of answers_texts over a dump of random values of all the names in
-them, it compares what `svamon check` writes by 1, 4, 2 and 64 workers through windows of 1, 7, 1,000 and 65,536 clocks,
-and its status, with what `svamon judge` writes. A text that `check` can't compile (K1 to K4), or on which the slow
-`judge` takes over ten seconds, is counted apart.
+Over each example, and each text of answers_texts (suites.txt, texts.txt) over a dump of random values of all the names
+in them, it compares what `svamon check` writes by 1, 4, 2 and 64 workers through windows of 1, 7, 1,000 and 65,536
+clocks, and its status, with what `svamon judge` writes. A text that `check` can't compile (K1 to K4), or on which the
+slow `judge` takes over ten seconds, is counted apart.
 """
 import os
 import random
@@ -14,7 +14,7 @@ import sys
 import tempfile
 
 TOP = os.path.dirname(os.path.dirname(os.path.dirname(os.path.abspath(__file__))))
-DATA = f"{TOP}/crates"
+DATA = f"{TOP}/crates/answers_texts/data"
 WORDS = r"[A-Za-z_][A-Za-z0-9_$]*(?:\.[A-Za-z_][A-Za-z0-9_$]*)*"
 
 
@@ -66,27 +66,27 @@ def texts_of(file):
         return [line for line in it.read().split("\n") if line.strip()]
 
 
-def with_names(crate):
+def with_names(file):
     widths = {}
-    if crate == "answers_types":
-        for line in texts_of(f"{DATA}/{crate}/data/names.txt"):
+    if file == "suites.txt":
+        for line in texts_of(f"{DATA}/names.txt"):
             path, width = line.split(" ")
             widths.setdefault(path, int(width))
     return widths
 
 
-def compare_texts(svamon, crate, file, room):
+def compare_texts(svamon, file, room):
     chance, counts = random.Random(1), [0, 0, 0]
-    for line in texts_of(f"{DATA}/{crate}/data/{file}"):
-        widths = with_names(crate) or {path: 1 if re.search(r"(^|\.)(c|clk|r|rst)$", path) else chance.randint(1, 4)
-                                       for path in re.findall(WORDS, line)}
+    for line in texts_of(f"{DATA}/{file}"):
+        widths = with_names(file) or {path: 1 if re.search(r"(^|\.)(c|clk|r|rst)$", path) else chance.randint(1, 4)
+                                      for path in re.findall(WORDS, line)}
         with open(f"{room}/top.vcd", "w") as it:
             it.write(dump(widths, chance))
         with open(f"{room}/text.sva", "w", newline="") as it:
             it.write(line + "\n")
         told = compare(svamon, f"{room}/top.vcd", f"{room}/text.sva")
         counts[2 if told is None else int(told)] += 1
-    print(f"same_reports: {crate}: {counts[1]} texts with a report, {counts[0]} refused, all the same; "
+    print(f"same_reports: {file}: {counts[1]} texts with a report, {counts[0]} refused, all the same; "
           f"{counts[2]} not compiled, or not judged in time")
 
 
@@ -98,8 +98,8 @@ def main(svamon):
             told = compare(svamon, f"{folder}/dump.vcd", f"{folder}/assertion.sva", *ports)
             print(f"same_reports: {name}: {'a report' if told else 'REFUSED'}")
     with tempfile.TemporaryDirectory() as room:
-        compare_texts(svamon, "answers_types", "suites.txt", room)
-        compare_texts(svamon, "answers_texts", "texts.txt", room)
+        compare_texts(svamon, "suites.txt", room)
+        compare_texts(svamon, "texts.txt", room)
 
 
 if __name__ == "__main__":

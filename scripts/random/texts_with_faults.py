@@ -1,13 +1,19 @@
 #!/usr/bin/env python3
-"""Writes the texts of crates/answers_types and what each must answer: scripts/random/texts_with_faults.py
+"""Writes texts of crates/answers_texts and what each must answer: scripts/random/texts_with_faults.py
 
 A fault's place is marked by a caret in the pieces below, and the answer is worked out from the marks and the order of
 the kinds alone: Y1, Y2, Y3, Y4, Y7, Y8, Y9, Y5, Y6, then the lowest byte. No program of this repository is asked.
 """
 import itertools
 import pathlib
+import sys
 
-DATA = pathlib.Path(__file__).resolve().parents[2] / 'crates' / 'answers_types'
+TOP = pathlib.Path(__file__).resolve().parents[2]
+sys.path.insert(0, f'{TOP}/scripts/models')
+
+from stored_parts import read_part, write_part
+
+DATA = TOP / 'crates' / 'answers_texts'
 ORDER = ['Y1 UnknownName', 'Y2 Duplicate', 'Y3 WiderThan128', 'Y4 SliceRange', 'Y7 OtherClock', 'Y8 CyclicSequence',
          'Y9 TooWide', 'Y5 Degenerate', 'Y6 AdmitsEmpty']
 NAMES = [('top.clk', 1), ('top.a', 1), ('top.b', 1), ('top.d', 8), ('top.w', 100), ('top.v', 128), ('g', 8),
@@ -223,9 +229,9 @@ def main():
     (DATA / 'data' / 'names.txt').write_text(''.join(f'{path} {width}\n' for path, width in NAMES))
     (DATA / 'data' / 'suites.txt').write_text(''.join(text + '\n' for text, _ in cases))
     # verdicts were worked out by hand
-    old = (DATA / 'stdout').read_text().splitlines(keepends=True)
+    old = read_part(DATA / 'stdout', 'types').splitlines(keepends=True)
     verdicts = [line for line in old if line.startswith(('holds', 'vacuous', 'fails', 'disabled', 'open'))]
-    (DATA / 'stdout').write_text(''.join([answer + '\n' for _, answer in cases] + verdicts))
+    write_part(DATA / 'stdout', 'types', ''.join([answer + '\n' for _, answer in cases] + verdicts))
 
 
 if __name__ == '__main__':

@@ -26,21 +26,21 @@ def run_in(folder, words, **more):
         return subprocess.run(
             words, cwd=folder, env=environment, capture_output=True, text=True, timeout=SECONDS)
     except subprocess.TimeoutExpired:
-        sys.exit(f"{' '.join(words)} over {folder}/cases.txt takes over {SECONDS} s")
+        sys.exit(f"{' '.join(words)} over {folder}/bytecode_cases.txt takes over {SECONDS} s")
 
 
 def refuse_each(program, folder):
-    cases.write_listed(cases.few_cases(), f"{folder}/cases.txt")
-    ran = run_in(folder, [f"{HERE}/fail_alloc", "-l", "1", program])
+    cases.write_listed(cases.few_cases(), f"{folder}/bytecode_cases.txt")
+    ran = run_in(folder, [f"{HERE}/fail_alloc", "-l", "1", program, "bytecode"])
     print(ran.stdout + ran.stderr, end="")
     return ran.returncode == 0
 
 
 def asked(program, folder, file):
     """The largest request, and the sum of all, of a run over one file."""
-    cases.write_listed([file], f"{folder}/cases.txt")
+    cases.write_listed([file], f"{folder}/bytecode_cases.txt")
     more = {"LD_PRELOAD": f"{folder}/fail_alloc.so", "COUNT_ALLOC": f"{folder}/counts"}
-    ran = run_in(folder, [program], **more)
+    ran = run_in(folder, [program, "bytecode"], **more)
     if (ran.stdout, ran.returncode) != (cases.listed(file) + "\n", 0):
         written = ran.stdout + ran.stderr
         sys.exit(f"status {ran.returncode}, another answer to {file.hex()}: {written}")

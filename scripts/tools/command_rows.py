@@ -241,7 +241,7 @@ ACCEPTED = (
 
 
 def said_by_models(data):
-    """What the models of `answers_bytecode` and `answers_verifier` say of a file."""
+    """What the models of `answers_bytecode` say of a file."""
     if answer(data) != "program":
         return answer(data)
     program = decode(data)
@@ -319,9 +319,8 @@ def try_order(shell):
 def try_paths(shell):
     """Paths that would end the line, and a file that can't be opened for a reason without words."""
     put(shell, "odd\n.sva", b"// \xe9\n")
-    shell.expect(["check", "--vcd", "a\nb.vcd", "--sva", "r.sva"], 4, line="svamon: file a\\nb.vcd\n  " + MISSING)
-    shell.expect(["judge", "--vcd", "row.vcd", "--sva", "a\tb\x1b"], 4,
-                 line="svamon: file a\\tb\\u{1b}\n  " + MISSING)
+    shell.unusable(["check", "--vcd", "a\nb.vcd", "--sva", "r.sva"], "a\\nb.vcd", MISSING)
+    shell.unusable(["judge", "--vcd", "row.vcd", "--sva", "a\tb\x1b"], "a\\tb\\u{1b}", MISSING)
     shell.expect(["judge", "--vcd", "row.vcd", "--sva", "odd\n.sva"], 2, line="svamon: N2 NotText odd\\n.sva")
     with socket.socket(socket.AF_UNIX) as it:
         it.bind(f"{shell.folder}/socket")

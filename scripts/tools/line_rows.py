@@ -1,4 +1,4 @@
-"""What dumps say whose lines are written in each way, and mutants of them, by the built program `answers_dumps`.
+"""What dumps say whose lines are written in each way, and mutants of them, by the built program `answers_reports`.
 `outside` imports it. What must come is worked out by `scripts/models/dump_model.py`.
 """
 import os
@@ -112,7 +112,7 @@ def compare(program, folder, dumps):
         traces.append(" ".join([name, CLOCK, *paths]))
     with open(f"{folder}/traces.txt", "w", encoding="ascii") as file:
         file.write("".join(f"{trace}\n" for trace in traces))
-    ran = subprocess.run([program], cwd=folder, stdin=subprocess.DEVNULL, stdout=subprocess.PIPE, check=False)
+    ran = subprocess.run([program, "dumps"], cwd=folder, stdin=subprocess.DEVNULL, stdout=subprocess.PIPE, check=False)
     found = {}
     for line in ran.stdout.decode("latin-1").splitlines():
         found.setdefault(line.split(" ", 1)[0], []).append(line)
@@ -126,7 +126,7 @@ def compare(program, folder, dumps):
 
 def try_line_rows(root, shell):
     """Each dump, and mutants of them; the folder is emptied after each batch."""
-    program = f"{root}/crates/answers_dumps/out/answers_dumps"
+    program = f"{root}/crates/answers_reports/out/answers_reports"
     for dumps in (written_dumps(), prefixes(), mutants(MUTANTS, 1)):
         dumps = [*dumps]
         wrong = [*compare(program, shell.folder, dumps)]

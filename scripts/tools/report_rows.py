@@ -16,7 +16,10 @@ sys.path += [f"{HERE}/../models", f"{HERE}/../random"]
 import axi4_judge
 import axi4_rules
 import edge_ports
+import least_axi4
+from stored_parts import read_part
 
+CRATE = f"{HERE}/../../crates/answers_reports"
 WINDOWS = (1, 2, 3, 1000, 1024, 65536)
 TEAMS = [f"--workers 1 --window {size}" for size in WINDOWS] + ["--workers 4 --window 2"]
 
@@ -26,8 +29,8 @@ def put(shell, name, text):
         file.write(text.encode())
 
 
-def read_table(name):
-    with open(f"{HERE}/../../crates/answers_reports/{name}", newline="") as file:
+def read_table():
+    with open(f"{CRATE}/data/reports.txt", newline="") as file:
         return file.read()
 
 
@@ -40,7 +43,7 @@ def parts(table):
 
 def told():
     """What must be told of each text, by its place: the title, the report or the line of a fault, and the status."""
-    for block in read_table("stdout").removeprefix("== ").split("\n== "):
+    for block in read_part(f"{CRATE}/stdout", "reports").removeprefix("== ").split("\n== "):
         title, _, rest = block.rstrip("\n").partition("\n")
         text, _, status = rest.rpartition("status ")
         yield title, text, int(status)
@@ -57,7 +60,7 @@ def try_told(shell, title, words, text, status):
 def try_reports_told(shell):
     """Each text by `judge`, and by `check` through windows of each size and by a team."""
     wanted = told()
-    for dump, texts in parts(read_table("data/reports.txt")):
+    for dump, texts in parts(read_table()):
         put(shell, "row.vcd", dump)
         for title, text in texts:
             name, report, status = next(wanted)
@@ -102,7 +105,27 @@ def try_port_reports(shell):
         try_told(shell, ports, f"check {files} --window 3", report, status)
 
 
+def try_worked_ports(shell):
+    """How many rules a port has, and least traces of some rules, worked out by hand from the table of rules."""
+    for more, count in (("", 61), (" mode=single", 65), (" wait=0 mode=single watch=3,5", 64)):
+        put(shell, "ports.row", f"port p clock=c reset=r prefix=a_ addr=32 data=64 id=4{more}\n")
+        told = shell.run("rules --axi ports.row")[1].decode()
+        shell.tally.note(f"rules{more}", count, tokens_of(told).count("assert"))
+    ports = least_axi4.BASE + "\n"
+    put(shell, "ports.row", ports)
+    for rows, wanted, unwanted in least_axi4.worked():
+        dump = least_axi4.dump_of(axi4_rules.port_of(least_axi4.BASE, 1), rows)
+        put(shell, "row.vcd", dump)
+        report = axi4_judge.report(dump, ports)
+        lines = set(report.splitlines())
+        shell.tally.note(f"{rows}: worked out", (set(wanted), set()), (lines & set(wanted), lines & set(unwanted)))
+        status = int(any(line.startswith("fail ") for line in lines))
+        for command in ("check", "judge"):
+            try_told(shell, f"{rows}", f"{command} --vcd row.vcd --axi ports.row", report, status)
+
+
 def try_report_rows(shell):
+    try_worked_ports(shell)
     try_reports_told(shell)
     for text in itertools.chain(axi4_rules.edge_ports(), axi4_rules.worked_ports(), axi4_rules.fault_files()):
         try_rules_of(shell, text)

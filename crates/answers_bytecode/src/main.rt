@@ -1,182 +1,74 @@
-//! Tells which files are programs, and writes programs again, against answers from outside.
+//! Tells what files of bytecode are, which programs are accepted, and what their clocks come to,
+//! against answers from outside.
 //!
-//! The file `data/cases.txt` has files, one a line in hexadecimal digits. Of each it prints whether
-//! it is a program, or else the fault; of one after the sign `=` also what the program holds. A
-//! program is written again, upgraded, by itself and by its copy; the bytes are to be the same each
-//! time, with the version made 2.
+//! Without words it prints, each under its line, what the stored cases of its parts come to; the
+//! gate compares that with `stdout`. Each part says whence its answers are: `bytecode`
+//! (`spelled.rt`), `verifier` (`accepted.rt`) and `machine` (`clocks.rt`, `cases.rt`).
 //!
 //! ```text
-//! 5356414d01000000010001..    program
-//! 5356414d                   B3 Truncated 4
+//! == bytecode
+//! program
+//! B3 Truncated 4
+//! == verifier
+//! accepted history 0 stack 1 attempts 1 obligations 1 budget 14 lives 1 1
+//! F11 StackTooShort 1
+//! == machine
+//! case two_positions
+//! cost 10
+//! cost 19 (0 Holds 1)
+//! open
 //! ```
 //!
-//! The gate compares what it prints with `stdout`; `scripts/models/bytecode_cases.py` made files
-//! and answers, with a reader of its own, and `scripts/random/random_bytecode.py` compares random
-//! mutants in a `cases.txt` of theirs. With a file's name as its word it prints how long reading
-//! and writing that file took at best (`bench/bytecode`).
+//! A part's name as the first word has it do that part alone, without its line, and what follows
+//! has it time a file of yours: `bytecode FILE`, `verifier FILE`, `machine FILE CLOCKS`. The word
+//! `machine` alone has it read cases from standard input.
 //!
-//! What is answered is said by the contracts of `decode`, `encode` and `upgrade` of
-//! `bytecode_files`; the definitions stand in its `specs/Spelling.antt`, and in
-//! `bytecode/specs/Values.antt`.
+//! What is answered is said by the contracts of `decode`, `encode` and `upgrade` of `bytecode`, of
+//! `verify` and `least_limits` of `verifier`, and of `machine::Machine::clock`. The definitions
+//! stand in `bytecode/specs`, `bytecode_programs/specs`, `verifier/specs` and
+//! `machine_checked/specs`.
 //!
-//! Not promised: that a program is accepted, which is `answers_verifier`'s.
+//! Not promised: a speed, that each program occurs, nor what an accepted one is meant to check.
 #![tactic(auto)]
 
-ghost use Rattle.std.specs.Prelude.{◌<◌};
+mod accepted;
+mod cases;
+mod clocks;
+mod digits;
+mod run;
+mod spelled;
+mod timing;
 
 use anyhow::{Result, bail};
-use bytecode::Program;
-use bytecode_files::{decode, encode, upgrade};
-use std::alloc::Global;
-use std::time::Instant;
-use std::{env, fs};
+use std::env;
 
-/// The value of a hexadecimal digit, 0 for other bytes.
-fn digit(byte: u8) -> u8
-    ensures { result < 16 }
-{
-    match byte {
-        b'0'..=b'9' => byte - b'0',
-        b'a'..=b'f' => byte - b'a' + 10,
-        _ => 0,
-    }
+/// Prints what the stored cases of all parts come to.
+fn show_all(rt: &HostRuntime) -> Result<()> {
+    println!(rt; "== bytecode")?;
+    spelled::show_cases(rt)?;
+    println!(rt; "== verifier")?;
+    accepted::show_cases(rt)?;
+    println!(rt; "== machine")?;
+    clocks::show_cases(rt)
 }
 
-/// The bytes that pairs of hexadecimal digits spell.
-fn bytes_of(alloc: Global, line: &str) -> Result<Vec<u8>> {
-    let mut bytes = Vec::new(alloc);
-    for pair in line.as_bytes().chunks_exact(2) {
-        bytes.push(digit(pair[0]) * 16 + digit(pair[1]))?;
+/// Does what the words after a part's name ask for.
+fn show_part(rt: &HostRuntime, part: &str, path: Option<&str>, clocks: Option<&str>) -> Result<()> {
+    match part {
+        "bytecode" => spelled::show_with(rt, path),
+        "verifier" => accepted::show_with(rt, path),
+        "machine" => clocks::show_with(rt, path, clocks),
+        _ => bail!("no part has this name"),
     }
-    Ok(bytes)
-}
-
-/// Whether a program is written as these bytes.
-fn is_spelled(alloc: Global, program: &Program, bytes: &[u8]) -> Result<bool> {
-    let spelled = encode(alloc, program)?;
-    Ok(spelled.as_slice() == bytes)
-}
-
-/// Whether a program and its copy are written as these bytes.
-fn is_kept(alloc: Global, program: &Program, bytes: &[u8]) -> Result<bool> {
-    if !is_spelled(alloc, program, bytes)? {
-        return Ok(false);
-    }
-    let copied = program.copy(alloc)?;
-    is_spelled(alloc, &copied, bytes)
-}
-
-/// Whether these are the bytes of a file, but for the version, which is 2.
-fn is_in_version_2(upgraded: &[u8], bytes: &[u8]) -> bool {
-    if upgraded.len() != bytes.len() || bytes.len() < 5 {
-        return false;
-    }
-    upgraded[4] == 2 && upgraded[..4] == bytes[..4] && upgraded[5..] == bytes[5..]
-}
-
-/// What is told of a program that is written as these bytes in version 2; with all that it holds
-/// where it is to be listed.
-fn told(alloc: Global, program: &Program, upgraded: &[u8], is_listed: bool) -> Result<String> {
-    if !is_kept(alloc, program, upgraded)? {
-        return Ok(String::from_str(alloc, "another spelling")?);
-    }
-    if is_listed {
-        return Ok(format!(in alloc; "{program:?}")?);
-    }
-    Ok(String::from_str(alloc, "program")?)
-}
-
-/// What the bytes of a program are, which are these when upgraded.
-fn answer_upgraded(
-    alloc: Global,
-    bytes: &[u8],
-    upgraded: &[u8],
-    is_listed: bool,
-) -> Result<String> {
-    if !is_in_version_2(upgraded, bytes) {
-        return Ok(String::from_str(alloc, "another spelling")?);
-    }
-    match decode(alloc, bytes) {
-        Ok(program) => told(alloc, &program, upgraded, is_listed),
-        Err(fault) => Ok(format!(in alloc; "{fault}")?),
-    }
-}
-
-/// What the bytes are, with all that a program holds where it is to be listed.
-fn answer(alloc: Global, bytes: &[u8], is_listed: bool) -> Result<String> {
-    match upgrade(alloc, bytes) {
-        Ok(upgraded) => answer_upgraded(alloc, bytes, upgraded.as_slice(), is_listed),
-        Err(fault) => Ok(format!(in alloc; "{fault}")?),
-    }
-}
-
-/// What the file of a line is.
-fn answer_of_line(alloc: Global, line: &str) -> Result<String> {
-    match line.strip_prefix('=') {
-        Some(digits) => answer(alloc, bytes_of(alloc, digits)?.as_slice(), true),
-        None => answer(alloc, bytes_of(alloc, line)?.as_slice(), false),
-    }
-}
-
-/// What the files of all lines are, a line for each.
-fn answers_of(alloc: Global, lines: &str) -> Result<String> {
-    let mut answers = String::new(alloc);
-    for line in lines.lines() {
-        answers.push_str(answer_of_line(alloc, line)?.as_str())?;
-        answers.push('\n')?;
-    }
-    Ok(answers)
-}
-
-/// How many microseconds writing a program took, as these bytes.
-fn time_written(rt: &HostRuntime, program: &Program, bytes: &[u8]) -> Result<u128> {
-    let start = Instant::now(rt)?;
-    let spelled = encode(rt.alloc(), program)?;
-    let written = start.elapsed(rt)?.as_micros();
-    if spelled.as_slice() != bytes {
-        bail!("another spelling");
-    }
-    Ok(written)
-}
-
-/// How many microseconds reading and writing a file took.
-fn time_once(rt: &HostRuntime, bytes: &[u8]) -> Result<(u128, u128)> {
-    let start = Instant::now(rt)?;
-    let decoded = decode(rt.alloc(), bytes);
-    let read = start.elapsed(rt);
-    match decoded {
-        Ok(program) => {
-            let written = time_written(rt, &program, bytes);
-            drop(program);
-            Ok((read?.as_micros(), written?))
-        }
-        Err(fault) => bail!("{fault}"),
-    }
-}
-
-/// Prints the least times of a hundred rounds.
-fn time_file(rt: &HostRuntime, bytes: &[u8]) -> Result<()> {
-    let mut least = (u128::MAX, u128::MAX);
-    for _ in 0..100 {
-        let (read, written) = time_once(rt, bytes)?;
-        least = (least.0.min(read), least.1.min(written));
-    }
-    let (read, written) = least;
-    println!(rt; "decode {read} us encode {written} us")?;
-    Ok(())
-}
-
-/// Prints what the files of all cases are.
-fn show_cases(rt: &HostRuntime) -> Result<()> {
-    let lines = fs::read_to_string(rt, "cases.txt")?;
-    let answers = answers_of(rt.alloc(), lines.as_str())?;
-    print!(rt; "{answers}")?;
-    Ok(())
 }
 
 fn main(rt: HostRuntime) -> Result<()> {
-    match env::args(&rt)?.nth(1) {
-        Some(path) => time_file(&rt, fs::read(&rt, path.as_str())?.as_slice()),
-        None => show_cases(&rt),
+    let mut args = env::args(&rt)?;
+    let part = args.nth(1);
+    let path = args.next();
+    let clocks = args.next();
+    match part {
+        Some(part) => show_part(&rt, part.as_str(), path.as_deref(), clocks.as_deref()),
+        None => show_all(&rt),
     }
 }

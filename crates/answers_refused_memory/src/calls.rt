@@ -1,17 +1,18 @@
 //! The calls, each over the same dump, and their answers on a line.
 
+use crate::outcome::told;
+use crate::program::PROGRAM;
 use crate::steps::board_after;
-use bytecode_files::decode;
+use bytecode::decode;
 use cli::{NoGate, build_one, check_one, judge_one};
 use cli_bytecode::run_code;
 use cli_faults::Fault;
+use report_lines::{Report, write_report};
 use signals::{Counted, CutWriter};
 use std::alloc::{AllocError, Global};
 use std::sync::Wait;
 use std::thread::Threads;
-use tests_bytecode::{PROGRAM, told};
 use vcd_reader::{Dump, VcdFault, read_dump};
-use verdicts::{Report, write_report};
 use verifier::{Verified, verify};
 use workers::run;
 use workers_core::{Job, RunFault};

@@ -17,19 +17,24 @@
 //! The calls are `read_dump`, `check_one`, `judge_one`, `build_one`, `run_code`, the steps of a
 //! core, and `run` with two workers, twice over the same job. What they answer is said by their
 //! contracts, which stand with their definitions in `vcd_reader`, `cli`, `cli_bytecode`,
-//! `workers_core` and `workers`.
+//! `workers_core` and `workers`. Behind them are the lines of three faults that no command prints.
 //!
 //! Not promised: that these are all requests that these calls can make.
 #![tactic(auto)]
 
 mod calls;
+mod outcome;
+mod program;
 mod steps;
 
+use cli_faults::Fault;
+use outcome::line_and_status;
 use std::alloc::AllocError;
 use std::io;
 use std::io::Print;
 use std::sync::Wait;
 use std::thread::Threads;
+use vcd_reader::VcdFault;
 use workers_core::Job;
 
 /// Prints the line of a call's answer.
@@ -88,8 +93,19 @@ fn show_programs<R: Print + Threads + Wait + Sync + AllocGlobal>(rt: &R) -> io::
     Ok(())
 }
 
+/// Prints the lines of the faults that no command prints: the sizes of windows and teams are looked
+/// at with the words of the command line, and V7 takes a dump with over 2^32 - 1 changes.
+fn show_faults<R: Print + AllocGlobal>(rt: &R) -> io::Result<()> {
+    let alloc = rt.alloc();
+    show(rt, "fault", line_and_status(alloc, Fault::BadSize))?;
+    show(rt, "fault", line_and_status(alloc, Fault::BadWorkers))?;
+    let large = Fault::Vcd(VcdFault::TooLarge);
+    show(rt, "fault", line_and_status(alloc, large))
+}
+
 fn main(rt: HostRuntime) -> io::Result<()> {
     show_reports(&rt)?;
     show_programs(&rt)?;
-    show_runs(&rt)
+    show_runs(&rt)?;
+    show_faults(&rt)
 }

@@ -1,6 +1,6 @@
 //! The steps of a core.
 
-use machine_decisions::Batch;
+use machine_batches::Batch;
 use std::alloc::{AllocError, Global};
 use std::fmt::Write;
 use workers_core::{Core, Job, Reply, Step};

@@ -1,33 +1,67 @@
-//! Prints what `check` and `judge` tell of a table, against answers from outside.
+//! Tells what is in stored dumps, and what `check` and `judge` tell of small ones, against answers
+//! from outside.
 //!
-//! `data/reports.txt` has 166 small dumps and texts, with reports and faults that were worked out
-//! by hand from the standard.
-//!
-//! Each text goes through `check_one` by windows of 1, 2, 3, 1,000, 1,024 and 65,536 clocks,
-//! through `check_all` by 1 and by 4 workers, and through `judge_one`; where one of them tells
-//! another thing than the others, the program ends with an error. `scripts/tools/report_rows.py`
-//! runs the built svamon over the same table.
+//! Without words it prints, each under its line, what the stored cases of its parts come to; the
+//! gate compares that with `stdout`. Each part says whence its answers are: `dumps` (`dumps.rt`)
+//! and `reports` (`reports.rt`, `runs.rt`).
 //!
 //! ```text
+//! == dumps
+//! fifo_arb_bug1.vcd names 37 steps 1613 changes 14944 ticks 803
+//! ..
+//! == reports
+//! == it fails at its tick
 //! svamon 1
-//! clocks 2
-//! monitor r holds 1 vacuous 1 fails 0 disabled 0 open 0
+//! clocks 1
+//! monitor r holds 0 vacuous 0 fails 1 disabled 0 open 0
 //! ..
 //! ```
 //!
-//! The gate compares what is printed with `stdout`. What a report says is the contract of
-//! `cli::check_one`, `check_all` and `judge_one`; the definitions stand in
-//! `cli/specs/Reported.antt`.
+//! A part's name as its word has it do that part alone, without its line.
 //!
-//! Not promised: that each form of a text occurs; `make random` draws others.
+//! What is read is said by the contracts of `vcd_reader` and `cycle_window`; the definitions stand
+//! in their `specs/`: `Dump.antt` of what a dump says, `Ticks.antt` of its ticks and rows. What a
+//! report says is the contract of `cli::check_one`, `check_all` and `judge_one`; the definitions
+//! stand in `cli/specs/Reported.antt`.
+//!
+//! Not promised: that each form of a dump or of a text occurs; `tests_dumps` has other dumps, and
+//! `make random` draws both.
 #![tactic(auto)]
 
+mod dumps;
 mod reports;
 mod runs;
 
-use std::fs;
+use anyhow::{Result, bail};
+use std::env;
+use std::fs::Files;
+use std::io::Print;
+use std::sync::Wait;
+use std::thread::Threads;
 
-fn main(rt: HostRuntime) -> anyhow::Result<()> {
-    let table = fs::read_to_string(&rt, "reports.txt")?;
-    reports::show(&rt, table.as_str())
+/// Prints what the stored cases of both parts come to.
+fn show_all<R: Files + Print + AllocGlobal + Threads + Wait + Sync>(rt: &R) -> Result<()> {
+    println!(rt; "== dumps")?;
+    dumps::show_cases(rt)?;
+    println!(rt; "== reports")?;
+    reports::show_cases(rt)
+}
+
+/// Shows the stored cases of a part.
+fn show_part<R: Files + Print + AllocGlobal + Threads + Wait + Sync>(
+    rt: &R,
+    part: &str,
+) -> Result<()> {
+    match part {
+        "dumps" => dumps::show_cases(rt),
+        "reports" => reports::show_cases(rt),
+        _ => bail!("no part has this name"),
+    }
+}
+
+fn main(rt: HostRuntime) -> Result<()> {
+    match env::args(&rt)?.nth(1) {
+        Some(part) => show_part(&rt, part.as_str()),
+        None => show_all(&rt),
+    }
 }

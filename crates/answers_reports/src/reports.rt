@@ -1,8 +1,18 @@
-//! Texts over dumps. The table has dumps, each after a line that begins with `== dump`, and after
-//! a dump texts, each after a line `== ` with its title: they are run over that dump.
+//! What `check` and `judge` tell of texts over dumps.
+//!
+//! The table `data/reports.txt` has dumps, each after a line that begins with `== dump`, and after
+//! a dump texts, each after a line `== ` with its title: they are run over that dump. Its 166 small
+//! dumps and texts have reports and faults that were worked out by hand from the standard.
+//!
+//! Each text goes through `check_one` by windows of 1, 2, 3, 1,000, 1,024 and 65,536 clocks,
+//! through `check_all` by 1 and by 4 workers, and through `judge_one`; where one of them tells
+//! another thing than the others, the program ends with an error. `scripts/tools/report_rows.py`
+//! runs the built svamon over the same table.
 
 use crate::runs::{Answer, checked_answer, judged_answer, team_answer};
 use anyhow::{Result, bail};
+use std::fs;
+use std::fs::Files;
 use std::io::Print;
 use std::sync::Wait;
 use std::thread::Threads;
@@ -48,9 +58,17 @@ fn show_texts<R: Print + AllocGlobal + Threads + Wait + Sync>(rt: &R, part: &str
 }
 
 /// Prints what is told of each text of the table.
-pub fn show<R: Print + AllocGlobal + Threads + Wait + Sync>(rt: &R, table: &str) -> Result<()> {
+fn show<R: Print + AllocGlobal + Threads + Wait + Sync>(rt: &R, table: &str) -> Result<()> {
     for part in table.split("\n== dump") {
         show_texts(rt, part)?;
     }
     Ok(())
+}
+
+/// Prints what is told of each stored text.
+pub(crate) fn show_cases<R: Files + Print + AllocGlobal + Threads + Wait + Sync>(
+    rt: &R,
+) -> Result<()> {
+    let table = fs::read_to_string(rt, "reports.txt")?;
+    show(rt, table.as_str())
 }

@@ -3,7 +3,7 @@
 ghost use Rattle.std.specs.Prelude.{◌<◌};
 
 use anyhow::{Result, bail};
-use bytecode_files::decode;
+use bytecode::decode;
 use signals::Counted;
 use std::alloc::Global;
 use vcd_reader::{Dump, read_dump};

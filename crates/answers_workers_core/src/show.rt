@@ -1,7 +1,7 @@
 //! Steps, replies and batches as text.
 
 use anyhow::{Context, Result, bail};
-use machine_decisions::{Batch, Streak};
+use machine_batches::{Batch, Streak};
 use signals::{Decided, Verdict};
 use std::alloc::Global;
 use workers_core::{Reply, Step};

@@ -1,5 +1,5 @@
-pub mod Texts
-pub mod Values
+pub mod Opcodes
+pub mod Spelling
+pub mod Reading
 pub mod Views
-pub mod Programs
-pub mod Instructions
+pub mod Laws

@@ -7,11 +7,11 @@ use Rattle.vcd_reader.specs.Variables.{Declared}
 use Rattle.vcd_reader.specs.Dump.{Contents}
 use Rattle.vcd_reader.specs.Held.{HoldsContents, variables_of}
 use Rattle.cycle_window.specs.Bound.{IsClock}
-use Rattle.verdicts.specs.Lines.{ReportData}
-use Rattle.compiled_reports.specs.declared.fault.LinesFault.{LinesFault}
-use Rattle.compiled_reports.specs.Lines.{AreVariables, rows_at}
-use Rattle.compiled_reports.specs.Faults.{WhyNoLines}
-use Rattle.judged_reports.specs.Reported.{OverRows}
+use Rattle.report_lines.specs.Lines.{ReportData}
+use Rattle.report_programs.specs.declared.fault.LinesFault.{LinesFault}
+use Rattle.report_programs.specs.Lines.{AreVariables, rows_at}
+use Rattle.report_programs.specs.Faults.{WhyNoLines}
+use Rattle.report_suites.specs.Reported.{OverRows}
 use Rattle.cli.specs.Programs.{lines_fault}
 use Rattle.cli.specs.Reported.{HasReport, SaysSuite}
 use Rattle.cli.specs.Outcomes.{WhyNoneByPrograms}

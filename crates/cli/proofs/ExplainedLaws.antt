@@ -4,12 +4,12 @@ use Rattle.std.specs.Prelude.{Result, Ok, Err, IfOk, IfErr, OnOk, string_bytes}
 use Rattle.std.specs.Io.KnownBytes.{Appends}
 use Rattle.assertions.specs.declared.suite.Suite.{Suite}
 use Rattle.vcd_reader.specs.Dump.{Contents, GaveDump}
-use Rattle.verdicts.specs.declared.write.ReportFault.TheVariants as reports
-use Rattle.verdicts.specs.Lines.{line}
-use Rattle.verdicts.specs.Shown.{data_of}
-use Rattle.explained_reports.specs.declared.failed_attempt.FailedAttempt.{FailedAttempt}
-use Rattle.explained_reports.specs.declared.selection.Wanted.{Wanted}
-use Rattle.explained_reports.specs.ExplainedText.{IsExplainedText}
+use Rattle.report_lines.specs.declared.write.ReportFault.TheVariants as reports
+use Rattle.report_lines.specs.Lines.{line}
+use Rattle.report_lines.specs.Shown.{data_of}
+use Rattle.report_explained.specs.declared.failed_attempt.FailedAttempt.{FailedAttempt}
+use Rattle.report_explained.specs.declared.selection.Wanted.{Wanted}
+use Rattle.report_explained.specs.ExplainedText.{IsExplainedText}
 use Rattle.report_forms.specs.Provenances.{ProvenanceData}
 use Rattle.cli_faults.specs.declared.fault.Fault.{Fault}
 use Rattle.cli_faults.specs.declared.fault.Fault.TheVariants.{

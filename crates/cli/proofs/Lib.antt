@@ -1,5 +1,4 @@
 pub mod RunLaws
-pub mod PathLaws
 pub mod TextLaws
 pub mod TimeLaws
 pub mod ProgramLaws

@@ -24,22 +24,22 @@ use Rattle.assertions.specs.declared.assertion.Assertion.{Assertion}
 use Rattle.assertions.specs.declared.signal.Signal.{Signal}
 use Rattle.assertions.specs.declared.suite.Suite.{Suite}
 use Rattle.parser_grammar.specs.Trees.{ItemForm}
-use Rattle.laws_suites.specs.Laws.{SuitesFit}
-use Rattle.cli.specs.Dumps.{width_named}
+use Rattle.compiler_laws.specs.SuiteLaws.{SuitesFit}
+use Rattle.suite_over_dump.specs.Dumps.{width_named}
 use Rattle.vcd_reader.specs.declared.dump.Dump.{Dump}
 use Rattle.vcd_reader.specs.Variables.{Declared, variable_named, size_of}
 use Rattle.vcd_reader.specs.Held.{HoldsContents, variables_of}
 use Rattle.cycle_window.specs.Bound.{Misfit, misfit, HasClock, IsClock}
 use Rattle.vcd_reader.specs.Dump.{Contents}
 use Rattle.cycle_window.specs.Ticks.{ticks_of, row_of}
-use Rattle.verdicts.specs.Lines.{LineData, ReportData, report_of}
+use Rattle.report_lines.specs.Lines.{LineData, ReportData, report_of}
 use Rattle.compiler.specs.Conditions.{FitsSuite}
-use Rattle.compiled_reports.specs.Lines.{IsWatched, AreVariables, rows_at, IsLineOf, IsReportOf}
-use Rattle.judged_reports.specs.Named.{AreNamed}
-use Rattle.judged_reports.specs.Judged.{AreLinesOver}
-use Rattle.judged_reports.specs.Reported.{OverRows, Reports}
+use Rattle.report_programs.specs.Lines.{IsWatched, AreVariables, rows_at, IsLineOf, IsReportOf}
+use Rattle.report_suites.specs.Named.{AreNamed}
+use Rattle.report_suites.specs.Judged.{AreLinesOver}
+use Rattle.report_suites.specs.Reported.{OverRows, Reports}
 use Rattle.cli.specs.Reported.{HasItems, IsTyped}
-use Rattle.judged_reports.proofs.ReportLaws.{same_places, have_places, reports}
+use Rattle.report_suites.proofs.ReportLaws.{same_places, have_places, reports}
 
 -- the lines of programs are lines of verdicts
 lines_kept : (suite : Suite) (rows : List (List ℕ)) (all : List Assertion) (ls : List LineData)

@@ -38,19 +38,19 @@ use Rattle.parser.specs.Faults as parser_faults
 use Rattle.parser_grammar.specs.Trees.{ItemForm}
 use Rattle.assertions.specs.declared.signal.Signal.{Signal}
 use Rattle.assertions.specs.declared.suite.Suite.{Suite}
-use Rattle.cli.specs.Dumps.{width_named}
+use Rattle.suite_over_dump.specs.Dumps.{width_named}
 use Rattle.types_names.specs.Columns.{columns_of, is_listed}
 use Rattle.types_names.specs.Asked.{asked}
-use Rattle.types_suites.specs.declared.fault.TypeFault.{TypeFault}
-use Rattle.types_suites.specs.declared.fault.TypeFault.TheVariants as types
-use Rattle.types_suites.specs.Faults as faults
-use Rattle.types_suites.specs.Faults.{IsFirst, IsFaultless}
-use Rattle.types_suites.specs.Suites.{AreSignals, IsSuite}
-use Rattle.compiled_reports.specs.declared.fault.LinesFault.{LinesFault}
-use Rattle.compiled_reports.specs.declared.fault.LinesFault.TheVariants.{Program}
-use Rattle.compiled_reports.specs.declared.fault.LinesFault.TheVariants as lines
+use Rattle.types.specs.declared.fault.TypeFault.{TypeFault}
+use Rattle.types.specs.declared.fault.TypeFault.TheVariants as types
+use Rattle.types.specs.Faults as faults
+use Rattle.types.specs.Faults.{IsFirst, IsFaultless}
+use Rattle.types.specs.Suites.{AreSignals, IsSuite}
+use Rattle.report_programs.specs.declared.fault.LinesFault.{LinesFault}
+use Rattle.report_programs.specs.declared.fault.LinesFault.TheVariants.{Program}
+use Rattle.report_programs.specs.declared.fault.LinesFault.TheVariants as lines
 use Rattle.compiler.specs.declared.fault.CompileFault.TheVariants as compiles
-use Rattle.compiled_reports.specs.Faults.{WhyNoLines}
+use Rattle.report_programs.specs.Faults.{WhyNoLines}
 use Rattle.vcd_reader.specs.Variables.{Declared, variable_named, size_of}
 use Rattle.vcd_reader.specs.Dump.{Contents}
 use Rattle.cycle_window.specs.declared.fault.WindowFault.{WindowFault}
@@ -78,7 +78,7 @@ use Rattle.cli_faults.specs.declared.fault.Fault.TheVariants.{
   Memory,
 }
 use Rattle.cli.specs.Named.{scope_over}
-use Rattle.judged_reports.specs.Named.{AreNamed}
+use Rattle.report_suites.specs.Named.{AreNamed}
 use Rattle.cli_faults.specs.Faults.{lex_fault, parse_fault, type_fault, window_fault}
 use Rattle.cli.specs.Programs.{lines_fault}
 use Rattle.cli.specs.Reported.{AreTokens, HasItems, IsTyped, SaysSuite}

@@ -13,11 +13,11 @@ use Rattle.vcd_reader.specs.Held.{HoldsContents, variables_of, steps_in}
 use Rattle.cycle_window.specs.Bound.{IsClock}
 use Rattle.cycle_window.specs.Ticks.{ticks_of, row_of}
 use Rattle.cycle_window.specs.Times.{time_of_step}
-use Rattle.verdicts.specs.Lines.{ReportData, LineData}
-use Rattle.compiled_reports.specs.Lines.{IsWatched, AreVariables, rows_at}
-use Rattle.judged_reports.specs.Named.{AreNamed}
-use Rattle.judged_reports.specs.Judged.{AreLinesOver}
-use Rattle.judged_reports.specs.Reported.{OverRows, Reports, rows_of}
+use Rattle.report_lines.specs.Lines.{ReportData, LineData}
+use Rattle.report_programs.specs.Lines.{IsWatched, AreVariables, rows_at}
+use Rattle.report_suites.specs.Named.{AreNamed}
+use Rattle.report_suites.specs.Judged.{AreLinesOver}
+use Rattle.report_suites.specs.Reported.{OverRows, Reports, rows_of}
 use Rattle.cli.specs.Reported.{SaysSuite, HasReport}
 use Rattle.cli.specs.Timed.{AreTimesIn, TellsTimes}
 use Rattle.cli.specs.Explained.{IsTraced}

@@ -1,10 +1,10 @@
 -- What is shown of explanations in memory.
 use Rattle.std.proofs.Common.{◌≡◌, ℕ, List, length, string_bytes, sym, subst}
 use Rattle.vcd_reader.specs.Dump.{Contents}
-use Rattle.verdicts.specs.Shown.{data_of}
-use Rattle.explained_reports.specs.declared.failed_attempt.FailedAttempt.{FailedAttempt}
-use Rattle.explained_reports.specs.declared.selection.Wanted.{Wanted}
-use Rattle.explained_reports.specs.ExplainedText.{IsExplainedText}
+use Rattle.report_lines.specs.Shown.{data_of}
+use Rattle.report_explained.specs.declared.failed_attempt.FailedAttempt.{FailedAttempt}
+use Rattle.report_explained.specs.declared.selection.Wanted.{Wanted}
+use Rattle.report_explained.specs.ExplainedText.{IsExplainedText}
 use Rattle.report_forms.specs.Provenances.{ProvenanceData}
 use Rattle.report_gtkwave.specs.Views.{names_in, unit_in}
 use Rattle.report_gtkwave.specs.Saves.{IsSave}

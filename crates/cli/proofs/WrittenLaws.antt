@@ -3,9 +3,9 @@ use Rattle.std.proofs.Common.{◌≡◌, ℕ, List}
 use Rattle.std.specs.Prelude.{Result, Ok, Err, OnOk, IfOk, IfErr, false}
 use Rattle.std.specs.Io.KnownBytes.{Appends}
 use Rattle.vcd_reader.specs.Dump.{Gave}
-use Rattle.verdicts.specs.declared.write.ReportFault.TheVariants as reports
-use Rattle.verdicts.specs.Lines.{ReportData}
-use Rattle.verdicts.specs.Texts.{report_text}
+use Rattle.report_lines.specs.declared.write.ReportFault.TheVariants as reports
+use Rattle.report_lines.specs.Lines.{ReportData}
+use Rattle.report_lines.specs.Texts.{report_text}
 use Rattle.cli_faults.specs.declared.fault.Fault.{Fault}
 use Rattle.cli_faults.specs.declared.fault.Fault.TheVariants.{
   Vcd,

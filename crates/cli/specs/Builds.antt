@@ -4,8 +4,8 @@ use Rattle.std.specs.List.{AllByRecursion}
 use Rattle.signals.specs.Source.{SourceState}
 use Rattle.assertions.specs.declared.assertion.Assertion.{Assertion}
 use Rattle.assertions.specs.declared.suite.Suite.{Suite}
-use Rattle.bytecode.specs.Values.{ProgramData, fits_program}
-use Rattle.bytecode_files.specs.Spelling.{spelling}
+use Rattle.bytecode_programs.specs.Values.{ProgramData, fits_program}
+use Rattle.bytecode.specs.Spelling.{spelling}
 use Rattle.verifier.specs.Programs.{IsAccepted, least_limits}
 use Rattle.parser.specs.declared.fault.ParseFault.TheVariants as parsing
 use Rattle.compiler.specs.declared.fault.CompileFault.{CompileFault}

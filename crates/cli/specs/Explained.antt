@@ -11,18 +11,18 @@ use Rattle.expressions.specs.declared.rows.Rows.{Rows}
 use Rattle.expressions.specs.Rows.{HasCounts}
 use Rattle.assertions.specs.declared.suite.Suite.{Suite}
 use Rattle.vcd_reader.specs.Dump.{Contents, GaveDump}
-use Rattle.verdicts.specs.declared.line.Line.{Line}
-use Rattle.verdicts.specs.declared.write.ReportFault.TheVariants as reports
-use Rattle.verdicts.specs.Lines.{ReportData, line}
-use Rattle.verdicts.specs.Shown.{data_of}
+use Rattle.report_lines.specs.declared.line.Line.{Line}
+use Rattle.report_lines.specs.declared.write.ReportFault.TheVariants as reports
+use Rattle.report_lines.specs.Lines.{ReportData, line}
+use Rattle.report_lines.specs.Shown.{data_of}
 use Rattle.report_forms.specs.Provenances.{ProvenanceData}
-use Rattle.judged_reports.specs.Reported.{Reports, rows_of}
-use Rattle.explained_reports.specs.declared.explanation.Explanation.{Explanation}
-use Rattle.explained_reports.specs.declared.failed_attempt.FailedAttempt.{FailedAttempt}
-use Rattle.explained_reports.specs.declared.selection.Wanted.{Wanted}
-use Rattle.explained_reports.specs.Explained.{AreExplained}
-use Rattle.explained_reports.specs.ExplainedText.{IsExplainedText}
-use Rattle.explained_reports.specs.Told.{IsToldOf}
+use Rattle.report_suites.specs.Reported.{Reports, rows_of}
+use Rattle.report_explained.specs.declared.explanation.Explanation.{Explanation}
+use Rattle.report_explained.specs.declared.failed_attempt.FailedAttempt.{FailedAttempt}
+use Rattle.report_explained.specs.declared.selection.Wanted.{Wanted}
+use Rattle.report_explained.specs.Explained.{AreExplained}
+use Rattle.report_explained.specs.ExplainedText.{IsExplainedText}
+use Rattle.report_explained.specs.Told.{IsToldOf}
 use Rattle.report_page.specs.PageForm.{IsPage}
 use Rattle.cli_faults.specs.declared.fault.Fault.{Fault}
 use Rattle.cli_faults.specs.declared.fault.Fault.TheVariants.{NoAssertion, Report, Memory}

@@ -1,4 +1,3 @@
-pub mod Dumps
 pub mod Named
 pub mod Programs
 pub mod Reported

@@ -1,8 +1,8 @@
 -- What a run over a source, a text and a sink comes to.
-use Rattle.std.specs.Prelude.{◌≡◌, ℕ, ◌≤◌, List, None, Ok, string_bytes, false}
+use Rattle.std.specs.Prelude.{◌≡◌, ℕ, ◌≤◌, List, string_bytes, false}
 use Rattle.std.specs.Io.KnownBytes.{Appends}
 use Rattle.signals.specs.Source.{SourceState, after_failure}
-use Rattle.signals.specs.Sink.{SinkState, AppendsFront}
+use Rattle.signals.specs.Sink.{AppendsFront}
 use Rattle.lexer.specs.declared.token.Token.{Token}
 use Rattle.lexer.specs.Covering.{IsFaulty}
 use Rattle.parser_grammar.specs.Trees.{ItemForm}
@@ -11,33 +11,32 @@ use Rattle.assertions.specs.declared.suite.Suite.{Suite}
 use Rattle.parser.specs.declared.fault.ParseFault.{ParseFault}
 use Rattle.parser.specs.declared.fault.ParseFault.TheVariants as parsing
 use Rattle.parser.specs.Faults.{IsPlaced}
-use Rattle.types_suites.specs.declared.fault.TypeFault.{TypeFault}
-use Rattle.types_suites.specs.declared.fault.TypeFault.TheVariants as types
-use Rattle.types_suites.specs.Faults.{IsFirst}
+use Rattle.types.specs.declared.fault.TypeFault.{TypeFault}
+use Rattle.types.specs.declared.fault.TypeFault.TheVariants as types
+use Rattle.types.specs.Faults.{IsFirst}
 use Rattle.compiler.specs.declared.fault.CompileFault.{CompileFault}
 use Rattle.compiler.specs.declared.fault.CompileFault.TheVariants as compiles
-use Rattle.compiled_reports.specs.Faults.{HasNoProgram, HasBadCount}
+use Rattle.report_programs.specs.Faults.{HasNoProgram, HasBadCount}
 use Rattle.vcd_reader.specs.declared.fault.VcdFault.TheVariants as dumps
-use Rattle.vcd_reader.specs.Dump.{Contents, Gave, GaveDump, dump_of}
+use Rattle.vcd_reader.specs.Dump.{Contents, Gave, GaveDump}
 use Rattle.vcd_reader.specs.declared.dump.Dump.{Dump}
 use Rattle.vcd_reader.specs.Held.{ReadsAs}
 use Rattle.cycle_window.specs.declared.fault.WindowFault.{WindowFault}
 use Rattle.cycle_window.specs.declared.fault.WindowFault.TheVariants as windows
 use Rattle.cycle_window.specs.Bound.{HasClock, IsClockFault}
-use Rattle.verdicts.specs.declared.write.ReportFault.TheVariants as reports
-use Rattle.verdicts.specs.Lines.{ReportData}
-use Rattle.verdicts.specs.Texts.{report_text}
+use Rattle.report_lines.specs.declared.write.ReportFault.TheVariants as reports
+use Rattle.report_lines.specs.Lines.{ReportData}
+use Rattle.report_lines.specs.Texts.{report_text}
 use Rattle.cli_faults.specs.declared.fault.Fault.{Fault}
 use Rattle.cli_faults.specs.declared.fault.Fault.TheVariants.{Vcd, Lex, Parse, Typing, Compile}
 use Rattle.cli_faults.specs.declared.fault.Fault.TheVariants.{BadSize, BadWorkers, BadJob, Window}
 use Rattle.cli_faults.specs.declared.fault.Fault.TheVariants.{Report}
 use Rattle.cli_faults.specs.declared.fault.Fault.TheVariants.{Memory}
-use Rattle.cli_faults.specs.Runs.{Run, run_of, totals_of, IsUnwritten, IsUnread, IsOutOfMemory}
+use Rattle.cli_faults.specs.Runs.{Run, totals_of, IsUnwritten, IsUnread, IsOutOfMemory}
 use Rattle.cli_faults.specs.Runs.{IsOutOfRange, IsUntouched}
 use Rattle.workers_core.specs.Values.{IsBadTeam}
 use Rattle.cli.specs.Named.{scope_over}
 use Rattle.cli.specs.Reported.{AreTokens, HasItems, SaysSuite, IsReport}
-use Rattle.cli.specs.Timed.{TellsTimes}
 
 -- The source gave all its bytes, and the text of the report on them and on the text was written and
 -- handed on; the totals are its last line's. No call failed.
@@ -56,25 +55,6 @@ pub record IsAnswered (r : Run) (totals : List ℕ) : Type 0 where
 pub record WasRead (before after : SourceState) (dump : Dump) : Type 0 where
   pub said : ReadsAs before.remaining after.remaining dump
   pub reads : after.failures ≡ before.failures
-
--- The source gave all its bytes, and this is the report on them and on the text, with the times of
--- its clocks. No call failed.
-pub record IsMade (text : List ℕ) (before after : SourceState) (report : ReportData)
-    (times : List ℕ) : Type 0 where
-  pub bytes : List ℕ
-  pub gave : Gave before.remaining after.remaining bytes
-  pub is_report : IsReport bytes text report
-  pub contents : Contents
-  pub dump : dump_of bytes ≡ Ok contents
-  pub timed : TellsTimes contents text report.clocks times
-  pub reads : after.failures ≡ before.failures
-
--- a run that writes nothing, whatever its sink is
-abbrev pub no_sink : SinkState
-no_sink = record { contents = None; failures = 0; keeps_back = false }
-
-abbrev pub reading_of : List ℕ → SourceState → SourceState → Run
-reading_of text before after = run_of text before after no_sink no_sink
 
 -- the text has tokens, no file spells them, and the fault stands at one of them
 pub record HasNoItems (text : List ℕ) (fault : ParseFault) : Type 0 where

@@ -1,7 +1,7 @@
 -- The faults of a suite's lines by programs, as faults of a command.
-use Rattle.compiled_reports.specs.declared.fault.LinesFault.{LinesFault}
-use Rattle.compiled_reports.specs.declared.fault.LinesFault.TheVariants.{Program}
-use Rattle.compiled_reports.specs.declared.fault.LinesFault.TheVariants as lines
+use Rattle.report_programs.specs.declared.fault.LinesFault.{LinesFault}
+use Rattle.report_programs.specs.declared.fault.LinesFault.TheVariants.{Program}
+use Rattle.report_programs.specs.declared.fault.LinesFault.TheVariants as lines
 use Rattle.cli_faults.specs.declared.fault.Fault.{Fault}
 use Rattle.cli_faults.specs.declared.fault.Fault.TheVariants.{BadJob, Memory}
 use Rattle.cli_faults.specs.Faults.{compile_fault}

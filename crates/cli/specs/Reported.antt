@@ -5,11 +5,11 @@ use Rattle.lexer.specs.Cutting.{cut_of, tokens_of}
 use Rattle.parser_grammar.specs.Trees.{ItemForm}
 use Rattle.parser_grammar.specs.Files.{IsFile}
 use Rattle.assertions.specs.declared.suite.Suite.{Suite}
-use Rattle.types_suites.specs.Faults.{IsFaultless}
-use Rattle.types_suites.specs.Suites.{IsSuite}
+use Rattle.types.specs.Faults.{IsFaultless}
+use Rattle.types.specs.Suites.{IsSuite}
 use Rattle.vcd_reader.specs.Dump.{Contents, dump_of, most_bytes}
-use Rattle.verdicts.specs.Lines.{ReportData}
-use Rattle.judged_reports.specs.Reported.{Reports}
+use Rattle.report_lines.specs.Lines.{ReportData}
+use Rattle.report_suites.specs.Reported.{Reports}
 use Rattle.cli.specs.Named.{scope_over}
 
 -- the text's tokens

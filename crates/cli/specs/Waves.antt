@@ -1,11 +1,11 @@
 -- Explanations of failed attempts with a save file of GTKWave.
 use Rattle.std.specs.Prelude.{◌≡◌, ℕ, List, length, string_bytes}
 use Rattle.vcd_reader.specs.Dump.{Contents}
-use Rattle.verdicts.specs.Lines.{ReportData}
+use Rattle.report_lines.specs.Lines.{ReportData}
 use Rattle.report_forms.specs.Provenances.{ProvenanceData}
-use Rattle.explained_reports.specs.declared.failed_attempt.FailedAttempt.{FailedAttempt}
-use Rattle.explained_reports.specs.declared.selection.Wanted.{Wanted}
-use Rattle.explained_reports.specs.ExplainedText.{IsExplainedText}
+use Rattle.report_explained.specs.declared.failed_attempt.FailedAttempt.{FailedAttempt}
+use Rattle.report_explained.specs.declared.selection.Wanted.{Wanted}
+use Rattle.report_explained.specs.ExplainedText.{IsExplainedText}
 use Rattle.report_gtkwave.specs.Views.{names_in, unit_in}
 use Rattle.report_gtkwave.specs.Saves.{IsSave}
 use Rattle.cli.specs.declared.explained.Explained.{Explained}

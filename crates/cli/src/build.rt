@@ -10,10 +10,10 @@ ghost use Rattle.cli.specs.Builds.{IsBuilt, WhyNotBuilt, IsBuiltFrom, WhyBuildRe
 
 use crate::text::{file_of, suite_of};
 use assertions::{Assertion, Suite};
-use bytecode_files::encode;
+use bytecode::encode;
 use cli_faults::Fault;
 use compiler::compile;
-use laws_suites::suite_law;
+use compiler_laws::suite_law;
 use signals::Source;
 use std::alloc::Global;
 use vcd_reader::{Dump, read_dump};

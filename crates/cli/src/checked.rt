@@ -6,9 +6,9 @@ ghost use Rattle.vcd_reader.specs.Dump.{Contents};
 ghost use Rattle.vcd_reader.specs.Held.{HoldsContents, variables_of};
 ghost use Rattle.cycle_window.specs.Bound.{IsClock};
 ghost use Rattle.cycle_window.specs.Held.{AreClocksOf, code_in};
-ghost use Rattle.verdicts.specs.Shown.{data_of};
+ghost use Rattle.report_lines.specs.Shown.{data_of};
 ghost use Rattle.compiler.specs.Conditions.{FitsSuite};
-ghost use Rattle.compiled_reports.specs.Lines.{IsWatched};
+ghost use Rattle.report_programs.specs.Lines.{IsWatched};
 ghost use Rattle.cli.specs.Reported.{HasReport, SaysSuite};
 ghost use Rattle.signals.specs.Source.{SourceState};
 ghost use Rattle.cli.specs.Outcomes.{WhyNoneByPrograms, IsAnswered, WhyCheckRefused, WasRead};
@@ -18,15 +18,15 @@ use crate::programs::{lines_fault, report_by_programs};
 use crate::text::{file_of, suite_of};
 use assertions::Suite;
 use cli_faults::{Fault, written};
-use compiled_reports::{Gate, suite_report};
+use compiler_laws::suite_law;
 use cycle_window::{Clocks, WindowSize};
-use laws_suites::suite_law;
+use report_lines::Report;
+use report_programs::{Gate, suite_report};
 use signals::{Sink, Source};
 use std::alloc::Global;
 use std::sync::Wait;
 use std::thread::Threads;
 use vcd_reader::{Dump, read_dump, read_dump_by};
-use verdicts::Report;
 use workers_core::TeamSize;
 
 /// A suite, and the ticks of its clock.
@@ -77,7 +77,7 @@ pub(crate) fn timed_suite<'a>(
     Ok(TimedSuite { suite, clocks })
 }
 
-/// The same, by as many threads at most as a team has workers.
+/// The suite and its clocks, by as many threads at most as a team has workers.
 pub(crate) fn timed_by_team<'a, R: Threads>(
     rt: &R,
     alloc: Global,
@@ -124,7 +124,7 @@ fn report_checked<'a>(
     }
 }
 
-/// The same by a team.
+/// The report over a dump by a team.
 fn report_by_team<'a, G: Gate + Sync, R: Threads + Wait + Sync>(
     rt: &R,
     alloc: Global,

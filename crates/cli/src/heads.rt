@@ -4,10 +4,10 @@
 ghost use Rattle.std.specs.Prelude.{◌≡◌, IfOk, length};
 
 use diagnostics::place_of;
-use explained_reports::{Explanation, Standing};
 use lexer::Token;
 use parser::File;
 use parser_grammar::{AssertionTree, ItemTree};
+use report_explained::{Explanation, Standing};
 use source_files::{Origin, spot_in};
 use std::alloc::{AllocError, Global};
 

@@ -3,7 +3,7 @@
 ghost use Rattle.std.specs.Prelude.{IfOk, IfErr};
 ghost use Rattle.vcd_reader.specs.Dump.{Contents};
 ghost use Rattle.vcd_reader.specs.Held.{HoldsContents};
-ghost use Rattle.verdicts.specs.Shown.{data_of};
+ghost use Rattle.report_lines.specs.Shown.{data_of};
 ghost use Rattle.cli.specs.Reported.{HasReport};
 ghost use Rattle.cli.specs.Outcomes.{WhyNoReport, IsAnswered, WhyRunRefused};
 ghost use Rattle.cli_faults.specs.Runs.{run_of};
@@ -11,11 +11,11 @@ ghost use Rattle.cli_faults.specs.Runs.{run_of};
 use crate::text::{file_of, suite_of};
 use cli_faults::{Fault, written};
 use cycle_window::WindowSize;
-use judged_reports::report_by_judge;
+use report_lines::Report;
+use report_suites::report_by_judge;
 use signals::{Sink, Source};
 use std::alloc::Global;
 use vcd_reader::{Dump, read_dump};
-use verdicts::Report;
 
 /// The report on a text over a dump.
 fn report_judged<'a>(

@@ -5,20 +5,20 @@ ghost use Rattle.std.specs.List.{AllByRecursion};
 ghost use Rattle.vcd_reader.specs.Dump.{Contents};
 ghost use Rattle.vcd_reader.specs.Held.{HoldsContents, variables_of};
 ghost use Rattle.cycle_window.specs.Held.{AreClocksOf, code_in};
-ghost use Rattle.verdicts.specs.Shown.{data_of};
+ghost use Rattle.report_lines.specs.Shown.{data_of};
 ghost use Rattle.compiler.specs.Conditions.{FitsSuite};
-ghost use Rattle.compiled_reports.specs.Lines.{IsWatched, AreVariables, rows_at};
-ghost use Rattle.compiled_reports.specs.Faults.{WhyNoLines};
-ghost use Rattle.judged_reports.specs.Reported.{OverRows};
+ghost use Rattle.report_programs.specs.Lines.{IsWatched, AreVariables, rows_at};
+ghost use Rattle.report_programs.specs.Faults.{WhyNoLines};
+ghost use Rattle.report_suites.specs.Reported.{OverRows};
 ghost use Rattle.cli.specs.Programs.{lines_fault};
 
 use assertions::Suite;
 use cli_faults::Fault;
-use compiled_reports::{LinesFault, lines_of};
 use cycle_window::{Clocks, WindowSize};
+use report_lines::Report;
+use report_programs::{LinesFault, lines_of};
 use std::alloc::Global;
 use vcd_reader::Dump;
-use verdicts::Report;
 
 /// A fault of a suite's lines, as one of a command.
 pub(crate) fn lines_fault(fault: LinesFault) -> Fault<'static>

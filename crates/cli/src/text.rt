@@ -7,12 +7,12 @@ ghost use Rattle.vcd_reader.specs.Held.{HoldsContents};
 ghost use Rattle.cli.specs.Reported.{HasItems, IsTyped};
 ghost use Rattle.cli.specs.Outcomes.{WhyNoItems, WhyNotTyped};
 
-use crate::dump_widths::DumpWidths;
 use assertions::Suite;
 use cli_faults::Fault;
 use lexer::lex;
 use parser::{File, parse};
 use std::alloc::Global;
+use suite_over_dump::DumpWidths;
 use types::{TypeFault, check};
 use vcd_reader::Dump;
 

@@ -4,9 +4,9 @@ ghost use Rattle.std.specs.Prelude.{IfOk, IfErr, map};
 ghost use Rattle.vcd_reader.specs.Dump.{Contents};
 ghost use Rattle.vcd_reader.specs.Held.{HoldsContents, variables_of};
 ghost use Rattle.expressions.specs.Rows.{HasCounts};
-ghost use Rattle.verdicts.specs.Lines.{line};
-ghost use Rattle.verdicts.specs.Shown.{data_of};
-ghost use Rattle.judged_reports.specs.Judged.{AreLinesOver};
+ghost use Rattle.report_lines.specs.Lines.{line};
+ghost use Rattle.report_lines.specs.Shown.{data_of};
+ghost use Rattle.report_suites.specs.Judged.{AreLinesOver};
 ghost use Rattle.cli.specs.Explained.{IsTraced};
 ghost use Rattle.cli.specs.Outcomes.{WhyNoneByPrograms};
 
@@ -15,15 +15,15 @@ use crate::programs::lines_fault;
 use crate::times::times_of;
 use assertions::Suite;
 use cli_faults::Fault;
-use compiled_reports::{Gate, suite_report};
 use cycle_window::WindowSize;
 use expressions::Rows;
-use judged_reports::suite_rows;
+use report_lines::Report;
+use report_programs::{Gate, suite_report};
+use report_suites::suite_rows;
 use std::alloc::Global;
 use std::sync::Wait;
 use std::thread::Threads;
 use vcd_reader::Dump;
-use verdicts::Report;
 use workers_core::TeamSize;
 
 /// A suite, the rows and the times of its clocks, and the report on it.

@@ -1,9 +1,9 @@
 -- Bytes that spell no program: why they have no upgrade, and may not run.
 use Rattle.std.proofs.Common.{◌≡◌, List, ℕ}
-use Rattle.bytecode.specs.Values.{ProgramData}
-use Rattle.bytecode_files.specs.declared.fault.CodeFault.{CodeFault}
-use Rattle.bytecode_files.specs.declared.fault.CodeFault.TheVariants as codes
-use Rattle.bytecode_files.specs.Reading.{IsFirstFault}
+use Rattle.bytecode_programs.specs.Values.{ProgramData}
+use Rattle.bytecode.specs.declared.fault.CodeFault.{CodeFault}
+use Rattle.bytecode.specs.declared.fault.CodeFault.TheVariants as codes
+use Rattle.bytecode.specs.Reading.{IsFirstFault}
 use Rattle.cli_faults.specs.Faults.{code_fault}
 use Rattle.cli_faults.specs.Codes.{SpellsProgram, IsMisspelled, WhyNotAccepted}
 use Rattle.cli_bytecode.specs.Upgrades.{WhyNotUpgraded}

@@ -3,14 +3,14 @@ use Rattle.std.proofs.Common.{◌≡◌, ℕ, List}
 use Rattle.vcd_reader.specs.declared.fault.VcdFault.{VcdFault}
 use Rattle.vcd_reader.specs.declared.fault.VcdFault.TheVariants as dumps
 use Rattle.vcd_reader.specs.Dump.{Contents, GaveDump, Stands}
-use Rattle.bytecode.specs.Values.{ProgramData}
-use Rattle.bytecode_files.specs.declared.fault.CodeFault.{CodeFault}
-use Rattle.bytecode_files.specs.declared.fault.CodeFault.TheVariants as codes
+use Rattle.bytecode_programs.specs.Values.{ProgramData}
+use Rattle.bytecode.specs.declared.fault.CodeFault.{CodeFault}
+use Rattle.bytecode.specs.declared.fault.CodeFault.TheVariants as codes
 use Rattle.verifier.specs.declared.refusal.Refusal.{Refusal}
 use Rattle.verifier.specs.declared.refusal.Refusal.TheVariants as refusals
 use Rattle.cycle_window.specs.declared.fault.WindowFault.{WindowFault}
 use Rattle.cycle_window.specs.declared.fault.WindowFault.TheVariants as windows
-use Rattle.machine_decisions.specs.Reported.{WhyNoRun}
+use Rattle.machine_batches.specs.Reported.{WhyNoRun}
 use Rattle.cli_faults.specs.Faults.{vcd_fault, window_fault}
 use Rattle.cli_faults.specs.declared.fault.Fault.{Fault}
 use Rattle.cli_faults.specs.declared.fault.Fault.TheVariants.{

@@ -1,13 +1,13 @@
 -- Why bytes are no program that may run, and why no line was written.
 use Rattle.std.proofs.Common.{◌≡◌, ◌⊎◌, inl, inr, ℕ, List}
-use Rattle.bytecode.specs.Values.{ProgramData}
+use Rattle.bytecode_programs.specs.Values.{ProgramData}
 use Rattle.verifier.specs.declared.refusal.Refusal.{Refusal}
 use Rattle.verifier.specs.declared.refusal.Refusal.TheVariants as refusals
 use Rattle.verifier.specs.Order.{IsFirstRefusal}
 use Rattle.verifier.specs.Programs.{all_faults, IsAccepted}
-use Rattle.verdicts.specs.declared.write.ReportFault.{ReportFault}
-use Rattle.verdicts.specs.declared.write.ReportFault.TheVariants as reports
-use Rattle.verdicts.specs.Written.{WhyUnwritten}
+use Rattle.report_lines.specs.declared.write.ReportFault.{ReportFault}
+use Rattle.report_lines.specs.declared.write.ReportFault.TheVariants as reports
+use Rattle.report_lines.specs.Written.{WhyUnwritten}
 use Rattle.cli_bytecode.specs.Limits.{limits_text}
 use Rattle.cli_faults.specs.Faults.{refusal_fault, report_fault}
 use Rattle.cli_faults.specs.Codes.{SpellsProgram, SpellsAccepted, IsNotAccepted, WhyNotAccepted}

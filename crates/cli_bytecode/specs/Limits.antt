@@ -1,7 +1,7 @@
 -- The line of limits.
 use Rattle.std.specs.Prelude.{ℕ, List, ◌++◌, codes}
-use Rattle.bytecode.specs.declared.limits.Limits.{Limits}
-use Rattle.verdicts.specs.Texts.{field_text}
+use Rattle.bytecode_programs.specs.declared.limits.Limits.{Limits}
+use Rattle.report_lines.specs.Texts.{field_text}
 
 -- history H stack S attempts A obligations O budget B, and a line feed
 unfoldable pub limits_text : Limits → List ℕ

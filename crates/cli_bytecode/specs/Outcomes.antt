@@ -6,15 +6,15 @@ use Rattle.signals.specs.Source.{after_failure}
 use Rattle.signals.specs.Sink.{AppendsFront}
 use Rattle.vcd_reader.specs.declared.fault.VcdFault.TheVariants as dumps
 use Rattle.vcd_reader.specs.Dump.{Contents, Gave, GaveDump, dump_of, most_bytes}
-use Rattle.bytecode.specs.Values.{ProgramData}
-use Rattle.bytecode_files.specs.declared.fault.CodeFault.TheVariants as codes
+use Rattle.bytecode_programs.specs.Values.{ProgramData}
+use Rattle.bytecode.specs.declared.fault.CodeFault.TheVariants as codes
 use Rattle.verifier.specs.declared.refusal.Refusal.TheVariants as refusals
 use Rattle.cycle_window.specs.declared.fault.WindowFault.{WindowFault}
 use Rattle.cycle_window.specs.declared.fault.WindowFault.TheVariants as windows
-use Rattle.verdicts.specs.declared.write.ReportFault.TheVariants as reports
-use Rattle.verdicts.specs.Lines.{ReportData}
-use Rattle.verdicts.specs.Texts.{report_text}
-use Rattle.machine_decisions.specs.Reported.{ReportsRun, WhyNoRun}
+use Rattle.report_lines.specs.declared.write.ReportFault.TheVariants as reports
+use Rattle.report_lines.specs.Lines.{ReportData}
+use Rattle.report_lines.specs.Texts.{report_text}
+use Rattle.machine_batches.specs.Reported.{ReportsRun, WhyNoRun}
 use Rattle.cli_faults.specs.declared.fault.Fault.{Fault}
 use Rattle.cli_faults.specs.declared.fault.Fault.TheVariants.{Vcd, BadSize, BadWorkers, Window}
 use Rattle.cli_faults.specs.declared.fault.Fault.TheVariants.{Report, Code}

@@ -1,8 +1,8 @@
 -- What an upgrade of bytes comes to.
 use Rattle.std.specs.Prelude.{◌≡◌, ℕ, List}
-use Rattle.bytecode.specs.Values.{ProgramData}
-use Rattle.bytecode_files.specs.declared.fault.CodeFault.TheVariants as codes
-use Rattle.bytecode_files.specs.Spelling.{spelling}
+use Rattle.bytecode_programs.specs.Values.{ProgramData}
+use Rattle.bytecode.specs.declared.fault.CodeFault.TheVariants as codes
+use Rattle.bytecode.specs.Spelling.{spelling}
 use Rattle.cli_faults.specs.declared.fault.Fault.{Fault}
 use Rattle.cli_faults.specs.declared.fault.Fault.TheVariants.{Code, Memory}
 use Rattle.cli_faults.specs.Codes.{SpellsProgram, IsMisspelled}

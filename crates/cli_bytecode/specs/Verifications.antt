@@ -3,8 +3,8 @@ use Rattle.std.specs.Prelude.{◌≡◌, ℕ, List, false}
 use Rattle.std.specs.Io.KnownBytes.{Appends}
 use Rattle.signals.specs.Source.{after_failure}
 use Rattle.signals.specs.Sink.{SinkState, AppendsFront}
-use Rattle.bytecode.specs.Values.{ProgramData}
-use Rattle.verdicts.specs.declared.write.ReportFault.TheVariants as reports
+use Rattle.bytecode_programs.specs.Values.{ProgramData}
+use Rattle.report_lines.specs.declared.write.ReportFault.TheVariants as reports
 use Rattle.cli_faults.specs.declared.fault.Fault.{Fault}
 use Rattle.cli_faults.specs.declared.fault.Fault.TheVariants.{Report}
 use Rattle.cli_faults.specs.Codes.{SpellsAccepted, WhyNotAccepted}

@@ -20,7 +20,7 @@
 //!
 //! The definitions: what a run comes to in `specs/Outcomes.antt`, what a verification comes to in
 //! `specs/Verifications.antt`, what an upgrade comes to in `specs/Upgrades.antt`, the line of
-//! limits in `specs/Limits.antt`; the report of a program over a dump in `machine_decisions`; which
+//! limits in `specs/Limits.antt`; the report of a program over a dump in `machine_batches`; which
 //! programs may run in `verifier`; faults, their lines and statuses in `cli_faults`.
 //!
 //! Not promised: that the program means what its writer meant; that memory suffices; and that

@@ -2,14 +2,14 @@
 
 ghost use Rattle.std.specs.Prelude.{◌≡◌, OnOk, IfErr, false};
 ghost use Rattle.std.specs.Io.KnownBytes.{Appends};
-ghost use Rattle.verdicts.specs.Written.{WhyUnwritten};
+ghost use Rattle.report_lines.specs.Written.{WhyUnwritten};
 ghost use Rattle.cli_bytecode.specs.Limits.{limits_text};
 
 use crate::limits_text::text_of;
-use bytecode::Limits;
+use bytecode_programs::Limits;
+use report_lines::ReportFault;
 use signals::{Sink, write_all};
 use std::alloc::Global;
-use verdicts::ReportFault;
 
 /// Writes the line of these limits to the device, and flushes it.
 ///

@@ -1,10 +1,10 @@
 //! The text of the line of limits.
 
 ghost use Rattle.std.specs.Prelude.{◌≡◌, OnOk, IfOk, codes, string_bytes};
-ghost use Rattle.verdicts.specs.Texts.{Grows, field_text};
+ghost use Rattle.report_lines.specs.Texts.{Grows, field_text};
 ghost use Rattle.cli_bytecode.specs.Limits.{limits_text};
 
-use bytecode::Limits;
+use bytecode_programs::Limits;
 use std::alloc::{AllocError, Global};
 use std::fmt::Write;
 

@@ -4,7 +4,7 @@ ghost use Rattle.std.specs.Prelude.{◌≡◌, ◌↔◌, ◌≤◌, Err, IfOk, 
 ghost use Rattle.vcd_reader.specs.Dump.{Contents};
 ghost use Rattle.vcd_reader.specs.Held.{HoldsContents};
 ghost use Rattle.cycle_window.specs.Bound.{IsBadSize};
-ghost use Rattle.verdicts.specs.Shown.{data_of};
+ghost use Rattle.report_lines.specs.Shown.{data_of};
 ghost use Rattle.cli_faults.specs.declared.fault.Fault.TheVariants.{BadSize, BadWorkers};
 ghost use Rattle.workers_core.specs.Values.{IsBadTeam};
 ghost use Rattle.cli_faults.specs.Runs.{run_of};
@@ -14,12 +14,12 @@ ghost use Rattle.cli_bytecode.specs.Outcomes.{WhyRunFails, WhyNotRun};
 use crate::verify::verified_of;
 use cli_faults::{Fault, written};
 use cycle_window::WindowSize;
+use report_lines::Report;
 use signals::{Sink, Source};
 use std::alloc::Global;
 use std::sync::Wait;
 use std::thread::Threads;
 use vcd_reader::{Dump, read_dump_by};
-use verdicts::Report;
 use workers::{Gate, report_run};
 use workers_core::TeamSize;
 
@@ -42,7 +42,7 @@ fn report_of<G: Gate + Sync, R: Threads + Wait + Sync>(
     Ok(report_run(rt, alloc, dump, verified, team, size, gate)?)
 }
 
-/// The same over the dump that a source gives, written.
+/// The report of a program over the dump that a source gives, written.
 fn run_through<S: Source, W: Sink, G: Gate + Sync, R: Threads + Wait + Sync>(
     rt: &R,
     alloc: Global,

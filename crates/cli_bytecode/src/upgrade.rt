@@ -3,7 +3,7 @@
 ghost use Rattle.std.specs.Prelude.{IfOk, IfErr};
 ghost use Rattle.cli_bytecode.specs.Upgrades.{IsUpgrade, WhyNotUpgraded};
 
-use bytecode_files::upgrade;
+use bytecode::upgrade;
 use cli_faults::Fault;
 use std::alloc::Global;
 

@@ -5,7 +5,7 @@ ghost use Rattle.cli_faults.specs.Codes.{SpellsAccepted, WhyNotAccepted};
 ghost use Rattle.cli_bytecode.specs.Verifications.{HasWrittenLimits, WhyNotTold, verification_of};
 
 use crate::limits::write_limits;
-use bytecode_files::decode;
+use bytecode::decode;
 use cli_faults::Fault;
 use signals::Sink;
 use std::alloc::Global;

@@ -1,10 +1,10 @@
 -- What bytes are as a program.
 use Rattle.std.specs.Prelude.{◌≡◌, ℕ, Bool, List, IsTrue}
-use Rattle.bytecode_files.specs.declared.fault.CodeFault.{CodeFault}
-use Rattle.bytecode_files.specs.declared.fault.CodeFault.TheVariants as codes
-use Rattle.bytecode.specs.Values.{ProgramData, fits_program_in}
-use Rattle.bytecode_files.specs.Spelling.{spelling_in}
-use Rattle.bytecode_files.specs.Reading.{IsFirstFault}
+use Rattle.bytecode.specs.declared.fault.CodeFault.{CodeFault}
+use Rattle.bytecode.specs.declared.fault.CodeFault.TheVariants as codes
+use Rattle.bytecode_programs.specs.Values.{ProgramData, fits_program_in}
+use Rattle.bytecode.specs.Spelling.{spelling_in}
+use Rattle.bytecode.specs.Reading.{IsFirstFault}
 use Rattle.verifier.specs.declared.refusal.Refusal.{Refusal}
 use Rattle.verifier.specs.declared.refusal.Refusal.TheVariants as refusals
 use Rattle.verifier.specs.Order.{IsFirstRefusal}

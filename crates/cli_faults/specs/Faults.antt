@@ -6,18 +6,18 @@ use Rattle.lexer.specs.declared.fault.LexFault.{LexFault}
 use Rattle.lexer.specs.declared.fault.LexFault.TheVariants as lexing
 use Rattle.parser.specs.declared.fault.ParseFault.{ParseFault}
 use Rattle.parser.specs.declared.fault.ParseFault.TheVariants as parsing
-use Rattle.types_suites.specs.declared.fault.TypeFault.{TypeFault}
-use Rattle.types_suites.specs.declared.fault.TypeFault.TheVariants as types
+use Rattle.types.specs.declared.fault.TypeFault.{TypeFault}
+use Rattle.types.specs.declared.fault.TypeFault.TheVariants as types
 use Rattle.cycle_window.specs.declared.fault.WindowFault.{WindowFault}
 use Rattle.cycle_window.specs.declared.fault.WindowFault.TheVariants as windows
 use Rattle.axi4_rules.specs.declared.fault.PortFault.{PortFault}
 use Rattle.axi4_rules.specs.declared.fault.PortFault.TheVariants as ports
-use Rattle.verdicts.specs.declared.write.ReportFault.{ReportFault}
-use Rattle.verdicts.specs.declared.write.ReportFault.TheVariants as reports
+use Rattle.report_lines.specs.declared.write.ReportFault.{ReportFault}
+use Rattle.report_lines.specs.declared.write.ReportFault.TheVariants as reports
 use Rattle.compiler.specs.declared.fault.CompileFault.{CompileFault}
 use Rattle.compiler.specs.declared.fault.CompileFault.TheVariants as compiles
-use Rattle.bytecode_files.specs.declared.fault.CodeFault.{CodeFault}
-use Rattle.bytecode_files.specs.declared.fault.CodeFault.TheVariants as codes
+use Rattle.bytecode.specs.declared.fault.CodeFault.{CodeFault}
+use Rattle.bytecode.specs.declared.fault.CodeFault.TheVariants as codes
 use Rattle.verifier.specs.declared.refusal.Refusal.{Refusal}
 use Rattle.verifier.specs.declared.refusal.Refusal.TheVariants as refusals
 use Rattle.cli_faults.specs.declared.fault.Fault.{Fault}

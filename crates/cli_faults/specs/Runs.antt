@@ -5,8 +5,8 @@ use Rattle.signals.specs.Sink.{SinkState, AppendsFront}
 use Rattle.vcd_reader.specs.declared.fault.VcdFault.{VcdFault}
 use Rattle.vcd_reader.specs.Dump.{Stands}
 use Rattle.cycle_window.specs.Bound.{IsBadSize}
-use Rattle.verdicts.specs.declared.line.Counts.{Counts}
-use Rattle.verdicts.specs.declared.write.ReportFault.TheVariants as reports
+use Rattle.report_lines.specs.declared.line.Counts.{Counts}
+use Rattle.report_lines.specs.declared.write.ReportFault.TheVariants as reports
 use Rattle.cli_faults.specs.declared.fault.Fault.{Fault}
 use Rattle.cli_faults.specs.declared.fault.Fault.TheVariants.{Report, Memory}
 

@@ -2,13 +2,13 @@
 use Rattle.std.specs.Prelude.{ℕ, ◌==◌, List, Result, Ok, Err, if◌then◌else◌, slice_index}
 use Rattle.lexer.specs.declared.fault.LexFault.TheVariants as lexing
 use Rattle.parser.specs.declared.fault.ParseFault.TheVariants as parsing
-use Rattle.types_suites.specs.declared.fault.TypeFault.TheVariants as types
+use Rattle.types.specs.declared.fault.TypeFault.TheVariants as types
 use Rattle.compiler.specs.declared.fault.CompileFault.TheVariants as compiles
 use Rattle.vcd_reader.specs.declared.fault.VcdFault.TheVariants as dumps
 use Rattle.cycle_window.specs.declared.fault.WindowFault.TheVariants as windows
 use Rattle.axi4_rules.specs.declared.fault.PortFault.TheVariants as ports
-use Rattle.verdicts.specs.declared.write.ReportFault.TheVariants as reports
-use Rattle.bytecode_files.specs.declared.fault.CodeFault.TheVariants as codes
+use Rattle.report_lines.specs.declared.write.ReportFault.TheVariants as reports
+use Rattle.bytecode.specs.declared.fault.CodeFault.TheVariants as codes
 use Rattle.verifier.specs.declared.refusal.Refusal.TheVariants as refusals
 use Rattle.cli_words.specs.declared.fault.WordsFault.TheVariants as words
 use Rattle.cli_faults.specs.declared.fault.Fault.{Fault}

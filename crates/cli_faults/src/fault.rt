@@ -3,20 +3,22 @@
 ghost use Rattle.std.specs.Prelude.{◌≡◌};
 
 use axi4_rules::PortFault;
-use bytecode_files::CodeFault;
+use bytecode::CodeFault;
 use cli_words::WordsFault;
 use compiler::CompileFault;
 use cycle_window::{BadSize, WindowFault};
 use lexer::LexFault;
 use parser::ParseFault;
+use report_lines::ReportFault;
 use std::alloc::AllocError;
-use types_suites::TypeFault;
+use thiserror::Error;
+use types::TypeFault;
 use vcd_reader::VcdFault;
-use verdicts::ReportFault;
 use verifier::Refusal;
 
 /// A file that could not be opened, read or made.
-#[derive(Debug, Drop)]
+#[derive(Debug, Drop, Error)]
+#[error("file {path}")]
 pub struct BadFile {
     pub path: String,
     /// Why, or nothing where that is not known.
@@ -24,38 +26,56 @@ pub struct BadFile {
 }
 
 /// Why there is no report, or no line of limits.
-#[derive(Debug, Drop)]
+#[derive(Debug, Drop, Error)]
 pub enum Fault<'a> {
+    #[error("{0}")]
     Vcd(VcdFault),
+    #[error("{0}")]
     Lex(LexFault),
     /// It borrows the word of P2 from the text.
+    #[error("{0}")]
     Parse(ParseFault<'a>),
+    #[error("{0}")]
     Typing(TypeFault),
     /// An assertion has no program.
+    #[error("{0}")]
     Compile(CompileFault),
     /// C3: a window is to hold no clock, or more than 65,536.
+    #[error("C3 BadSize")]
     BadSize,
     /// U1: there are to be no workers, or more than 64.
+    #[error("U1 BadWorkers")]
     BadWorkers,
     /// U3: the text has more assertions than a job may have programs, 4,096.
+    #[error("U3 BadJob")]
     BadJob,
+    #[error("{0}")]
     Window(WindowFault),
     /// The port file.
+    #[error("{0}")]
     Port(PortFault),
+    #[error("{0}")]
     Report(ReportFault),
     /// The bytes are no program.
+    #[error("{0}")]
     Code(CodeFault),
     /// The program may not run.
+    #[error("{0}")]
     Refused(Refusal),
     /// N1: the suite has no assertion of that name.
+    #[error("N1 NoAssertion {0}")]
     NoAssertion(String),
     /// N2: the file is no UTF-8.
+    #[error("N2 NotText {0}")]
     NotText(String),
     /// The words of the command line.
+    #[error("{0}")]
     Words(WordsFault),
     /// A file that could not be opened, read or made.
+    #[error("{0}")]
     File(BadFile),
     /// Memory ran out.
+    #[error("OutOfMemory")]
     Memory,
 }
 

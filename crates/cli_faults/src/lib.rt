@@ -21,9 +21,10 @@ mod fault;
 mod lines;
 mod report_totals;
 mod statuses;
+mod words;
 mod writing;
 
 pub use fault::{BadFile, Fault};
-pub use lines::fault_line;
+pub use lines::{fault_help, fault_line};
 pub use statuses::status;
 pub use writing::written;

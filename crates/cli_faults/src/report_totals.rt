@@ -3,7 +3,7 @@
 ghost use Rattle.std.specs.Prelude.{◌≡◌};
 ghost use Rattle.cli_faults.specs.Runs.{totals_of};
 
-use verdicts::Report;
+use report_lines::Report;
 
 /// The totals of a report, in the order of its last line: how many attempts held, were vacuous,
 /// failed, were disabled, and are open.

@@ -5,15 +5,15 @@ ghost use Rattle.cli_faults.specs.Statuses.{status_of, fault_status_of};
 
 use crate::fault::Fault;
 use axi4_rules::PortFault;
-use bytecode_files::CodeFault;
+use bytecode::CodeFault;
 use cli_words::WordsFault;
 use compiler::CompileFault;
 use cycle_window::WindowFault;
 use lexer::LexFault;
 use parser::ParseFault;
-use types_suites::TypeFault;
+use report_lines::ReportFault;
+use types::TypeFault;
 use vcd_reader::VcdFault;
-use verdicts::ReportFault;
 use verifier::Refusal;
 
 /// The status that a shell sees: 0 where no attempt failed, 1 where some did, 2 where the input or

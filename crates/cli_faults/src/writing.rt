@@ -2,15 +2,15 @@
 
 ghost use Rattle.std.specs.Prelude.{◌≡◌, OnOk, IfOk, IfErr, false};
 ghost use Rattle.std.specs.Io.KnownBytes.{Appends};
-ghost use Rattle.verdicts.specs.Shown.{data_of};
-ghost use Rattle.verdicts.specs.Texts.{report_text};
+ghost use Rattle.report_lines.specs.Shown.{data_of};
+ghost use Rattle.report_lines.specs.Texts.{report_text};
 ghost use Rattle.cli_faults.specs.Runs.{totals_of, WhyNotWritten};
 
 use crate::fault::Fault;
 use crate::report_totals::totals;
+use report_lines::{Report, ReportFault, write_report};
 use signals::Sink;
 use std::alloc::Global;
-use verdicts::{Report, ReportFault, write_report};
 
 /// Writes a report and answers its totals, in the order of its last line.
 ///

@@ -4,7 +4,7 @@ use crate::files::{open, read_opened, read_text, team_text_of, text_of};
 use crate::words::slices_of;
 use axi4_rules::port_rules;
 use cli_faults::Fault;
-use source_files::{Added, Choice, Part, chosen, joined};
+use source_files::{Added, Choice, Origin, Part, chosen, joined};
 use std::alloc::{AllocError, Global};
 use std::fs::Files;
 
@@ -19,6 +19,16 @@ pub struct Sources {
     pub added: Vec<Added>,
     /// The text of the port file, if there is one.
     pub ports: Option<String>,
+}
+
+impl Sources {
+    /// The files that the text was made of, and what was added to them.
+    pub fn origin(&self) -> Origin<'_> {
+        Origin {
+            parts: self.parts.as_slice(),
+            added: self.added.as_slice(),
+        }
+    }
 }
 
 /// The texts that are judged, and that of the port file, if there is one.
@@ -224,8 +234,8 @@ pub fn read_chosen<R: Files + AllocGlobal>(
     chosen_sources(rt.alloc(), sources, only)
 }
 
-/// The same where what is refused is left out: each assertion keeps the name that it has in the
-/// whole text.
+/// The text of files for a run that leaves out what is refused: each assertion keeps the name that
+/// it has in the whole text.
 pub fn read_labelled<R: Files + AllocGlobal>(
     rt: &R,
     sva: &[String],

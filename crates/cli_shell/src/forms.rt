@@ -3,12 +3,12 @@
 use crate::files::write_bytes;
 use cli_faults::{Fault, written};
 use report_forms::{Provenance, Refused, json_report, junit_report};
+use report_lines::Report;
 use signals::Counted;
 use std::alloc::{AllocError, Global};
 use std::fs::Files;
 use std::io;
 use std::io::Print;
-use verdicts::Report;
 
 /// The paths of files into which a report is written in other forms, where there are any.
 #[derive(Clone, Copy)]

@@ -11,8 +11,8 @@
 //! let sources = read_chosen(&rt, &paths, None, &patterns)?;           // some assertions alone
 //! let sources = chosen_sources(alloc, sources, &patterns)?;           // of what was read
 //! let fault = moved_fault(&sources.added, fault);                     // where the files have it
-//! let status = shown_status(&rt, outcome);
-//! let totals = print_report(&rt, &files, &from, &refused, &report)?;    // other forms before it
+//! let totals = print_report(&rt, &files, &from, &refused, &report);   // other forms before it
+//! let status = report_status(&rt, status_of_totals(totals));          // and a fault's line
 //! ```
 //!
 //! A file that can't be opened, read or made is the fault `File` with its path and why, and one
@@ -47,5 +47,7 @@ pub use forms::{FormFiles, print_report};
 pub use moved::moved_fault;
 pub use print::{print_bytes, print_rules};
 pub use report_forms::{Provenance, Refused};
-pub use status::{shown_lines, shown_status};
-pub use words::{refuse_words, request_of, shown_version, words_of};
+pub use status::{
+    REFUSED_STATUS, StandardError, print_error_lines, report_status, status_of_totals,
+};
+pub use words::{print_version_if_asked, refuse_words, request_of, words_of};

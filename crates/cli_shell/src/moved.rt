@@ -7,7 +7,7 @@ use cli_faults::Fault;
 use lexer::LexFault;
 use parser::ParseFault;
 use source_files::{Added, place_before};
-use types_suites::TypeFault;
+use types::TypeFault;
 
 fn moved_lex(added: &[Added], fault: LexFault) -> LexFault
     ensures { result ≡ moved_lex added.now fault }

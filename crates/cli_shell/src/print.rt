@@ -3,11 +3,11 @@
 use crate::assertions_text::read_rules;
 use cli_faults::Fault;
 use cli_words::VERSION;
+use report_lines::ReportFault;
 use signals::{Counted, Sink, write_all};
 use std::fs::Files;
 use std::io;
 use std::io::Print;
-use verdicts::ReportFault;
 
 /// Writes all of some bytes to standard output.
 pub fn print_bytes<R: Print + AllocGlobal>(rt: &R, bytes: &[u8]) -> Result<(), Fault<'static>> {

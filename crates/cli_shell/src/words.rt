@@ -1,12 +1,12 @@
 //! The words of the command line, and what they ask for.
 
 use crate::print::print_version;
-use crate::status::shown_status;
+use crate::status::{REFUSED_STATUS, StandardError};
 use cli_faults::Fault;
 use cli_words::{Request, asks_for_version, read_words};
 use std::alloc::AllocError;
 use std::env::Env;
-use std::io::{Eprint, ErrorKind, Print};
+use std::io::{ErrorKind, Print};
 use std::{env, io};
 
 /// The words of the command line, the program's name first.
@@ -14,17 +14,17 @@ pub fn words_of<R: Env + AllocGlobal>(rt: &R) -> io::Result<Vec<String>> {
     Ok(env::args(rt)?.collect(rt.alloc())?)
 }
 
-/// Refuses words that can't be had, and answers the status: one that is no text as clap does, or
-/// else want of memory.
-pub fn refuse_words<R: Eprint + AllocGlobal>(rt: &R, error: &io::Error) -> u8 {
+/// Refuses words that can't be had: one that is no text as clap does, with the status, or else want
+/// of memory.
+pub fn refuse_words<R: StandardError>(rt: &R, error: &io::Error) -> Result<u8, Fault<'static>> {
     if error.kind() == ErrorKind::InvalidData {
         let _ = eprintln!(rt;
             "error: invalid UTF-8 was detected in one or more arguments\n\nFor more information, \
              try '--help'."
         );
-        return 2;
+        return Ok(REFUSED_STATUS);
     }
-    shown_status(rt, Err(Fault::Memory))
+    Err(Fault::Memory)
 }
 
 /// The words as slices.
@@ -39,20 +39,16 @@ pub(crate) fn slices_of<'a, R: AllocGlobal>(
     Ok(slices)
 }
 
-/// Prints the version to standard output, where the words ask for it, and answers the status; None
-/// where they don't.
-pub fn shown_version<R: Print + Eprint + AllocGlobal>(rt: &R, words: &[String]) -> Option<u8> {
-    let asked = match slices_of(rt, words) {
-        Ok(slices) => asks_for_version(slices.as_slice()),
-        Err(_) => return Some(shown_status(rt, Err(Fault::Memory))),
-    };
-    if !asked {
-        return None;
+/// Prints the version to standard output, where the words ask for it; whether they do.
+pub fn print_version_if_asked<R: Print + AllocGlobal>(
+    rt: &R,
+    words: &[String],
+) -> Result<bool, Fault<'static>> {
+    let is_asked = asks_for_version(slices_of(rt, words)?.as_slice());
+    if is_asked {
+        print_version(rt)?;
     }
-    match print_version(rt) {
-        Ok(()) => Some(0),
-        Err(fault) => Some(shown_status(rt, Err(fault))),
-    }
+    Ok(is_asked)
 }
 
 /// What the words of the command line ask for.

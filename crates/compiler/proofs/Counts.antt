@@ -14,11 +14,11 @@ use Rattle.assertions.specs.declared.sequence.Boolean.{Boolean}
 use Rattle.assertions.specs.declared.sequence.Boolean.TheVariants.{One, Listed}
 use Rattle.assertions.specs.Listed.{EachBoolean, IsListed, IsListedOption}
 use Rattle.assertions.specs.Marks.{is_marked, places_from, slots_from}
-use Rattle.compiler_expressions.specs.declared.slots.SlotTable.{SlotTable}
-use Rattle.compiler_expressions.specs.Codes.{Slots}
-use Rattle.compiler_expressions.specs.Samples.{sample_code, sample_reach}
-use Rattle.compiler_expressions.specs.Chosen.{terms_at, held_counters}
-use Rattle.compiler_expressions.specs.Slots.{slots_in}
+use Rattle.compiler.specs.declared.slot_table.SlotTable.{SlotTable}
+use Rattle.compiler.specs.Codes.{Slots}
+use Rattle.compiler.specs.Samples.{sample_code, sample_reach}
+use Rattle.compiler.specs.Chosen.{terms_at, held_counters}
+use Rattle.compiler.specs.Slots.{slots_in}
 use Rattle.compiler.specs.Conditions.{FitsSuite}
 use Rattle.compiler.specs.Readings.{IsReading, first_counter, slots_over, boolean_terms, counters_read, code_over}
 use Rattle.compiler.proofs.Places.{places-long}

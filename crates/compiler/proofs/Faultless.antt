@@ -4,7 +4,7 @@ use Rattle.assertions.specs.declared.assertion.Assertion.{Assertion}
 use Rattle.assertions.specs.declared.suite.Suite.{Suite}
 use Rattle.assertions.specs.Shapes.{written_form}
 use Rattle.verifier.specs.Sections.{instructions_in}
-use Rattle.bytecode.specs.Values.{ProgramData, SectionData}
+use Rattle.bytecode_programs.specs.Values.{ProgramData, SectionData}
 use Rattle.compiler.specs.declared.fault.CompileFault.{CompileFault}
 use Rattle.compiler.specs.declared.fault.CompileFault.TheVariants.{TooManyAtoms, CodeTooLong}
 use Rattle.compiler.specs.declared.fault.CompileFault.TheVariants.{TooManySlots, TextTooLong, Memory}

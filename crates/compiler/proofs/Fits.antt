@@ -16,20 +16,22 @@ use Rattle.assertions.specs.declared.signal.Signal.{Signal}
 use Rattle.assertions.specs.declared.assertion.Assertion.{Assertion}
 use Rattle.assertions.specs.declared.suite.Suite.{Suite}
 use Rattle.assertions.specs.Listed.{IsListedOption}
-use Rattle.bytecode.specs.declared.block_instr.BlockInstr.{BlockInstr}
-use Rattle.bytecode.specs.declared.block_instr.BlockInstr.TheVariants.{Unless, Enter, Accept, Stop}
-use Rattle.bytecode.specs.declared.block_instr.BlockInstr.TheVariants.{AcceptFirst}
-use Rattle.bytecode.specs.Texts.{is_word, is_path}
-use Rattle.bytecode.specs.Instructions.{frame_of}
-use Rattle.bytecode.specs.Values.{ProgramData, SectionData, in_byte, in_two, is_width, fits_text, fits_slot, fits_list}
-use Rattle.bytecode.specs.Values.{fits_sample, fits_block, fits_section, fits_disable, fits_limits, fits_header}
-use Rattle.bytecode.specs.Values.{fits_program}
+use Rattle.bytecode_programs.specs.declared.block_instr.BlockInstr.{BlockInstr}
+use Rattle.bytecode_programs.specs.declared.block_instr.BlockInstr.TheVariants.{Unless, Enter, Accept, Stop}
+use Rattle.bytecode_programs.specs.declared.block_instr.BlockInstr.TheVariants.{AcceptFirst}
+use Rattle.bytecode_programs.specs.Texts.{is_word, is_path}
+use Rattle.bytecode_programs.specs.Instructions.{frame_of}
+use Rattle.bytecode_programs.specs.Values.{ProgramData, SectionData, in_byte, in_two, is_width, fits_text, fits_slot}
+use Rattle.bytecode_programs.specs.Values.{fits_list}
+use Rattle.bytecode_programs.specs.Values.{fits_sample, fits_block, fits_section, fits_disable, fits_limits}
+use Rattle.bytecode_programs.specs.Values.{fits_header}
+use Rattle.bytecode_programs.specs.Values.{fits_program}
 use Rattle.verifier.specs.declared.refusal.Refusal.{Refusal}
 use Rattle.verifier.specs.declared.refusal.Refusal.TheVariants.{SlotRange, Cycle}
 use Rattle.verifier.specs.Rules.{block_rules}
 use Rattle.verifier.specs.Typing.{IsFine}
 use Rattle.verifier.specs.Sections.{IsSection, AreTyped, instructions_in}
-use Rattle.compiler_expressions.proofs.FitLaws.{samples-fit}
+use Rattle.compiler.proofs.FitLaws.{samples-fit}
 use Rattle.assertions.specs.Marks.{is_marked, places_from}
 use Rattle.assertions.proofs.SlotLaws.{place-at}
 use Rattle.compiler.specs.Conditions.{FitsSuite}

@@ -16,12 +16,12 @@ use Rattle.assertions.specs.Written.{Written, boolean, delay, lead, repeat, or, 
 use Rattle.assertions.specs.Written.{weight, IsOrdered}
 use Rattle.assertions.specs.Shapes.{written_form}
 use Rattle.assertions.specs.Listed.{EachBoolean, IsListed, IsListedOption}
-use Rattle.bytecode.specs.declared.limits.Limits.{Limits}
-use Rattle.bytecode.specs.declared.flow.Flow.{Flow}
-use Rattle.bytecode.specs.declared.flow.Flow.TheVariants.{Stops, GoesOn, Jumps, Branches}
-use Rattle.bytecode.specs.declared.block_instr.BlockInstr.{BlockInstr}
-use Rattle.bytecode.specs.Values.{ProgramData, SectionData}
-use Rattle.bytecode.specs.Instructions.{frame_of, sample_flow, block_flow}
+use Rattle.bytecode_programs.specs.declared.limits.Limits.{Limits}
+use Rattle.bytecode_programs.specs.declared.flow.Flow.{Flow}
+use Rattle.bytecode_programs.specs.declared.flow.Flow.TheVariants.{Stops, GoesOn, Jumps, Branches}
+use Rattle.bytecode_programs.specs.declared.block_instr.BlockInstr.{BlockInstr}
+use Rattle.bytecode_programs.specs.Values.{ProgramData, SectionData}
+use Rattle.bytecode_programs.specs.Instructions.{frame_of, sample_flow, block_flow}
 use Rattle.verifier.specs.Sections.{IsSection, instructions_in}
 use Rattle.verifier.specs.Typing.{longest_list}
 use Rattle.verifier.specs.Limits.{path_of, paths_from, longest_path, path_sum}
@@ -30,15 +30,15 @@ use Rattle.verifier.specs.Programs.{least_obligations, least_stack}
 use Rattle.verifier.proofs.ProgramLaws.{longest_is_least}
 use Rattle.verifier.proofs.ShortLaws.{accepted}
 use Rattle.verifier.proofs.LifeLaws.{start_life-most}
-use Rattle.compiler_expressions.specs.Samples.{Held, sample_code, sample_need, sample_reach}
-use Rattle.compiler_expressions.specs.Laws.{IsFrame, IsTypedWithin, EachPart, program_terms}
-use Rattle.compiler_expressions.specs.Depths.{depth, IsShortPast, IsBounded}
-use Rattle.compiler_expressions.proofs.Quiet.{samples-are-typed}
-use Rattle.compiler_expressions.proofs.DepthLaws.{depth-bounds-code}
+use Rattle.compiler.specs.Samples.{Held, sample_code, sample_need, sample_reach}
+use Rattle.compiler.specs.Laws.{IsFrame, IsTypedWithin, EachPart, program_terms}
+use Rattle.compiler.specs.Depths.{depth, IsShortPast, IsBounded}
+use Rattle.compiler.proofs.Quiet.{samples-are-typed}
+use Rattle.compiler.proofs.DepthLaws.{depth-bounds-code}
 use Rattle.assertions.specs.Marks.{is_marked, places_from}
-use Rattle.compiler_sequences.specs.Sequences.{atom_of}
-use Rattle.compiler_sequences.specs.Laws.{Occurs, IsThere, section_for, led_section}
-use Rattle.compiler_sequences.proofs.Theorem.{law-section_is_well_formed, law-section_is_small}
+use Rattle.positions.specs.Sequences.{atom_of}
+use Rattle.positions.specs.Laws.{Occurs, IsThere, section_for, led_section}
+use Rattle.positions.proofs.Theorem.{law-section_is_well_formed, law-section_is_small}
 use Rattle.compiler.specs.Conditions.{IsKnownTerm, FitsSuite}
 use Rattle.compiler.specs.Programs.{disabling_atom, IsSlotOf, IsProgramOf}
 use Rattle.compiler.specs.Readings.{IsReading, slots_over, counters_read}

@@ -10,11 +10,11 @@ use Rattle.expressions.specs.Expressions.{term_of}
 use Rattle.assertions.specs.declared.signal.Signal.{Signal as Watched}
 use Rattle.assertions.specs.declared.assertion.Assertion.{Assertion}
 use Rattle.assertions.specs.declared.suite.Suite.{Suite}
-use Rattle.bytecode.specs.Values.{ProgramData, SlotData}
-use Rattle.bytecode.specs.Instructions.{frame_of}
-use Rattle.compiler_expressions.specs.Codes.{slot_of}
-use Rattle.compiler_expressions.specs.Samples.{Held, held_slot}
-use Rattle.compiler_expressions.specs.Laws.{EachPart, OfName, HasSlot, IsNarrow, IsFrame, program_terms}
+use Rattle.bytecode_programs.specs.Values.{ProgramData, SlotData}
+use Rattle.bytecode_programs.specs.Instructions.{frame_of}
+use Rattle.compiler.specs.Codes.{slot_of}
+use Rattle.compiler.specs.Samples.{Held, held_slot}
+use Rattle.compiler.specs.Laws.{EachPart, OfName, HasSlot, IsNarrow, IsFrame, program_terms}
 use Rattle.compiler.specs.Programs.{HoldsAt, HoldsName, IsSampledIn, IsSlotOf, IsProgramOf}
 use Rattle.compiler.proofs.ListLaws.{some-one, zip-at, zip-long, all-by-places, all-more, signal-slot, counter-slot}
 

@@ -16,9 +16,9 @@ use Rattle.assertions.specs.declared.suite.Suite.{Suite}
 use Rattle.assertions.specs.Names.{names_in, expression_names, counter_names}
 use Rattle.assertions.specs.Reads.{at_once, through, names_of, boolean_names}
 use Rattle.assertions.specs.Marks.{IsAmong, is_marked, places_from}
-use Rattle.compiler_expressions.specs.Samples.{Held, counter_terms}
-use Rattle.compiler_expressions.specs.Chosen.{term_found, terms_at}
-use Rattle.compiler_expressions.specs.Laws.{EachPart, OfName, program_terms}
+use Rattle.compiler.specs.Samples.{Held, counter_terms}
+use Rattle.compiler.specs.Chosen.{term_found, terms_at}
+use Rattle.compiler.specs.Laws.{EachPart, OfName, program_terms}
 use Rattle.compiler.specs.Programs.{Layout, HoldsAt, HoldsName, IsSampledIn, IsSlotOf, IsLaidOut}
 use Rattle.assertions.proofs.SlotLaws.{place-at}
 use Rattle.compiler.proofs.ListLaws.{all-at, all-by-places}

@@ -4,12 +4,12 @@ use Rattle.std.proofs.lemmas.Bool.{false≢true}
 use Rattle.assertions.specs.declared.sequence.Boolean.{Boolean}
 use Rattle.assertions.specs.declared.sequence.Boolean.TheVariants.{One}
 use Rattle.assertions.specs.Written.{Written}
-use Rattle.bytecode.specs.Values.{SectionData}
+use Rattle.bytecode_programs.specs.Values.{SectionData}
 use Rattle.verifier.specs.Sections.{IsSection, instructions_in}
-use Rattle.laws_automata.specs.Firsts.{accepting_first}
-use Rattle.compiler_sequences.specs.Sequences.{atom_of}
-use Rattle.compiler_sequences.specs.Laws.{section_for, led_section}
-use Rattle.compiler_sequences.proofs.Firsts.{law-well_formed, law-as_long}
+use Rattle.machine_sections.specs.Firsts.{accepting_first}
+use Rattle.positions.specs.Sequences.{atom_of}
+use Rattle.positions.specs.Laws.{section_for, led_section}
+use Rattle.positions.proofs.Firsts.{law-well_formed, law-as_long}
 
 -- which one it is
 pub led-first : (first : Bool) (w : Written Boolean) → first ≡ true

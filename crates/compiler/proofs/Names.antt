@@ -11,8 +11,8 @@ use Rattle.expressions.specs.Terms.{Term, constant, named, slice, group, concat,
 use Rattle.expressions.specs.Terms.{combine, shift, compare, connect, choose, past, change}
 use Rattle.expressions.specs.Expressions.{term_of}
 use Rattle.assertions.specs.Names.{names_in, expression_names, rule_names, counter_names}
-use Rattle.compiler_expressions.specs.Samples.{rule_terms, clear_terms, counter_terms}
-use Rattle.compiler_expressions.specs.Laws.{EachPart, OfName}
+use Rattle.compiler.specs.Samples.{rule_terms, clear_terms, counter_terms}
+use Rattle.compiler.specs.Laws.{EachPart, OfName}
 
 -- these names are among those
 abbrev pub Within : List Name → List Name → Type 0

@@ -8,8 +8,8 @@ use Rattle.std.proofs.lemmas.Option.{slice_get_within, slice_get_cases}
 use Rattle.expressions.specs.declared.counter.Counter.{Counter}
 use Rattle.assertions.specs.Marks.{is_marked, places_from, slots_from}
 use Rattle.assertions.proofs.SlotLaws.{place-at, marked-at}
-use Rattle.compiler_expressions.specs.Samples.{Held}
-use Rattle.compiler_expressions.specs.Chosen.{held_found, held_counters}
+use Rattle.compiler.specs.Samples.{Held}
+use Rattle.compiler.specs.Chosen.{held_found, held_counters}
 use Rattle.compiler.proofs.ListLaws.{some-one}
 use Rattle.compiler.specs.Parts.{width_found, width_at}
 

@@ -20,8 +20,8 @@ use Rattle.assertions.specs.Names.{names_in, expression_names, rule_names, count
 use Rattle.assertions.specs.Reads.{IsRead, at_once, through, names_of, boolean_names, Reads}
 use Rattle.assertions.specs.Marks.{IsAmong, AreMarks, places_from}
 use Rattle.assertions.proofs.SlotLaws.{place-at}
-use Rattle.compiler_expressions.specs.Samples.{Held, rule_terms, clear_terms, counter_terms}
-use Rattle.compiler_expressions.specs.Laws.{EachPart, OfName}
+use Rattle.compiler.specs.Samples.{Held, rule_terms, clear_terms, counter_terms}
+use Rattle.compiler.specs.Laws.{EachPart, OfName}
 use Rattle.compiler.specs.Conditions.{IsOriginIn, IsSuiteName, IsKnownTerm, IsKnownAt, CountsByKnown, FitsSuite}
 use Rattle.compiler.specs.Programs.{AreReadPlaces}
 use Rattle.compiler.specs.Readings.{IsReading, counters_read}

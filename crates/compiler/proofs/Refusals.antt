@@ -4,7 +4,7 @@ use Rattle.verifier.specs.declared.refusal.Refusal.{Refusal}
 use Rattle.verifier.specs.declared.refusal.Refusal.TheVariants.{Memory}
 use Rattle.verifier.specs.Inference.{Found}
 use Rattle.verifier.specs.Order.{IsIn, IsFirstRefusal}
-use Rattle.bytecode.specs.Values.{ProgramData}
+use Rattle.bytecode_programs.specs.Values.{ProgramData}
 use Rattle.verifier.specs.Programs.{IsAccepted}
 
 pub none-first : (r : Refusal) (fs : List Found) → fs ≡ [] → (r ≡ Memory) ⊎ IsFirstRefusal r fs → r ≡ Memory

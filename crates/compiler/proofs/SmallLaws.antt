@@ -22,15 +22,15 @@ use Rattle.assertions.specs.Shapes.{written_form}
 use Rattle.assertions.specs.Reads.{IsRead, at_once, through, boolean_names}
 use Rattle.assertions.specs.Marks.{places_from}
 use Rattle.assertions.proofs.SlotLaws.{place-at}
-use Rattle.compiler_expressions.specs.Codes.{Slots}
-use Rattle.compiler_expressions.specs.Samples.{Held, sample_code}
-use Rattle.compiler_expressions.specs.Chosen.{term_found, terms_at, held_counters}
-use Rattle.compiler_expressions.specs.Laws.{size}
-use Rattle.compiler_expressions.proofs.Lengths.{samples-are-short}
-use Rattle.compiler_sequences.specs.Sequences.{atom_of}
-use Rattle.compiler_sequences.specs.Lengths.{HasLongSection}
-use Rattle.compiler_sequences.specs.Laws.{booleans}
-use Rattle.compiler_sequences.proofs.Short.{law-section_is_short, law-tables_are_short}
+use Rattle.compiler.specs.Codes.{Slots}
+use Rattle.compiler.specs.Samples.{Held, sample_code}
+use Rattle.compiler.specs.Chosen.{term_found, terms_at, held_counters}
+use Rattle.compiler.specs.Laws.{size}
+use Rattle.compiler.proofs.Lengths.{samples-are-short}
+use Rattle.positions.specs.Sequences.{atom_of}
+use Rattle.positions.specs.Lengths.{HasLongSection}
+use Rattle.positions.specs.Laws.{booleans}
+use Rattle.positions.proofs.Short.{law-section_is_short, law-tables_are_short}
 use Rattle.compiler.specs.Readings.{IsReading, slots_over, boolean_terms, counters_read, code_over}
 use Rattle.compiler.specs.Small.{IsSmallSide, IsSmall, SmallHaveCode}
 

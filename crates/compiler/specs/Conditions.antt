@@ -15,10 +15,10 @@ use Rattle.assertions.specs.declared.suite.Suite.{Suite}
 use Rattle.assertions.specs.Segments.{AdmitsEmpty}
 use Rattle.assertions.specs.Listed.{EachBoolean, IsListed, IsListedOption}
 use Rattle.assertions.specs.Shapes.{written_form, shape}
-use Rattle.bytecode.specs.Texts.{is_word, is_path}
-use Rattle.compiler_expressions.specs.Laws.{EachPart, OfName}
-use Rattle.compiler_expressions.specs.Samples.{counter_terms}
-use Rattle.compiler_expressions.specs.Depths.{depth, IsShortPast}
+use Rattle.bytecode_programs.specs.Texts.{is_word, is_path}
+use Rattle.compiler.specs.Laws.{EachPart, OfName}
+use Rattle.compiler.specs.Samples.{counter_terms}
+use Rattle.compiler.specs.Depths.{depth, IsShortPast}
 
 -- What the suite has at a place has so many bits.
 pub record IsSignalAt (suite : Suite) (place width : ℕ) : Type 0 where

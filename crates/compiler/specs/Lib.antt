@@ -5,3 +5,11 @@ pub mod Reads
 pub mod Faults
 pub mod Parts
 pub mod Small
+pub mod Codes
+pub mod Chains
+pub mod Samples
+pub mod Chosen
+pub mod Slots
+pub mod Written
+pub mod Laws
+pub mod Depths

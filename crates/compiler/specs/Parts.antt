@@ -8,14 +8,14 @@ use Rattle.assertions.specs.declared.signal.Signal.{Signal}
 use Rattle.assertions.specs.declared.assertion.Assertion.{Assertion}
 use Rattle.assertions.specs.declared.suite.Suite.{Suite}
 use Rattle.assertions.specs.Shapes.{written_form}
-use Rattle.bytecode.specs.declared.limits.Limits.{Limits}
-use Rattle.bytecode.specs.Values.{ProgramData, SlotData}
+use Rattle.bytecode_programs.specs.declared.limits.Limits.{Limits}
+use Rattle.bytecode_programs.specs.Values.{ProgramData, SlotData}
 use Rattle.verifier.specs.Sections.{instructions_in}
 use Rattle.verifier.specs.declared.least.LeastLimits.{LeastLimits}
 use Rattle.assertions.specs.Marks.{places_from}
-use Rattle.compiler_sequences.specs.Laws.{section_for, led_section}
-use Rattle.compiler_sequences.specs.Sequences.{atom_of, largest_place}
-use Rattle.compiler_sequences.specs.Lengths.{HasLongSection}
+use Rattle.positions.specs.Laws.{section_for, led_section}
+use Rattle.positions.specs.Sequences.{atom_of, largest_place}
+use Rattle.positions.specs.Lengths.{HasLongSection}
 use Rattle.compiler.specs.Programs.{disabling_atom}
 use Rattle.compiler.specs.Readings.{code_over}
 use Rattle.compiler.specs.Faults.{StandsOver}

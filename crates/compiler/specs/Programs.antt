@@ -17,13 +17,13 @@ use Rattle.assertions.specs.declared.suite.Suite.{Suite}
 use Rattle.assertions.specs.Segments.{AdmitsEmpty}
 use Rattle.assertions.specs.Shapes.{written_form, shape}
 use Rattle.assertions.specs.Listed.{EachBoolean, IsListed, IsListedOption}
-use Rattle.bytecode.specs.Values.{ProgramData, SlotData}
+use Rattle.bytecode_programs.specs.Values.{ProgramData, SlotData}
 use Rattle.assertions.specs.Reads.{Reads}
-use Rattle.compiler_expressions.specs.Codes.{Slots}
-use Rattle.compiler_expressions.specs.Samples.{Held, sample_code}
-use Rattle.compiler_expressions.specs.Laws.{EachPart, OfName, program_terms}
-use Rattle.compiler_sequences.specs.Sequences.{atom_of}
-use Rattle.compiler_sequences.specs.Laws.{section_for, led_section}
+use Rattle.compiler.specs.Codes.{Slots}
+use Rattle.compiler.specs.Samples.{Held, sample_code}
+use Rattle.compiler.specs.Laws.{EachPart, OfName, program_terms}
+use Rattle.positions.specs.Sequences.{atom_of}
+use Rattle.positions.specs.Laws.{section_for, led_section}
 
 -- What a program holds of a suite: the places of signals, and counters, in the order of its slots.
 pub record Layout : Type 0 where

@@ -5,12 +5,12 @@ use Rattle.expressions.specs.declared.name.Name.{Name}
 use Rattle.expressions.specs.Terms.{Term}
 use Rattle.assertions.specs.declared.assertion.Assertion.{Assertion}
 use Rattle.assertions.specs.declared.suite.Suite.{Suite}
-use Rattle.bytecode.specs.declared.sample_instr.SampleInstr.{SampleInstr}
+use Rattle.bytecode_programs.specs.declared.sample_instr.SampleInstr.{SampleInstr}
 use Rattle.assertions.specs.Reads.{AreRead}
 use Rattle.assertions.specs.Marks.{AreMarks, is_marked, places_from, slots_from}
-use Rattle.compiler_expressions.specs.Codes.{Slots}
-use Rattle.compiler_expressions.specs.Samples.{Held, sample_code}
-use Rattle.compiler_expressions.specs.Chosen.{terms_at, held_counters}
+use Rattle.compiler.specs.Codes.{Slots}
+use Rattle.compiler.specs.Samples.{Held, sample_code}
+use Rattle.compiler.specs.Chosen.{terms_at, held_counters}
 
 -- For each signal and each counter of the suite, whether the assertion reads it.
 pub record IsReading (suite : Suite) (a : Assertion) (signals counters : List Bool) : Type 0 where

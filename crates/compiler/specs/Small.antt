@@ -8,8 +8,8 @@ use Rattle.assertions.specs.declared.suite.Suite.{Suite}
 use Rattle.assertions.specs.Written.{Written, weight}
 use Rattle.assertions.specs.Shapes.{written_form}
 use Rattle.assertions.specs.Reads.{boolean_names}
-use Rattle.compiler_expressions.specs.Laws.{EachPart, IsNoChange, size}
-use Rattle.compiler_sequences.specs.Laws.{IsPlain, booleans}
+use Rattle.compiler.specs.Laws.{EachPart, IsNoChange, size}
+use Rattle.positions.specs.Laws.{IsPlain, booleans}
 use Rattle.compiler.specs.Readings.{IsReading, boolean_terms}
 use Rattle.compiler.specs.Faults.{HasLongCode}
 

@@ -2,11 +2,11 @@
 
 ghost use Rattle.std.specs.Prelude.{◌≡◌, IfOk};
 ghost use Rattle.verifier.specs.declared.refusal.Refusal.{Refusal};
-ghost use Rattle.bytecode.specs.Programs.{data_of};
+ghost use Rattle.bytecode_programs.specs.Programs.{data_of};
 ghost use Rattle.verifier.specs.Programs.{IsWellFormed, HasRoom, least_limits};
 ghost use Rattle.compiler.specs.Parts.{AreModest, no_limits, declared_from, with_limits};
 
-use bytecode::{Limits, Program};
+use bytecode_programs::{Limits, Program};
 use std::alloc::{AllocError, Global};
 use verifier::{LeastLimits, Refusal, Verified, least_limits, verify};
 
@@ -34,7 +34,7 @@ fn declared_limits(least: LeastLimits) -> Limits
     }
 }
 
-/// The same program, which declares these limits.
+/// The program with these limits declared.
 fn declaring_program(program: Program, least: LeastLimits) -> Program
     requires { AreModest least }
     ensures { data_of result ≡ with_limits (data_of program) (declared_from least) }

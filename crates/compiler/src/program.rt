@@ -6,11 +6,11 @@ ghost use Rattle.assertions.specs.Written.{weight, IsOrdered};
 ghost use Rattle.assertions.specs.Shapes.{written_form};
 ghost use Rattle.assertions.specs.Listed.{EachBoolean, IsListed, IsListedOption};
 ghost use Rattle.assertions.specs.Marks.{places_from, slots_from};
-ghost use Rattle.compiler_sequences.specs.Sequences.{atom_of, largest_place};
-ghost use Rattle.compiler_sequences.specs.Laws.{section_for, led_section};
+ghost use Rattle.positions.specs.Sequences.{atom_of, largest_place};
+ghost use Rattle.positions.specs.Laws.{section_for, led_section};
 ghost use Rattle.compiler.specs.Programs.{disabling_atom};
-ghost use Rattle.bytecode.specs.Programs.{data_of};
-ghost use Rattle.bytecode.specs.Views.{section_data};
+ghost use Rattle.bytecode_programs.specs.Programs.{data_of};
+ghost use Rattle.bytecode_programs.specs.Views.{section_data};
 ghost use Rattle.verifier.specs.Sections.{instructions_in};
 ghost use Rattle.compiler.specs.Conditions.{FitsSuite};
 ghost use Rattle.compiler.specs.Readings.{first_counter, code_over};
@@ -19,12 +19,14 @@ ghost use Rattle.compiler.specs.Faults.{AreCounted};
 ghost use Rattle.compiler.specs.Parts.{AreProgramParts, IsCodeFault, IsSideFault, no_limits};
 
 use crate::fault::CompileFault;
+use crate::length_fault::LengthFault;
 use crate::reading::Reading;
+use crate::sample_code::sample_code;
+use crate::slot_table::SlotTable;
 use crate::slots::{counter_widths, signal_slots};
 use assertions::{Assertion, Boolean, Sequence, Suite, slots_of};
-use bytecode::{Limits, Program, SampleInstr, Section};
-use compiler_expressions::{LengthFault, SlotTable, sample_code};
-use compiler_sequences::{SectionFault, accepting_first, positions_of};
+use bytecode_programs::{Limits, Program, SampleInstr, Section};
+use positions::{SectionFault, accepting_first, positions_of};
 use std::alloc::{AllocError, Global};
 
 /// The slots of the names that are read.

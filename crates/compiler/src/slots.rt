@@ -1,11 +1,11 @@
 //! The signals and the counters of a program.
 
 ghost use Rattle.std.specs.Prelude.{◌≡◌, map, IfOk};
-ghost use Rattle.bytecode.specs.Views.{slot_data};
+ghost use Rattle.bytecode_programs.specs.Views.{slot_data};
 ghost use Rattle.compiler.specs.Parts.{slot_at, width_at};
 
 use assertions::Signal;
-use bytecode::Slot;
+use bytecode_programs::Slot;
 use expressions::Counter;
 use std::alloc::{AllocError, Global};
 

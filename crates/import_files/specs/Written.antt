@@ -8,7 +8,7 @@ use Rattle.import_properties.specs.declared.property.Property.{Property}
 use Rattle.import_properties.specs.Properties.{form_of, both}
 use Rattle.import_checks.specs.Meanings.{IsMeaning}
 use Rattle.import_rewriting.specs.Rewriting.{IsRewriting}
-use Rattle.import_readback.specs.Texts.{SaysRewriting}
+use Rattle.import_text.specs.Texts.{SaysRewriting}
 use Rattle.import_files.specs.declared.outcome.Half.{Half}
 use Rattle.import_files.specs.declared.outcome.Fate.{Fate}
 use Rattle.import_files.specs.declared.outcome.Fate.TheVariants as fates

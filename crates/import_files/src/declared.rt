@@ -3,8 +3,8 @@
 use crate::outcome::{Cause, Remark};
 use crate::reading::Reading;
 use import_elaboration::{Parts, Shape, Type, Value, ValueId, Variable};
+use import_expressions::{DumpSignal, known_signal, push_path};
 use import_scopes::NoteKind;
-use import_terms::{DumpSignal, known_signal, push_path};
 use std::alloc::{AllocError, Global};
 
 /// The dump's signal that a declared one is read as, if it has one.

@@ -1,6 +1,6 @@
 //! What a dump says of its signals.
 
-use import_spelling::DumpSignal;
+use import_text::DumpSignal;
 use std::alloc::{AllocError, Global};
 use vcd_declarations::Header;
 

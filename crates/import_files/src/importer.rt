@@ -5,7 +5,7 @@ ghost use Rattle.import_properties.specs.Properties.{form_of, both};
 ghost use Rattle.import_properties.specs.Shapes.{written_form};
 ghost use Rattle.import_checks.specs.Meanings.{IsMeaning};
 ghost use Rattle.import_rewriting.specs.Rewriting.{IsRewriting};
-ghost use Rattle.import_readback.specs.Texts.{SaysRewriting};
+ghost use Rattle.import_text.specs.Texts.{SaysRewriting};
 ghost use Rattle.import_files.specs.Written.{FateSays, SaysProperty};
 
 use crate::declared::{first_unfit, has_unknown_type, note_variables};
@@ -18,12 +18,11 @@ use crate::stop::{Stop, not_checked, not_rewritten};
 use crate::vacuity::{joins_booleans, keeps_vacuity};
 use import_checks::{is_meaning, mean_together};
 use import_elaboration::{Opened, Opener, PartId, Parts};
+use import_expressions::push_path;
 use import_lowering::{Lowered, property_of};
-use import_readback::says_rewriting;
 use import_rewriting::{Rewriting, rewritten};
 use import_scopes::{Assertion, File};
-use import_spelling::Spelling;
-use import_terms::push_path;
+use import_text::{Spelling, says_rewriting};
 use import_trees::Path;
 use std::alloc::{AllocError, Global};
 

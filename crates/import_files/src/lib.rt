@@ -13,7 +13,7 @@
 //!
 //! The text is that of all files, joined. Its tokens, with macros written out, have items
 //! (`import_scopes`); each assertion is opened (`import_elaboration`), made a property
-//! (`import_lowering`), rewritten (`import_rewriting`) and spelled (`import_spelling`). One that
+//! (`import_lowering`), rewritten (`import_rewriting`) and spelled (`import_text`). One that
 //! can't be had is refused alone, with a code, a place and a hint. Labels are kept, and made where
 //! there is none: `assert_N` is the Nth assertion. A label that is there already gets a number, and
 //! so does one whose counters could have the name of a signal.
@@ -21,7 +21,7 @@
 //!
 //! `imported` promises that each token that begins an assertion has one outcome, in their order;
 //! so none is lost. Each property is shown to be what was opened means (`import_checks`), and
-//! each text is read back (`import_readback`): it says, under the label that is told, the exact
+//! each text is read back (`import_text`): it says, under the label that is told, the exact
 //! rewriting of that property. Where one is written as two halves, these are together what was
 //! opened means. One of which any of that isn't so is refused. `text_of`, `status_of` and `placed`
 //! say what they are of these outcomes.
@@ -29,7 +29,7 @@
 //! The definitions: `specs/Imported.antt` and `specs/Placed.antt`, and of what is written
 //! `specs/Written.antt`; tokens and the words that begin assertions in `import_tokens` and
 //! `import_scopes`; what a part means in `import_checks`, what a rewriting is in
-//! `import_rewriting`, what a text says in `import_readback`.
+//! `import_rewriting`, what a text says in `import_text`.
 //!
 //! Not promised, but tested: that what was opened is what stands there, what a boolean's text says,
 //! and what is told; and of local variables and `.triggered`, which property it is.
@@ -56,7 +56,7 @@ mod vacuity;
 
 pub use dump_signals::{Bits, Signals, known_of, signals_of};
 pub use fault::ImportFault;
-pub use import_spelling::DumpSignal;
+pub use import_text::DumpSignal;
 pub use messages::{messages_of, unread_line};
 pub use outcome::{Cause, Fate, Half, Imported, Marks, Missing, Outcome, Remark};
 pub use outcomes::imported;

@@ -4,7 +4,7 @@ use crate::outcome::{Cause, Missing};
 use crate::reading::Reading;
 use diagnostics::nearest;
 use import_elaboration::{Parts, Value};
-use import_terms::{DumpSignal, known_signal, push_path};
+use import_expressions::{DumpSignal, known_signal, push_path};
 use std::alloc::{AllocError, Global};
 
 /// How many characters of a name may be wrong.

@@ -1,6 +1,6 @@
 //! How files are read.
 
-use import_spelling::DumpSignal;
+use import_text::DumpSignal;
 
 /// How files are read, and what is known of the signals that they name.
 #[derive(Clone, Copy)]

@@ -7,7 +7,7 @@ use crate::hints::{lowering_hint, rewriting_hint};
 use crate::outcome::Cause;
 use import_elaboration::Refused;
 use import_lowering::NotLowered;
-use import_spelling::Refused as NotSpelled;
+use import_text::Refused as NotSpelled;
 use std::alloc::{AllocError, AllocFailed};
 
 /// Why an assertion is not written: it is refused, or memory ran out.
@@ -75,7 +75,7 @@ impl From<NotLowered> for Stop {
 impl From<NotSpelled> for Stop {
     fn from(refused: NotSpelled) -> Stop {
         match refused.reason {
-            import_spelling::Reason::Known(import_trees::Refusal::Memory) => Stop::Memory,
+            import_text::Reason::Known(import_trees::Refusal::Memory) => Stop::Memory,
             reason => Stop::Refused(Cause {
                 code: reason.code(),
                 hint: reason.hint(),

@@ -7,11 +7,11 @@ use Rattle.assertions.specs.declared.signal.Signal.{Signal}
 use Rattle.parser_grammar.specs.Trees.{ItemForm}
 use Rattle.types_names.specs.Columns.{is_listed}
 use Rattle.types_names.specs.Asked.{asked}
-use Rattle.types_suites.specs.Suites.{AreSignals}
+use Rattle.types.specs.Suites.{AreSignals}
 use Rattle.vcd_reader.specs.Variables.{Declared, variable_named, size_of}
-use Rattle.compiled_reports.specs.Lines.{IsWatched}
-use Rattle.lint_dump_suite.specs.Dumps.{width_named}
-use Rattle.lint_dump_suite.specs.Suites.{scope_over}
+use Rattle.report_programs.specs.Lines.{IsWatched}
+use Rattle.suite_over_dump.specs.Dumps.{width_named}
+use Rattle.suite_over_dump.specs.Suites.{scope_over}
 
 text_named : (u : Bool) (o : Option ℕ) (w : ℕ) → cond u o None ≡ Some w → o ≡ Some w
 text_named true o w e = e

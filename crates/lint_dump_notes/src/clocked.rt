@@ -7,10 +7,10 @@ use crate::accepted::Accepted;
 use crate::read::push_facts;
 use assertions::Suite;
 use cycle_window::{Clocks, WindowFault, time_of_tick};
-use lint_dump_suite::clock_byte;
 use lint_notes::{Note, edge_note, unknown_bytes, unknown_facts};
 use signals::Counted;
 use std::alloc::{AllocError, Global};
+use suite_over_dump::clock_byte;
 use vcd_reader::{Dump, VcdFault, read_dump};
 
 /// The clocks of a suite in a dump; none where there is no such clock.

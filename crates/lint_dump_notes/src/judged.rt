@@ -4,16 +4,16 @@ ghost use Rattle.std.specs.List.{AllByRecursion};
 ghost use Rattle.vcd_reader.specs.Held.{variables_of};
 ghost use Rattle.cycle_window.specs.Held.{AreClocksOf};
 ghost use Rattle.compiler.specs.Conditions.{FitsSuite};
-ghost use Rattle.compiled_reports.specs.Lines.{IsWatched};
+ghost use Rattle.report_programs.specs.Lines.{IsWatched};
 
 use crate::accepted::{Accepted, push_all};
 use assertions::Suite;
-use compiled_reports::{LinesFault, lines_of};
 use cycle_window::{Clocks, WindowSize};
 use lint_notes::{Head, Note, heads_of, idle_notes};
+use report_lines::Line;
+use report_programs::{LinesFault, lines_of};
 use std::alloc::{AllocError, Global};
 use vcd_reader::Dump;
-use verdicts::Line;
 
 /// The lines of a suite's report; none where it can't be had.
 fn lines_over(

@@ -7,21 +7,21 @@ ghost use Rattle.lexer.specs.Cutting.{cut_of, tokens_of};
 ghost use Rattle.parser_grammar.specs.Views.{items_of};
 ghost use Rattle.vcd_reader.specs.Held.{variables_of};
 ghost use Rattle.compiler.specs.Conditions.{FitsSuite};
-ghost use Rattle.compiled_reports.specs.Lines.{IsWatched};
-ghost use Rattle.lint_dump_suite.specs.Suites.{Spells};
+ghost use Rattle.report_programs.specs.Lines.{IsWatched};
+ghost use Rattle.suite_over_dump.specs.Suites.{Spells};
 
 use crate::accepted::{Accepted, Beside};
 use crate::clocked::{clocks_of, push_clocked};
 use crate::judged::push_judged;
 use crate::read::push_read;
+use compiler_laws::suite_law;
 use diagnostics::Refusal;
-use laws_suites::suite_law;
 use lexer::{LexFault, Token, lex};
-use lint_dump_suite::suite_over;
 use lint_notes::Note;
 use parser::{File, ParseFault, parse};
 use std::alloc::{AllocError, Global};
-use types_suites::TypeFault;
+use suite_over_dump::suite_over;
+use types::TypeFault;
 use vcd_reader::Dump;
 
 /// The notes of an accepted text; those of a whole text are by a report, too.

@@ -1,13 +1,13 @@
 //! Notes on what is read off a text.
 
 use crate::accepted::{Accepted, Beside, Selects, push_all};
-use lint_dump_suite::DumpWidths;
 use lint_notes::{
     Facts, Note, PathFact, PortSaid, Turned, late_signals, path_notes, port_facts, token_notes,
     turned_names, width_notes,
 };
 use parser::{File, ItemTree};
 use std::alloc::{AllocError, Global};
+use suite_over_dump::DumpWidths;
 use types_signals::scope_for;
 use vcd_reader::Dump;
 

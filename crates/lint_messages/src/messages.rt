@@ -2,7 +2,7 @@
 
 ghost use Rattle.std.specs.Prelude.{◌≡◌, IfOk, Some};
 ghost use Rattle.parser_grammar.specs.Views.{items_of};
-ghost use Rattle.lint_dump_suite.specs.Suites.{clock_byte};
+ghost use Rattle.suite_over_dump.specs.Suites.{clock_byte};
 ghost use Rattle.lint_messages.specs.Bytes.{byte_of_lex, byte_of_parse, byte_of_type};
 
 use crate::comments::without_comments;
@@ -19,10 +19,10 @@ use crate::weights::told_weight;
 use compiler::CompileFault;
 use diagnostics::{CODES, MARKS, Refusal, SIGNS, WORDS, hint_at, hint_beside};
 use lexer::LexFault;
-use lint_dump_suite::clock_byte;
 use parser::{File, ParseFault};
 use std::alloc::{AllocError, Global};
-use types_suites::TypeFault;
+use suite_over_dump::clock_byte;
+use types::TypeFault;
 
 /// A refusal at a byte, with a hint after it if there is one.
 fn refusal_at(

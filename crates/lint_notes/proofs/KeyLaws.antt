@@ -2,7 +2,7 @@
 use Rattle.std.proofs.Common.{◌≡◌, ◌∙◌, ◌++◌, ◌+◌, ◌<◌, ◌≤◌, ℕ, zero, suc, List, [], ◌∷◌, length, drop, map}
 use Rattle.std.proofs.Common.{refl, sym, ap, subst, arith, append_assoc, append-nil}
 use Rattle.lexer.specs.declared.token.Token.{Token}
-use Rattle.verdicts.specs.declared.line.Line.{Line}
+use Rattle.report_lines.specs.declared.line.Line.{Line}
 use Rattle.lint_notes.specs.declared.facts.Facts.{Facts}
 use Rattle.lint_notes.specs.declared.head.Head.{Head}
 use Rattle.lint_notes.specs.Told.{Key, first_keys, token_keys}

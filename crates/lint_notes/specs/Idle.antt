@@ -4,8 +4,8 @@ use Rattle.std.specs.Prelude.{Option, Some, None}
 use Rattle.lexer.specs.declared.token.Token.{Token}
 use Rattle.parser_grammar.specs.Trees as trees
 use Rattle.parser_grammar.specs.Trees.{Tree, SequenceForm, PropertyForm, AssertionForm, ItemForm}
-use Rattle.verdicts.specs.declared.line.Counts.{Counts}
-use Rattle.verdicts.specs.declared.line.Line.{Line}
+use Rattle.report_lines.specs.declared.line.Counts.{Counts}
+use Rattle.report_lines.specs.declared.line.Line.{Line}
 use Rattle.lint_notes.specs.declared.head.Head.{Head}
 use Rattle.lint_notes.specs.Told.{Key, key_when}
 

@@ -6,8 +6,8 @@ ghost use Rattle.lint_notes.specs.Told.{key_of, key_when, IsNoteWhen};
 
 use crate::head::Head;
 use crate::note::Note;
+use report_lines::{Counts, Line};
 use std::alloc::{AllocError, Global};
-use verdicts::{Counts, Line};
 
 /// Whether there are attempts, and all are vacuous or disabled.
 fn is_idle(counts: Counts) -> bool

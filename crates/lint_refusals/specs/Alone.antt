@@ -12,7 +12,7 @@ use Rattle.parser_grammar.specs.Trees.{ItemForm}
 use Rattle.parser.specs.declared.fault.ParseFault.{ParseFault}
 use Rattle.parser.specs.Faults.{IsParseFault}
 use Rattle.vcd_reader.specs.Variables.{Declared}
-use Rattle.lint_dump_suite.specs.Suites.{Spells, clock_byte}
+use Rattle.suite_over_dump.specs.Suites.{Spells, clock_byte}
 use Rattle.lint_messages.specs.Bytes.{byte_of_parse}
 use Rattle.lint_refusals.specs.Refused.{IsRefused, has_clock}
 use Rattle.lint_refusals.specs.Verbs.{is_verb}

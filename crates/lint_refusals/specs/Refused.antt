@@ -10,20 +10,20 @@ use Rattle.lexer.specs.Cutting.{cut_of, tokens_of}
 use Rattle.parser_grammar.specs.Trees.{ItemForm}
 use Rattle.parser.specs.declared.fault.ParseFault.{ParseFault}
 use Rattle.parser.specs.Faults.{IsParseFault}
-use Rattle.types_suites.specs.declared.fault.TypeFault.{TypeFault}
-use Rattle.types_suites.specs.Faults.{IsFaultless, IsTypeFault}
-use Rattle.types_suites.specs.Texts.{assertions_of, suite_clock}
+use Rattle.types.specs.declared.fault.TypeFault.{TypeFault}
+use Rattle.types.specs.Faults.{IsFaultless, IsTypeFault}
+use Rattle.types.specs.Texts.{assertions_of, suite_clock}
 use Rattle.vcd_reader.specs.Variables.{Declared}
 use Rattle.compiler.specs.declared.fault.CompileFault.{CompileFault}
 use Rattle.compiler.specs.declared.fault.CompileFault.TheVariants as programs
 use Rattle.compiler.specs.Faults.{WhyNotCompiled}
-use Rattle.compiled_reports.specs.Faults.{HasAcceptedProgram}
+use Rattle.report_programs.specs.Faults.{HasAcceptedProgram}
 use Rattle.assertions.specs.declared.assertion.Assertion.{Assertion}
 use Rattle.assertions.specs.declared.suite.Suite.{Suite}
-use Rattle.types_suites.specs.Suites.{IsSuite}
+use Rattle.types.specs.Suites.{IsSuite}
 use Rattle.lint_notes.specs.Idle.{heads}
-use Rattle.lint_dump_suite.specs.Dumps.{width_named}
-use Rattle.lint_dump_suite.specs.Suites.{Spells, scope_over, clock_byte}
+use Rattle.suite_over_dump.specs.Dumps.{width_named}
+use Rattle.suite_over_dump.specs.Suites.{Spells, scope_over, clock_byte}
 use Rattle.lint_messages.specs.Bytes.{byte_of_lex, byte_of_parse, byte_of_type}
 
 abbrev pub is_one_bit : Option ℕ → Bool

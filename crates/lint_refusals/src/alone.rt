@@ -6,7 +6,7 @@ ghost use Rattle.lexer.specs.Cutting.{cut_of, tokens_of};
 ghost use Rattle.parser.specs.Faults.{IsParseFault};
 ghost use Rattle.parser_grammar.specs.Views.{items_of};
 ghost use Rattle.vcd_reader.specs.Held.{variables_of};
-ghost use Rattle.lint_dump_suite.specs.Suites.{Spells};
+ghost use Rattle.suite_over_dump.specs.Suites.{Spells};
 ghost use Rattle.lint_refusals.specs.Alone.{has_word, ender, is_decided, known_names, IsApart};
 ghost use Rattle.lint_refusals.specs.Alone.{IsRefusedOf, IsRefusedPart, IsMovedPart};
 
@@ -14,10 +14,10 @@ use crate::declared::has_name;
 use crate::front::{DumpFront, has_verb, is_clock};
 use diagnostics::{Refusal, Span};
 use lexer::{LexFault, Token, lex};
-use lint_dump_suite::{clock_path, suite_over};
 use lint_messages::{clock_refusal, parse_refusal, type_refusal};
 use parser::{File, ParseFault, parse};
 use std::alloc::{AllocError, Global};
+use suite_over_dump::{clock_path, suite_over};
 
 /// Whether some token is this word.
 fn has_word(tokens: &[Token], word: &str) -> bool

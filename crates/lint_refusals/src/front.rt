@@ -7,12 +7,12 @@ ghost use Rattle.lexer.specs.Cutting.{cut_of, tokens_of};
 ghost use Rattle.parser.specs.Faults.{IsParseFault};
 ghost use Rattle.parser_grammar.specs.Views.{items_of};
 ghost use Rattle.vcd_reader.specs.Held.{variables_of};
-ghost use Rattle.types_suites.specs.Faults.{IsFaultless};
-ghost use Rattle.types_suites.specs.Suites.{IsSuite};
+ghost use Rattle.types.specs.Faults.{IsFaultless};
+ghost use Rattle.types.specs.Suites.{IsSuite};
 ghost use Rattle.compiler.specs.Conditions.{FitsSuite};
-ghost use Rattle.compiled_reports.specs.Faults.{HasAcceptedProgram};
-ghost use Rattle.lint_dump_suite.specs.Dumps.{width_named};
-ghost use Rattle.lint_dump_suite.specs.Suites.{Spells, scope_over};
+ghost use Rattle.report_programs.specs.Faults.{HasAcceptedProgram};
+ghost use Rattle.suite_over_dump.specs.Dumps.{width_named};
+ghost use Rattle.suite_over_dump.specs.Suites.{Spells, scope_over};
 ghost use Rattle.lint_refusals.specs.Refused.{IsAccepted, IsRefused, is_one_bit};
 ghost use Rattle.lint_refusals.specs.Refused.{head_at, IsUnprogrammed};
 ghost use Rattle.lint_refusals.specs.Rests.{IsBare};
@@ -21,16 +21,16 @@ ghost use Rattle.lint_refusals.specs.Verbs.{is_verb};
 use crate::alone::alone_in;
 use crate::programless::first_programless;
 use assertions::Suite;
+use compiler_laws::suite_law;
 use diagnostics::{FrontEnd, Refusal, Span};
-use laws_suites::suite_law;
 use lexer::{Token, lex};
-use lint_dump_suite::{suite_over, width_in_dump};
 use lint_messages::{
     Meant, clock_refusal, lex_refusal, parse_refusal, program_refusal, type_refusal,
 };
 use lint_notes::{Head, heads_of};
 use parser::{File, ParseFault, parse};
 use std::alloc::{AllocError, Global};
+use suite_over_dump::{suite_over, width_in_dump};
 use vcd_reader::Dump;
 
 /// A dump and what names may mean, the whole text, of which some items may be blanked, and the

@@ -5,7 +5,7 @@ ghost use Rattle.std.specs.List.{AllByRecursion};
 ghost use Rattle.compiler.specs.declared.fault.CompileFault.TheVariants.{Memory};
 ghost use Rattle.compiler.specs.Conditions.{FitsSuite};
 ghost use Rattle.compiler.specs.Faults.{WhyNotCompiled};
-ghost use Rattle.compiled_reports.specs.Faults.{HasAcceptedProgram};
+ghost use Rattle.report_programs.specs.Faults.{HasAcceptedProgram};
 ghost use Rattle.lint_refusals.specs.Refused.{IsWithout, IsProgramless};
 
 use assertions::{Assertion, Suite};

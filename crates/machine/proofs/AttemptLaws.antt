@@ -5,21 +5,21 @@ use Rattle.std.proofs.Common.{append_assoc, append-nil}
 use Rattle.std.proofs.lemmas.List.{map-append}
 use Rattle.std.specs.Prelude.{nat_eq}
 use Rattle.std.specs.Map.{lookup, set_value}
-use Rattle.bytecode.specs.Values.{ProgramData}
+use Rattle.bytecode_programs.specs.Values.{ProgramData}
 use Rattle.verifier.specs.Limits.{path_sum}
-use Rattle.machine_definition.specs.Outcomes.{Ran, done, trapped, and_then}
-use Rattle.machine_definition.specs.Blocks.{Visit, visit}
-use Rattle.machine_definition.specs.Clocks.{Attempt, Visits, visited, visit_attempts}
-use Rattle.machine_definition.specs.Bounds.{RisesBetween, began, IsRunning}
-use Rattle.machine_definition.proofs.Outcomes.{Meets-at}
-use Rattle.machine_definition.proofs.Rises.{Rises-within}
-use Rattle.machine_definition.proofs.Typing.{IsSection}
-use Rattle.machine_definition.proofs.Visits.{Visited, visit-meets}
+use Rattle.machine_checked.specs.Outcomes.{Ran, done, trapped, and_then}
+use Rattle.machine_checked.specs.Blocks.{Visit, visit}
+use Rattle.machine_checked.specs.Clocks.{Attempt, Visits, visited, visit_attempts}
+use Rattle.machine_checked.specs.Bounds.{RisesBetween, began, IsRunning}
+use Rattle.machine_checked.proofs.Outcomes.{Meets-at}
+use Rattle.machine_checked.proofs.Rises.{Rises-within}
+use Rattle.machine_checked.proofs.Typing.{IsSection}
+use Rattle.machine_checked.proofs.Visits.{Visited, visit-meets}
 use Rattle.verifier.proofs.LifeLaws.{start_life-most}
-use Rattle.machine_memory.specs.Pooled.{Pooled, pooled, slot_after}
-use Rattle.machine_memory.specs.Walk.{WalkIsAt, left_at}
-use Rattle.machine_attempts.specs.declared.attempt.AttemptRecord.{AttemptRecord}
-use Rattle.machine_attempts.specs.Records.{attempt_of}
+use Rattle.attempt_pool.specs.Pooled.{Pooled, pooled, slot_after}
+use Rattle.attempt_pool.specs.Walk.{WalkIsAt, left_at}
+use Rattle.machine.specs.declared.attempt.AttemptRecord.{AttemptRecord}
+use Rattle.machine.specs.Records.{attempt_of}
 use Rattle.machine.specs.Live.{attempts_in}
 use Rattle.machine.proofs.PoolSteps as steps
 

@@ -6,12 +6,12 @@ use Rattle.std.specs.List.{IsDistinct}
 use Rattle.std.specs.Map.{lookup, remove_entry, keys_of}
 use Rattle.signals.specs.declared.verdict.Verdict.TheVariants.{Disabled}
 use Rattle.signals.specs.declared.verdict.Decided.{Decided}
-use Rattle.machine_definition.specs.Outcomes.{Ran, done, trapped, and_then}
-use Rattle.machine_definition.specs.Clocks.{disable_all}
-use Rattle.machine_memory.specs.Pooled.{Pooled, pooled, first_slot, slot_after}
-use Rattle.machine_memory.specs.Walk.{WalkIsAt}
-use Rattle.machine_attempts.specs.declared.attempt.AttemptRecord.{AttemptRecord}
-use Rattle.machine_attempts.specs.Records.{attempt_of}
+use Rattle.machine_checked.specs.Outcomes.{Ran, done, trapped, and_then}
+use Rattle.machine_checked.specs.Clocks.{disable_all}
+use Rattle.attempt_pool.specs.Pooled.{Pooled, pooled, first_slot, slot_after}
+use Rattle.attempt_pool.specs.Walk.{WalkIsAt}
+use Rattle.machine.specs.declared.attempt.AttemptRecord.{AttemptRecord}
+use Rattle.machine.specs.Records.{attempt_of}
 use Rattle.machine.specs.Live.{attempts_in, AreDisabled}
 use Rattle.machine.proofs.PoolSteps as steps
 

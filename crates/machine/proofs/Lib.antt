@@ -17,3 +17,7 @@ pub mod LaterLaws
 pub mod ToldAtLaws
 pub mod ToldLaws
 pub mod SteadyLaws
+pub mod RunLaws
+pub mod SetLaws
+pub mod BitLaws
+pub mod MarkLaws

@@ -7,21 +7,21 @@ use Rattle.std.proofs.lemmas.Nat.Bits.{bit_at_or, same_from_bits}
 use lib.Bits.{or_zero_l, or_zero_r}
 use Rattle.std.specs.Prelude.{nat_eq}
 use Rattle.std.specs.Map.{lookup, set_value, remove_entry}
-use Rattle.bytecode.specs.Values.{ProgramData}
+use Rattle.bytecode_programs.specs.Values.{ProgramData}
 use Rattle.verifier.specs.Limits.{path_sum}
-use Rattle.machine_definition.specs.Outcomes.{Ran, done, trapped, and_then}
-use Rattle.machine_definition.specs.Blocks.{Visit, visit}
-use Rattle.machine_definition.specs.Clocks.{Obligation, Fate, visit_obligations, staying, is_ended, is_broken}
-use Rattle.machine_definition.specs.Bounds.{RisesBetween, since, IsOwed}
-use Rattle.machine_definition.proofs.Outcomes.{Meets-at}
-use Rattle.machine_definition.proofs.Typing.{IsSection}
-use Rattle.machine_definition.proofs.Visits.{Visited, visit-meets}
-use Rattle.machine_memory.specs.Pooled.{Pooled, pooled, slot_after}
-use Rattle.machine_memory.specs.Walk.{WalkIsAt, left_at}
-use Rattle.machine_attempts.specs.declared.fates.Fates.{Fates}
-use Rattle.machine_attempts.specs.declared.obligation.ObligationRecord.{ObligationRecord}
-use Rattle.machine_attempts.specs.Marks.{fate_mark, mark_set, is_fate_open, fates_of, AreRecent}
-use Rattle.machine_attempts.specs.Records.{obligation_of, left_open}
+use Rattle.machine_checked.specs.Outcomes.{Ran, done, trapped, and_then}
+use Rattle.machine_checked.specs.Blocks.{Visit, visit}
+use Rattle.machine_checked.specs.Clocks.{Obligation, Fate, visit_obligations, staying, is_ended, is_broken}
+use Rattle.machine_checked.specs.Bounds.{RisesBetween, since, IsOwed}
+use Rattle.machine_checked.proofs.Outcomes.{Meets-at}
+use Rattle.machine_checked.proofs.Typing.{IsSection}
+use Rattle.machine_checked.proofs.Visits.{Visited, visit-meets}
+use Rattle.attempt_pool.specs.Pooled.{Pooled, pooled, slot_after}
+use Rattle.attempt_pool.specs.Walk.{WalkIsAt, left_at}
+use Rattle.machine.specs.declared.fates.Fates.{Fates}
+use Rattle.machine.specs.declared.obligation.ObligationRecord.{ObligationRecord}
+use Rattle.machine.specs.Marks.{fate_mark, mark_set, is_fate_open, fates_of, AreRecent}
+use Rattle.machine.specs.Records.{obligation_of, left_open}
 use Rattle.machine.specs.Live.{obligations_in, OpenedLately, AreVisited}
 use Rattle.machine.proofs.PoolSteps as steps
 

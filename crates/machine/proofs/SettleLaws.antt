@@ -7,16 +7,16 @@ use Rattle.std.specs.Map.{lookup, remove_entry}
 use Rattle.signals.specs.declared.verdict.Verdict.{Verdict}
 use Rattle.signals.specs.declared.verdict.Verdict.TheVariants.{Open}
 use Rattle.signals.specs.declared.verdict.Decided.{Decided}
-use Rattle.machine_definition.specs.Outcomes.{Ran, done, trapped, and_then}
-use Rattle.machine_definition.specs.Clocks.{Attempt, Fate, Settlement, settle, settle_all, stays, ends}
-use Rattle.machine_memory.specs.Pooled.{Pooled, pooled, slot_after}
-use Rattle.machine_memory.specs.Walk.{WalkIsAt, left_at}
-use Rattle.machine_attempts.specs.declared.attempt.AttemptRecord.{AttemptRecord}
-use Rattle.machine_attempts.specs.declared.fates.Fates.{Fates}
-use Rattle.machine_attempts.specs.Marks.{fates_of, AreRecent, SettlesAs}
-use Rattle.machine_attempts.specs.Records.{attempt_of, settled}
+use Rattle.machine_checked.specs.Outcomes.{Ran, done, trapped, and_then}
+use Rattle.machine_checked.specs.Clocks.{Attempt, Fate, Settlement, settle, settle_all, stays, ends}
+use Rattle.attempt_pool.specs.Pooled.{Pooled, pooled, slot_after}
+use Rattle.attempt_pool.specs.Walk.{WalkIsAt, left_at}
+use Rattle.machine.specs.declared.attempt.AttemptRecord.{AttemptRecord}
+use Rattle.machine.specs.declared.fates.Fates.{Fates}
+use Rattle.machine.specs.Marks.{fates_of, AreRecent, SettlesAs}
+use Rattle.machine.specs.Records.{attempt_of, settled}
 use Rattle.machine.specs.Live.{attempts_in, HaveBegun, AreSettled}
-use Rattle.machine_definition.specs.Runs.{open_ones}
+use Rattle.machine_checked.specs.Runs.{open_ones}
 use Rattle.machine.proofs.PoolSteps as steps
 
 -- those that stay and those that were decided, in front of the settlement of the others

@@ -8,3 +8,8 @@ pub mod Memory
 pub mod Later
 pub mod Few
 pub mod Again
+pub mod Bases
+pub mod Records
+pub mod Marks
+pub mod Finishes
+pub mod Steps

@@ -1,13 +1,14 @@
 //! What is live where it is little.
 
 ghost use Rattle.std.specs.Prelude.{◌≡◌, ◌+◌, ◌^◌, ◌<◌, ◌≤◌, length, map, IsTrue};
-ghost use Rattle.machine_attempts.specs.Records.{attempt_of, obligation_of};
+ghost use Rattle.machine.specs.Records.{attempt_of, obligation_of};
 ghost use Rattle.machine.specs.Few.{listed, WereOpened};
 ghost use Rattle.machine.specs.Later.{attempt_later, obligation_later};
 ghost use Rattle.machine.specs.Live.{attempts_in, obligations_in, HaveBegun};
 
-use machine_attempts::{AttemptRecord, ObligationRecord};
-use machine_memory::Pool;
+use crate::attempt::AttemptRecord;
+use crate::obligation::ObligationRecord;
+use attempt_pool::Pool;
 
 /// What is live, where that is one attempt at most and one obligation at most.
 #[derive(Clone, Copy)]

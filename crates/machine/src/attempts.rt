@@ -1,20 +1,22 @@
 //! The live attempts at a clock.
 
 ghost use Rattle.std.specs.Prelude.{◌≡◌, ◌+◌, ◌*◌, ◌≤◌, ◌++◌, [], length};
-ghost use Rattle.bytecode.specs.Programs.{data_of};
+ghost use Rattle.bytecode_programs.specs.Programs.{data_of};
 ghost use Rattle.verifier.specs.Programs.{IsAccepted};
-ghost use Rattle.machine_memory.specs.Pooled.{pooled};
-ghost use Rattle.machine_definition.specs.Outcomes.{done};
-ghost use Rattle.machine_definition.specs.Clocks.{visit_attempts};
-ghost use Rattle.machine_attempts.specs.Bases.{AreBases};
+ghost use Rattle.attempt_pool.specs.Pooled.{pooled};
+ghost use Rattle.machine_checked.specs.Outcomes.{done};
+ghost use Rattle.machine_checked.specs.Clocks.{visit_attempts};
+ghost use Rattle.machine.specs.Bases.{AreBases};
 ghost use Rattle.machine.specs.Live.{attempts_in, visit_cost, AreRunning, HaveBegun, AreSettled};
 ghost use Rattle.machine.specs.Live.{AreDisabled};
-ghost use Rattle.machine_definition.specs.Runs.{open_ones};
+ghost use Rattle.machine_checked.specs.Runs.{open_ones};
 
+use crate::attempt::AttemptRecord;
+use crate::fates::Fates;
+use crate::visit::visit_positions;
 use arrayvec::ArrayVec;
-use bytecode::Program;
-use machine_attempts::{AttemptRecord, Fates, visit_positions};
-use machine_memory::Pool;
+use attempt_pool::Pool;
+use bytecode_programs::Program;
 use signals::{Decided, Verdict};
 
 /// Visits each attempt in order of its start, and answers whether any accepted.

@@ -30,7 +30,7 @@
 //! A contract sees the program, the state of the checked machine, and the cost of the last clock:
 //! `specs/Running.antt`. What is noted of the last clocks: `specs/Again.antt`, and by atoms:
 //! `specs/Told.antt`. What is so many clocks later: `specs/Later.antt`. The definitions of a clock
-//! stand in `machine_definition`: `clock` there says what a clock comes to, with every test that it
+//! stand in `machine_checked`: `clock` there says what a clock comes to, with every test that it
 //! could fail.
 //!
 //! Not promised: that memory suffices for a machine, that a foreign program means anything, or
@@ -39,11 +39,15 @@
 #![tactic(auto)]
 
 mod at_most_one;
+mod attempt;
 mod attempts;
 mod bases;
+mod block;
+mod block_starts;
+mod fates;
 mod live;
 mod machine;
-mod memory;
+mod obligation;
 mod obligations;
 mod outcomes;
 mod own_attempt;
@@ -52,5 +56,7 @@ mod repeats;
 mod row;
 mod sample_code;
 mod stacked;
+mod state;
+mod visit;
 
 pub use machine::Machine;

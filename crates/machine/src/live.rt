@@ -3,17 +3,17 @@
 ghost use Rattle.std.specs.Prelude.{◌≡◌, ◌+◌, ◌^◌, ◌<◌, ◌≤◌, ◌++◌, ◌∷◌, [], Some, length, IsTrue};
 ghost use Rattle.std.specs.Prelude.{IfSome, List};
 ghost use Rattle.signals.specs.declared.verdict.Decided.{Decided};
-ghost use Rattle.bytecode.specs.Programs.{data_of};
+ghost use Rattle.bytecode_programs.specs.Programs.{data_of};
 ghost use Rattle.verifier.specs.Programs.{IsAccepted};
-ghost use Rattle.machine_definition.specs.Clocks.{disabling};
-ghost use Rattle.machine_definition.specs.Bounds.{IsReached};
+ghost use Rattle.machine_checked.specs.Clocks.{disabling};
+ghost use Rattle.machine_checked.specs.Bounds.{IsReached};
 ghost use Rattle.machine.specs.Code.{AreBasesOf};
 ghost use Rattle.machine.specs.Live.{attempts_in, obligations_in, standing_of, new_attempt};
 ghost use Rattle.machine.specs.Live.{with_new};
 ghost use Rattle.machine.specs.Live.{live_budget, ArePoolsOf, HasAdvanced};
 ghost use Rattle.machine.specs.Told.{AreOutcomesOf, IsTold};
 ghost use Rattle.machine.specs.Few.{AreFew, IsThis};
-ghost use Rattle.machine_definition.specs.Clocks.{Standing};
+ghost use Rattle.machine_checked.specs.Clocks.{Standing};
 ghost use Rattle.machine.specs.Later.{standing_later};
 ghost use Rattle.machine.specs.Again.{IsLittle};
 
@@ -21,8 +21,10 @@ use crate::at_most_one::{
     Few, Little, is_attempt_later, is_obligation_later, move_attempt, move_obligation,
     only_attempt, only_obligation,
 };
+use crate::attempt::AttemptRecord;
 use crate::attempts::{disable_attempts, settle_attempts, visit_attempts};
-use crate::bases::Bases;
+use crate::block_starts::Bases;
+use crate::obligation::ObligationRecord;
 use crate::obligations::{drop_obligations, visit_obligations};
 use crate::outcomes::{Outcomes, Told, number_of};
 use crate::own_attempt::{
@@ -30,9 +32,8 @@ use crate::own_attempt::{
 };
 use crate::repeats::verdict_at;
 use arrayvec::ArrayVec;
-use bytecode::Program;
-use machine_attempts::{AttemptRecord, ObligationRecord};
-use machine_memory::Pool;
+use attempt_pool::Pool;
+use bytecode_programs::Program;
 use signals::Decided;
 
 /// The live attempts and obligations, the number of clocks that were run, and what clocks with

@@ -31,7 +31,7 @@ impl Machine {
     ghost use Rattle.std.specs.Prelude.{IfSome, IfNone};
     ghost use Rattle.machine.specs.Running.{opened_on, IsOneClock, IsRowOf};
     ghost use Rattle.machine.specs.Again.{AreAgain};
-    ghost use Rattle.machine_definition.specs.Runs.{open_ones};
+    ghost use Rattle.machine_checked.specs.Runs.{open_ones};
 
     /// A machine before its first clock, or the program again where memory is refused. No other
     /// call takes memory.
@@ -57,8 +57,9 @@ impl Machine {
         self.clock_hinted(row, false, out);
     }
 
-    /// The same. `changed` says that the row is known to be another one than the last, so that the
-    /// two are not compared. Where it is the last one in spite of this, that costs time alone.
+    /// Runs a clock as `clock` does. `changed` says that the row is known to be another one than
+    /// the last, so that the two are not compared. If it is the last one in spite of this, that
+    /// costs time alone.
     pub fn clock_hinted(&mut self, row: &[u128], changed: bool, out: &mut ArrayVec<Decided, 1024>)
         requires row { IsRowOf self.old.program row.now }
         requires room { length out.old.items + self.old.program.header.limits.attempts ≤ 1024 }

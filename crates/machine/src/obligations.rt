@@ -1,16 +1,18 @@
 //! The live obligations at a clock.
 
 ghost use Rattle.std.specs.Prelude.{◌≡◌, ◌+◌, ◌*◌, ◌≤◌, [], length};
-ghost use Rattle.bytecode.specs.Programs.{data_of};
+ghost use Rattle.bytecode_programs.specs.Programs.{data_of};
 ghost use Rattle.verifier.specs.Programs.{IsAccepted};
-ghost use Rattle.machine_memory.specs.Pooled.{pooled};
-ghost use Rattle.machine_attempts.specs.Bases.{AreBases};
+ghost use Rattle.attempt_pool.specs.Pooled.{pooled};
+ghost use Rattle.machine.specs.Bases.{AreBases};
 ghost use Rattle.machine.specs.Live.{obligations_in, visit_cost, AreOwed, OpenedLately};
 ghost use Rattle.machine.specs.Live.{AreVisited};
 
-use bytecode::Program;
-use machine_attempts::{Fates, ObligationRecord, visit_positions};
-use machine_memory::Pool;
+use crate::fates::Fates;
+use crate::obligation::ObligationRecord;
+use crate::visit::visit_positions;
+use attempt_pool::Pool;
+use bytecode_programs::Program;
 
 /// Visits each obligation in order of its tick, retires those that ended, and answers what became
 /// of them.

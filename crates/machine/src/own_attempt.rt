@@ -1,20 +1,23 @@
 //! A clock with nothing live before it: its own attempt and obligation, with no walk of a pool.
 
 ghost use Rattle.std.specs.Prelude.{◌≡◌, ◌<◌, ◌≤◌, ◌*◌, ◌∷◌, [], length};
-ghost use Rattle.bytecode.specs.Programs.{data_of};
+ghost use Rattle.bytecode_programs.specs.Programs.{data_of};
 ghost use Rattle.verifier.specs.Programs.{IsAccepted};
-ghost use Rattle.machine_attempts.specs.Bases.{AreBases};
-ghost use Rattle.machine_attempts.specs.Records.{attempt_of};
+ghost use Rattle.machine.specs.Bases.{AreBases};
+ghost use Rattle.machine.specs.Records.{attempt_of};
 ghost use Rattle.machine.specs.Live.{attempts_in, obligations_in, visit_cost, new_obligation};
 ghost use Rattle.machine.specs.Live.{new_attempt, with_new};
 ghost use Rattle.machine.specs.Live.{AreVisited, AreSettled, AreDisabled};
 ghost use Rattle.machine.specs.Own.{ComesTo};
-ghost use Rattle.machine_definition.specs.Clocks.{Attempt};
+ghost use Rattle.machine_checked.specs.Clocks.{Attempt};
 
+use crate::attempt::AttemptRecord;
+use crate::fates::Fates;
+use crate::obligation::ObligationRecord;
+use crate::visit::{Visit, visit_positions};
 use arrayvec::ArrayVec;
-use bytecode::Program;
-use machine_attempts::{AttemptRecord, Fates, ObligationRecord, Visit, visit_positions};
-use machine_memory::Pool;
+use attempt_pool::Pool;
+use bytecode_programs::Program;
 use signals::{Decided, Verdict};
 
 /// The attempt of the clock `now`, before its visit.
@@ -97,7 +100,7 @@ fn visit_opened_obligation(
     fates
 }
 
-/// The same where the attempt of the clock accepted; else there is no obligation.
+/// Visits the obligation of the clock if its attempt accepted; else there is no obligation.
 pub(crate) fn visit_own_obligation(
     opens: bool,
     program: &Program,

@@ -1,11 +1,11 @@
 //! Rows of clocks.
 
 ghost use Rattle.std.specs.Prelude.{◌≡◌, ◌∷◌, ◌++◌, length, IsTrue};
-ghost use Rattle.bytecode.specs.Programs.{data_of};
+ghost use Rattle.bytecode_programs.specs.Programs.{data_of};
 ghost use Rattle.machine.specs.SampleCode.{row_kept};
 
-use bytecode::Program;
-use machine_memory::Ring;
+use bytecode_programs::Program;
+use history_ring::Ring;
 
 /// Pushes the row of a clock on the history, where the program keeps one.
 pub(crate) fn keep_row(program: &Program, history: &mut Ring, row: &[u128])

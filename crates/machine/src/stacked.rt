@@ -1,16 +1,16 @@
 //! Sample code over a stack of operands.
 
 ghost use Rattle.std.specs.Prelude.{◌≡◌, ◌≤◌, ◌∷◌, ◌++◌, length};
-ghost use Rattle.bytecode.specs.Programs.{data_of};
+ghost use Rattle.bytecode_programs.specs.Programs.{data_of};
 ghost use Rattle.verifier.specs.Programs.{IsAccepted};
-ghost use Rattle.machine_definition.specs.Values.{AreValues};
-ghost use Rattle.machine_memory.specs.History.{pushed};
-ghost use Rattle.machine_expressions.specs.Memory.{AreRows};
-ghost use Rattle.machine_expressions.specs.Runs.{HasRun, longest_run};
+ghost use Rattle.machine_checked.specs.Values.{AreValues};
+ghost use Rattle.history_ring.specs.History.{pushed};
+ghost use Rattle.machine_sample_code.specs.Memory.{AreRows};
+ghost use Rattle.machine_sample_code.specs.Runs.{HasRun, longest_run};
 
-use bytecode::Program;
-use machine_expressions::{Stack, fill_row, run};
-use machine_memory::Ring;
+use bytecode_programs::Program;
+use history_ring::Ring;
+use machine_sample_code::{Stack, fill_row, run};
 
 /// The stack, and where the row of a clock is made.
 #[derive(Drop)]

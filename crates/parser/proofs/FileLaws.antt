@@ -12,13 +12,13 @@ use Rattle.parser_grammar.proofs.TerminalLaws.{is-true, is-false}
 use Rattle.parser_grammar.proofs.FilesComplete.{file-read}
 use Rattle.parser_grammar.proofs.FilesSound.{file-found}
 use Rattle.parser.specs.declared.fault.ParseFault.{ParseFault}
-use Rattle.parser_expressions.specs.declared.stop.Stop.{Stop}
-use Rattle.parser_expressions.specs.declared.stop.Stop.TheVariants as stops
+use Rattle.parser.specs.declared.stop.Stop.{Stop}
+use Rattle.parser.specs.declared.stop.Stop.TheVariants as stops
 use Rattle.parser_grammar.specs.declared.item.ItemTree.{ItemTree}
 use Rattle.parser_grammar.specs.Views.{item_of}
-use Rattle.parser_expressions.proofs.LoopLaws.{map-push}
+use Rattle.parser.proofs.LoopLaws.{map-push}
 use Rattle.parser.specs.Faults.{NamesStop, Refuses, IsParseFault}
-use Rattle.parser_expressions.specs.Views.{Fails}
+use Rattle.parser.specs.Views.{Fails}
 
 -- a stop that is no want of memory, and the fault that names it
 pub refuses : {A : Type 0} (stop : Stop) (fault : ParseFault) (o : Option A) → Fails stop o → NamesStop stop fault

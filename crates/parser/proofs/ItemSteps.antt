@@ -22,9 +22,9 @@ use Rattle.parser_grammar.specs.ReadFiles.{again_of, skip}
 use Rattle.parser_grammar.specs.ReadFiles.{ending_of, declaration_item, is_verb_token, opening_words, clock_words}
 use Rattle.parser_grammar.specs.ReadFiles.{disable_reader, property_end, assertion_form, assertion_item, label_reader}
 use Rattle.parser_grammar.specs.ReadFiles.{declaration_reader, item, is_more}
-use Rattle.parser_expressions.specs.declared.stop.Stop.{Stop}
-use Rattle.parser_expressions.specs.Views.{Fails}
-use Rattle.parser_expressions.proofs.Steps.{failing}
+use Rattle.parser.specs.declared.stop.Stop.{Stop}
+use Rattle.parser.specs.Views.{Fails}
+use Rattle.parser.proofs.Steps.{failing}
 
 again-split : (b : Bool) (t : Token) (us : List Token)
     → option_map {T = Token} {U = Token × List Token} (λ (a : Token). (a, us)) (if b && false then Some t else None)

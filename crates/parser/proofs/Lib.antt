@@ -1,5 +1,13 @@
-pub mod Steps
+pub mod FileSteps
 pub mod PropertySteps
 pub mod ItemSteps
 pub mod FileLaws
+pub mod FaultLaws
+pub mod Steps
+pub mod LoopLaws
+pub mod TreeLaws
+pub mod NameSteps
 pub mod ByteLaws
+pub mod SequenceTreeLaws
+pub mod BodyLaws
+pub mod SequenceSteps

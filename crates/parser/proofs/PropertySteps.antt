@@ -10,9 +10,9 @@ use Rattle.parser_grammar.specs.Terminals.{is_first_match_word}
 use Rattle.parser_grammar.specs.Readers.{◌>>=◌, Reader, refuse, lead, expect, pick}
 use Rattle.parser_grammar.specs.ReadSequences.{whole, regroup, sequence_behind, implication_behind, regroup_property}
 use Rattle.parser_grammar.specs.ReadSequences.{property_with, properties, property, sequences, first_behind}
-use Rattle.parser_expressions.specs.declared.stop.Stop.{Stop}
-use Rattle.parser_expressions.specs.Views.{Fails}
-use Rattle.parser_expressions.proofs.Steps.{failing, none-fails, lead-nil, lead-no, lead-yes}
+use Rattle.parser.specs.declared.stop.Stop.{Stop}
+use Rattle.parser.specs.Views.{Fails}
+use Rattle.parser.proofs.Steps.{failing, none-fails, lead-nil, lead-no, lead-yes}
 
 inner-at : (d k : ℕ) → d ≡ k + 1 → properties d ≡ property k
 unfolding properties property

@@ -6,9 +6,9 @@ use Rattle.parser_grammar.specs.Trees.{ItemForm}
 use Rattle.parser_grammar.specs.Files.{IsFile}
 use Rattle.parser.specs.declared.fault.ParseFault.{ParseFault}
 use Rattle.parser.specs.declared.fault.ParseFault.TheVariants as faults
-use Rattle.parser_expressions.specs.Bytes.{IsByteIn}
-use Rattle.parser_expressions.specs.declared.stop.Stop.{Stop}
-use Rattle.parser_expressions.specs.declared.stop.Stop.TheVariants as stops
+use Rattle.parser.specs.Bytes.{IsByteIn}
+use Rattle.parser.specs.declared.stop.Stop.{Stop}
+use Rattle.parser.specs.declared.stop.Stop.TheVariants as stops
 
 abbrev pub IsTooDeep : ParseFault → Type 0
 IsTooDeep (faults.TooDeep at) = Unit {0}

@@ -1,1 +1,4 @@
 pub mod Faults
+pub mod Views
+pub mod Bytes
+pub mod Bodies

@@ -3,11 +3,12 @@
 ghost use Rattle.std.specs.Prelude.{◌≡◌, ◌<◌, length, IfSome};
 ghost use Rattle.std.specs.List.{Contains};
 ghost use Rattle.parser.specs.declared.fault.ParseFault.TheVariants.{Memory};
-ghost use Rattle.parser_expressions.specs.Bytes.{IsByteIn};
+ghost use Rattle.parser.specs.Bytes.{IsByteIn};
 ghost use Rattle.parser.specs.Faults.{NamesStop, IsPlaced};
 
+use crate::read::{byte_at, first, same};
+use crate::stop::Stop;
 use lexer::Token;
-use parser_expressions::{Stop, byte_at, first, same};
 use parser_grammar::{Terminal, implication_of, is, terminal_of};
 use std::alloc::{AllocError, AllocFailed};
 use thiserror::Error;
@@ -91,7 +92,7 @@ fn token_at<'a>(tokens: &[Token<'a>], at: usize) -> Option<(Token<'a>, Before)>
 }
 
 /// The byte, if a token stands there; else that of the first. One does: reading stops at a token.
-#[tactic(auto, using(crate::proofs::ByteLaws::for_byte_in))]
+#[tactic(auto, using(crate::proofs::FaultLaws::for_byte_in))]
 pub(crate) fn byte_in(tokens: &[Token], at: usize) -> usize
     ensures { 0 < length tokens.now → IsByteIn tokens.now result }
 {
@@ -103,7 +104,7 @@ pub(crate) fn byte_in(tokens: &[Token], at: usize) -> usize
 
 /// The fault at the byte, where something else would go on. The tokens are those from the item's
 /// first on.
-#[tactic(auto, using(crate::proofs::ByteLaws::for_unexpected))]
+#[tactic(auto, using(crate::proofs::FaultLaws::for_unexpected))]
 fn unexpected_token<'a>(tokens: &[Token<'a>], what: &'static str, at: usize) -> ParseFault<'a>
     requires { 0 < length tokens.now }
     ensures other { result ≡ Memory → ⊥ }

@@ -11,9 +11,8 @@ ghost use Rattle.parser.specs.Faults.{IsParseFault, Refuses, IsPlaced};
 
 use crate::fault::{ParseFault, byte_in, fault_of};
 use crate::item::read_item;
-use crate::read::read;
+use crate::read::{byte_at, first, read, same};
 use lexer::Token;
-use parser_expressions::{byte_at, first, same};
 use parser_grammar::{File, ItemTree, Terminal, is};
 use std::alloc::Global;
 

@@ -16,22 +16,22 @@ ghost use Rattle.parser_grammar.specs.ReadFiles.{property_end};
 ghost use Rattle.parser_grammar.specs.ReadFiles.{assertion_item, label_reader, declaration_reader};
 ghost use Rattle.parser_grammar.specs.ReadFiles.{item};
 ghost use Rattle.parser_grammar.specs.Views.{path_of, boxed_of};
-ghost use Rattle.parser_expressions.specs.Views.{Gives};
+ghost use Rattle.parser.specs.Views.{Gives};
 ghost use Rattle.parser_grammar.specs.Views.{pair_of, property_of, counter_of, declaration_of};
 ghost use Rattle.parser_grammar.specs.Views.{assertion_of, item_of};
 
+use crate::expression::{read_expression, read_path};
 use crate::property::read_property;
-use crate::read::read;
-use lexer::Token;
-use parser_expressions::{
-    Read, Stop, accept, accept_name, expect, expect_bound, expect_name, expect_verb, first,
-    read_expression, read_path, same,
+use crate::read::{
+    Read, accept, accept_name, expect, expect_bound, expect_name, expect_verb, first, read, same,
 };
+use crate::sequence::read_sequence;
+use crate::stop::Stop;
+use lexer::Token;
 use parser_grammar::{
     AssertionTree, Bound, CounterTree, DeclarationTree, ExprTree, ItemTree, Operands, Path,
     PropertyTree, Terminal, is_word,
 };
-use parser_sequences::read_sequence;
 use std::alloc::Global;
 
 /// How many brackets and unfinished operators may be open at once.
@@ -72,7 +72,7 @@ fn read_operands<'t, 'a>(alloc: Global, tokens: &'t [Token<'a>]) -> Read<'t, 'a,
 }
 
 /// A counter's `clear`, if it has one.
-#[tactic(auto, using(crate::proofs::Steps::for_optional))]
+#[tactic(auto, using(crate::proofs::FileSteps::for_optional))]
 fn read_clear<'t, 'a>(
     alloc: Global,
     tokens: &'t [Token<'a>],
@@ -89,7 +89,7 @@ fn read_clear<'t, 'a>(
 }
 
 /// A clause of a counter with two operands, if it has it.
-#[tactic(auto, using(crate::proofs::Steps::for_optional))]
+#[tactic(auto, using(crate::proofs::FileSteps::for_optional))]
 fn read_clause<'t, 'a>(
     alloc: Global,
     tokens: &'t [Token<'a>],
@@ -159,7 +159,7 @@ fn expect_again<'t, 'a>(tokens: &'t [Token<'a>], name: Token<'a>) -> Read<'t, 'a
 }
 
 /// The name after a sequence's end, if it is there.
-#[tactic(auto, using(crate::proofs::Steps::for_optional))]
+#[tactic(auto, using(crate::proofs::FileSteps::for_optional))]
 fn read_closing<'t, 'a>(tokens: &'t [Token<'a>], name: Token<'a>) -> Read<'t, 'a, Option<Token<'a>>>
     ensures read { Gives (λ r. (r.0, r.1.now)) result
         (optional Colon (pick (again_of name.entry)) tokens.now) }
@@ -242,7 +242,7 @@ fn read_disabling<'t, 'a>(alloc: Global, tokens: &'t [Token<'a>]) -> Read<'t, 'a
 }
 
 /// `disable iff (operand)`, if it is there.
-#[tactic(auto, using(crate::proofs::Steps::for_optional))]
+#[tactic(auto, using(crate::proofs::FileSteps::for_optional))]
 fn read_disable<'t, 'a>(
     alloc: Global,
     tokens: &'t [Token<'a>],

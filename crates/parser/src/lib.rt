@@ -5,24 +5,34 @@
 //! let file = parse(alloc, &tokens)?;
 //! ```
 //!
-//! The grammar stands in `parser_grammar/specs/Files.antt` (`IsFile`: the tokens before the end
-//! spell the items, one of which is an assertion), and the functions that read by it in
-//! `parser_grammar/specs/ReadFiles.antt`; `parser_grammar` has the trees, too, and says how one
-//! stands for the grammar's. `specs/Faults.antt` has what a refusal says: no items spell the
-//! tokens, unless memory ran out.
+//! Each reader takes the tokens that are left, and answers what it read with the tokens after it,
+//! or where and why it stopped. It reads as far as the grammar lets it go on; the depth that it is
+//! given is how many more brackets and unfinished operators may open, from 0 to 64. Brackets may
+//! hold a part of what goes on after them, in sequences and properties.
 //!
-//! Expressions are read by `parser_expressions`, and sequences by `parser_sequences`; the trees can
-//! be imported from here, too.
+//! The grammar stands in `parser_grammar/specs/Files.antt` (`IsFile`: the tokens before the end
+//! spell the items, one of which is an assertion), `Expressions.antt` and `Sequences.antt`, and the
+//! functions that read by it in `ReadFiles.antt`, `ReadExpressions.antt` and `ReadSequences.antt`
+//! there. That crate has the trees, too, which can be imported from here, and says how one stands
+//! for the grammar's. `specs/Views.antt` says what it is that a reader gives what the function
+//! reads (`Gives`), and `specs/Faults.antt` what a refusal says: no items spell the tokens, unless
+//! memory ran out.
 //!
 //! Not promised: which of the faults comes, and at which of the tokens; the tests of
 //! `answers_texts` show it.
 #![tactic(auto)]
 
+mod body;
+mod count;
+mod expression;
 mod fault;
 mod file;
 mod item;
+mod node;
 mod property;
 mod read;
+mod sequence;
+mod stop;
 
 pub use fault::ParseFault;
 pub use file::parse;

@@ -8,16 +8,16 @@ ghost use Rattle.parser_grammar.specs.Readers.{lead, pick};
 ghost use Rattle.parser_grammar.specs.ReadSequences.{implication_behind, regroup_property};
 ghost use Rattle.parser_grammar.specs.ReadSequences.{property};
 ghost use Rattle.parser_grammar.specs.ReadSequences.{first_behind};
-ghost use Rattle.parser_expressions.specs.Views.{Gives};
+ghost use Rattle.parser.specs.Views.{Gives};
 ghost use Rattle.parser_grammar.specs.Views.{sequence_of, property_of};
 
-use crate::read::read;
+use crate::read::{Read, accept, byte_at, deeper, expect, first, read};
+use crate::sequence::{finish_sequence, read_sequence, regroup};
+use crate::stop::Stop;
 use lexer::Token;
-use parser_expressions::{Read, Stop, accept, byte_at, deeper, expect, first};
 use parser_grammar::{
     Implication, PropertyTree, SequenceTree, Terminal, implication_of, is_first_match_word,
 };
-use parser_sequences::{finish_sequence, read_sequence, regroup};
 use std::alloc::Global;
 
 /// The implication that stands first, if one does.

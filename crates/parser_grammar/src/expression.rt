@@ -1,7 +1,9 @@
 //! The tree of an expression. Brackets are not kept. A chain of left operators of one level is one
 //! node.
 
-use crate::{Bound, Function, Infix, Prefix, Select};
+use crate::bound::{Bound, Select};
+use crate::mark::Function;
+use crate::operator::{Infix, Prefix};
 use lexer::{Number, Token};
 
 /// The words of a path, of which there is at least one.

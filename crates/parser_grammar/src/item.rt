@@ -1,8 +1,9 @@
 //! The tree of a file. Brackets are not kept.
 
+use crate::bound::Bound;
 use crate::expression::{ExprTree, Path};
+use crate::operator::Implication;
 use crate::sequence::SequenceTree;
-use crate::{Bound, Implication};
 use lexer::Token;
 
 /// A property (IEEE 1800-2017, 16.12).

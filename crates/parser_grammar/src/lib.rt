@@ -6,8 +6,8 @@
 //! spell, and as functions that read the tokens from the left. `grammar_law` says that the two
 //! agree for files, and for expressions, sequences and properties where no operator after them
 //! goes on; and that tokens spell at most one file. The readers themselves, with trees in memory,
-//! are `parser_expressions`, `parser_sequences` and `parser`, whose contracts go by these
-//! definitions. The trees in memory stand here too, below all that makes or reads them: `tree_of`,
+//! are those of `parser`, whose contracts go by these definitions. The trees in memory stand here
+//! too, below all that makes or reads them: `tree_of`,
 //! `sequence_of`, `property_of` and `item_of` say which tree of the grammar each stands for.
 //! Brackets are not kept, and what groups to the left on one level is one node. The rest of the
 //! code says what a single token is to the grammar:

@@ -1,8 +1,9 @@
 //! The tree of a sequence. Brackets are not kept. A chain of left operators of one level is one
 //! node.
 
+use crate::bound::Range;
 use crate::expression::ExprTree;
-use crate::{Junction, Range};
+use crate::operator::Junction;
 use lexer::Token;
 
 /// A sequence (IEEE 1800-2017, 16.7 to 16.9). A lone name as a boolean may be that of a sequence.

@@ -7,7 +7,7 @@ use Rattle.json.specs.Print.{print}
 use Rattle.json.specs.Tree.{json_tokens, depth, items_depth, members_depth}
 use Rattle.json.specs.Value.{items_of}
 use Rattle.json.proofs.Printed.Trees.{value-json_tokens}
-use Rattle.verdicts.specs.Lines.{LineData, ReportData}
+use Rattle.report_lines.specs.Lines.{LineData, ReportData}
 use Rattle.report_forms.specs.Provenances.{ProvenanceData}
 use Rattle.report_forms.specs.JsonForm.{failure_json, line_json, report_json, members_with}
 use Rattle.report_forms.specs.JsonForm.{refused_json, refused_members}

@@ -2,9 +2,9 @@
 use Rattle.std.specs.Prelude.{ℕ, List, [], ◌∷◌, map, codes, decimal}
 use Rattle.json.specs.Json.{Json, Members, number, string, array, object, no_members, member}
 use Rattle.json.specs.Value.{items_of}
-use Rattle.verdicts.specs.declared.line.Counts.{Counts}
-use Rattle.verdicts.specs.declared.line.Failure.{Failure}
-use Rattle.verdicts.specs.Lines.{LineData, ReportData}
+use Rattle.report_lines.specs.declared.line.Counts.{Counts}
+use Rattle.report_lines.specs.declared.line.Failure.{Failure}
+use Rattle.report_lines.specs.Lines.{LineData, ReportData}
 use Rattle.report_forms.specs.Provenances.{ProvenanceData, time_at}
 use Rattle.report_forms.specs.Refusals.{RefusedData}
 

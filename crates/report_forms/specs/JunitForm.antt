@@ -1,9 +1,9 @@
 -- A report as the XML that JUnit's readers take.
 use Rattle.std.specs.Prelude.{ℕ, List, [], ◌∷◌, ◌++◌, if◌then◌else◌, codes, decimal, length, take}
 use Rattle.std.specs.Prelude.{count_by, flat_map}
-use Rattle.verdicts.specs.declared.line.Counts.{Counts}
-use Rattle.verdicts.specs.declared.line.Failure.{Failure}
-use Rattle.verdicts.specs.Lines.{LineData, ReportData}
+use Rattle.report_lines.specs.declared.line.Counts.{Counts}
+use Rattle.report_lines.specs.declared.line.Failure.{Failure}
+use Rattle.report_lines.specs.Lines.{LineData, ReportData}
 use Rattle.report_forms.specs.Provenances.{ProvenanceData, time_at}
 use Rattle.report_forms.specs.Refusals.{RefusedData}
 use Rattle.report_forms.specs.Outcomes.{has_failed, is_untried}

@@ -1,6 +1,6 @@
 -- What an assertion came to.
 use Rattle.std.specs.Prelude.{Bool, ◌==◌, ◌&&◌, nat_lt}
-use Rattle.verdicts.specs.Lines.{LineData}
+use Rattle.report_lines.specs.Lines.{LineData}
 
 -- some attempt failed
 abbrev pub has_failed : LineData → Bool

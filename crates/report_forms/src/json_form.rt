@@ -5,8 +5,8 @@ ghost use Rattle.json.specs.Json.{document};
 ghost use Rattle.json.specs.Print.{print};
 ghost use Rattle.json.specs.Token.{key, number, string};
 ghost use Rattle.json.specs.Tree.{json_tokens, members_tokens};
-ghost use Rattle.verdicts.specs.Lines.{line};
-ghost use Rattle.verdicts.specs.Shown.{data_of};
+ghost use Rattle.report_lines.specs.Lines.{line};
+ghost use Rattle.report_lines.specs.Shown.{data_of};
 ghost use Rattle.report_forms.specs.Grown.{Adds};
 ghost use Rattle.report_forms.specs.Provenances.{provenance_of, time_at};
 ghost use Rattle.report_forms.specs.JsonForm.{counts_json, failure_json, line_json, report_json};
@@ -17,8 +17,8 @@ ghost use Rattle.report_forms.specs.Refusals.{refused_of};
 use crate::provenance::Provenance;
 use crate::refused::Refused;
 use json::Writer;
+use report_lines::{Counts, Failure, Line, Report};
 use std::alloc::{AllocError, Global};
-use verdicts::{Counts, Failure, Line, Report};
 
 /// The number of the schema.
 const SCHEMA_VERSION: u64 = 1;

@@ -2,23 +2,23 @@
 
 ghost use Rattle.std.specs.Prelude.{◌≡◌, ◌++◌, OnOk, IfOk, string_bytes, codes, take, length};
 ghost use Rattle.std.specs.Prelude.{count_by, flat_map, map};
-ghost use Rattle.verdicts.specs.Lines.{line};
-ghost use Rattle.verdicts.specs.Shown.{data_of};
+ghost use Rattle.report_lines.specs.Lines.{line};
+ghost use Rattle.report_lines.specs.Shown.{data_of};
 ghost use Rattle.report_forms.specs.Grown.{Grows};
 ghost use Rattle.report_forms.specs.Outcomes.{has_failed, is_untried};
 ghost use Rattle.report_forms.specs.Provenances.{provenance_of};
-ghost use Rattle.report_forms.specs.JunitForm.{attribute, clock_text, attempt_text};
+ghost use Rattle.report_forms.specs.JunitForm.{attribute, attempt_text};
 ghost use Rattle.report_forms.specs.JunitForm.{failure_text, outcome_text, counts_text, case_text};
 ghost use Rattle.report_forms.specs.JunitForm.{suite_text, refused_text, refused_head};
 ghost use Rattle.report_forms.specs.JunitForm.{refused_suite, junit_text};
 ghost use Rattle.report_forms.specs.Refusals.{refused_of};
 
 use crate::escape::push_escaped;
-use crate::pieces::{push_number, push_text};
+use crate::pieces::{push_clock, push_number, push_text};
 use crate::provenance::Provenance;
 use crate::refused::Refused;
+use report_lines::{Counts, Failure, Line, Report};
 use std::alloc::{AllocError, Global};
-use verdicts::{Counts, Failure, Line, Report};
 
 /// How many failed attempts of an assertion are told.
 const MOST_TOLD: usize = 10;
@@ -31,23 +31,6 @@ fn push_attribute(text: &mut String, label: &str, value: &str) -> Result<(), All
     push_text(text, label)?;
     push_escaped(text, value)?;
     push_text(text, "\"")?;
-    Ok(())
-}
-
-/// Adds a label, a clock and its time.
-fn push_clock(
-    text: &mut String,
-    from: &Provenance<'_>,
-    label: &str,
-    clock: u64,
-) -> Result<(), AllocError>
-    ensures { OnOk result (Grows (string_bytes text.old) (string_bytes text.new)
-        (clock_text (provenance_of from.now) label.now clock)) }
-{
-    let time = from.time(clock);
-    push_number(text, label, clock)?;
-    push_number(text, " (#", time)?;
-    push_text(text, ")")?;
     Ok(())
 }
 

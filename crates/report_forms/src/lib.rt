@@ -10,7 +10,8 @@
 //! text, and the times of clocks. The JSON has all failures; the XML has the first 10 of each
 //! assertion and how many there are, and tells an assertion that was never tried as skipped. Items
 //! of the text that are refused, of which the report knows nothing, are told after it, if there are
-//! some: in the XML as a suite of their own, each as a case with an error.
+//! some: in the XML as a suite of their own, each as a case with an error. Other forms are made of
+//! the same pieces (`push_text`, `push_number`, `push_clock`, `push_escaped`).
 //!
 //! The definitions: where a report comes from in `specs/Provenances.antt`, and what is told of a
 //! refusal in `specs/Refusals.antt`; the JSON value in
@@ -34,5 +35,6 @@ mod refused;
 pub use escape::{attribute_law, push_escaped};
 pub use json_form::json_report;
 pub use junit_form::junit_report;
+pub use pieces::{push_clock, push_number, push_text};
 pub use provenance::Provenance;
 pub use refused::Refused;

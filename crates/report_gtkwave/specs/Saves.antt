@@ -7,10 +7,10 @@ use Rattle.std.specs.Prelude.{false, if◌then◌else◌, codes, decimal, nat_le
 use Rattle.std.specs.Prelude.{length, slice_index, string_bytes}
 use Rattle.std.specs.List.{flat_map}
 use Rattle.std.specs.Str.{bytes_eq}
-use Rattle.explaining.specs.declared.cells.RowSource.{RowSource}
-use Rattle.explaining.specs.declared.cells.RowSource.TheVariants.{Signal, Counter, Listed}
-use Rattle.explaining.specs.declared.sheet.SheetRow.{SheetRow}
-use Rattle.explained_reports.specs.declared.failed_attempt.FailedAttempt.{FailedAttempt}
+use Rattle.report_explained.specs.declared.cells.RowSource.{RowSource}
+use Rattle.report_explained.specs.declared.cells.RowSource.TheVariants.{Signal, Counter, Listed}
+use Rattle.report_explained.specs.declared.sheet.SheetRow.{SheetRow}
+use Rattle.report_explained.specs.declared.failed_attempt.FailedAttempt.{FailedAttempt}
 use Rattle.report_forms.specs.JunitForm.{number_text, clock_text}
 use Rattle.report_forms.specs.Provenances.{ProvenanceData, time_at}
 use Rattle.report_gtkwave.specs.Waves.{WaveName, suffix_in}

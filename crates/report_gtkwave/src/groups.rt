@@ -11,8 +11,7 @@ ghost use Rattle.report_gtkwave.specs.Saves.{groups_text};
 
 use crate::pieces::{push_bytes, push_clock, push_number, push_on_line, push_text};
 use crate::waves::{Wave, suffix_in};
-use explained_reports::FailedAttempt;
-use explaining::{RowSource, SheetRow};
+use report_explained::{FailedAttempt, RowSource, SheetRow};
 use report_forms::Provenance;
 use std::alloc::{AllocError, Global};
 

@@ -3,7 +3,7 @@
 //! ```text
 //! let waves = Waves::of(alloc, header)?;               // the front of the dump's bytes
 //! let from = Provenance { dump: "top.vcd", text: "", times: times.as_slice() };
-//! let told = told_of(alloc, lines, &explanations, &standings)?;      // of `explained_reports`
+//! let told = told_of(alloc, lines, &explanations, &standings)?;      // of `report_explained`
 //! let bytes = save_file(alloc, &from, &waves, told.as_slice())?;
 //! ```
 //!
@@ -18,7 +18,7 @@
 //!
 //! The definitions: what GTKWave calls the variables of a header in `specs/Waves.antt`, in which
 //! unit it counts in `specs/Scales.antt`, and the file in `specs/Saves.antt`; declarations are
-//! those of `vcd_declarations`, and failed attempts those of `explained_reports`.
+//! those of `vcd_declarations`, and failed attempts those of `report_explained`.
 //!
 //! Not promised: that memory suffices, and how wide a clock is shown. That GTKWave reads the file
 //! so was tried with its version 3.3 (`docs/TESTED.md`).

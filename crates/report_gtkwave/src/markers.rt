@@ -8,7 +8,7 @@ ghost use Rattle.report_gtkwave.specs.Saves.{wave_time, time_text, pair_text, pr
 ghost use Rattle.report_gtkwave.specs.Saves.{unset_text, markers_text, first_clock};
 
 use crate::pieces::{push_text, push_wide};
-use explained_reports::FailedAttempt;
+use report_explained::FailedAttempt;
 use report_forms::Provenance;
 use std::alloc::{AllocError, Global};
 

@@ -11,7 +11,7 @@ use crate::markers::{first_clock, push_markers, wave_time};
 use crate::pieces::{push_on_line, push_text, push_wide};
 use crate::waves::Waves;
 use crate::zoom::{power_over, push_zoom};
-use explained_reports::FailedAttempt;
+use report_explained::FailedAttempt;
 use report_forms::Provenance;
 use std::alloc::{AllocError, Global};
 

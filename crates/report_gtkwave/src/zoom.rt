@@ -5,7 +5,7 @@ ghost use Rattle.report_forms.specs.Grown.{Grows};
 ghost use Rattle.report_gtkwave.specs.Saves.{zoom_text};
 
 use crate::pieces::{push_number, push_text};
-use explained_reports::FailedAttempt;
+use report_explained::FailedAttempt;
 use report_forms::Provenance;
 use std::alloc::{AllocError, Global};
 

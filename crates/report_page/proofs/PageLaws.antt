@@ -3,12 +3,12 @@ use Rattle.std.proofs.Common.{◌≡◌, ◌∙◌, ◌++◌, ℕ, List, [], ◌
 use Rattle.std.proofs.Common.{String, Global}
 use Rattle.std.specs.Prelude.{flat_map}
 use Rattle.std.specs.List.{AllZip}
-use Rattle.verdicts.specs.Lines.{ReportData}
+use Rattle.report_lines.specs.Lines.{ReportData}
 use Rattle.report_forms.specs.Grown.{Grows}
 use Rattle.report_forms.specs.Provenances.{ProvenanceData}
 use Rattle.report_forms.proofs.PieceLaws.{and_then, flat_map-map}
-use Rattle.explained_reports.specs.declared.failed_attempt.FailedAttempt.{FailedAttempt}
-use Rattle.explained_reports.proofs.AllLaws.{zip_mapped}
+use Rattle.report_explained.specs.declared.failed_attempt.FailedAttempt.{FailedAttempt}
+use Rattle.report_explained.proofs.AllLaws.{zip_mapped}
 use Rattle.report_page.specs.PageForm.{head_of, intro_text, row_text, IsSection, IsSectionOf, IsPage}
 
 -- what was put together is a page

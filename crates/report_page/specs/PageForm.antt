@@ -4,14 +4,14 @@ use Rattle.std.specs.Prelude.{flat_map, slice_get, Option, None, Some}
 use Rattle.std.specs.Prelude.{String}
 use Rattle.std.specs.Global.{Global}
 use Rattle.std.specs.List.{AllZip}
-use Rattle.verdicts.specs.declared.line.Counts.{Counts}
-use Rattle.verdicts.specs.declared.line.Failure.{Failure}
-use Rattle.verdicts.specs.Lines.{LineData, ReportData}
+use Rattle.report_lines.specs.declared.line.Counts.{Counts}
+use Rattle.report_lines.specs.declared.line.Failure.{Failure}
+use Rattle.report_lines.specs.Lines.{LineData, ReportData}
 use Rattle.report_forms.specs.Provenances.{ProvenanceData}
 use Rattle.report_forms.specs.Outcomes.{has_failed, is_untried}
 use Rattle.report_forms.specs.Escapes.{escaped}
 use Rattle.report_forms.specs.JunitForm.{number_text, clock_text}
-use Rattle.explained_reports.specs.declared.failed_attempt.FailedAttempt.{FailedAttempt}
+use Rattle.report_explained.specs.declared.failed_attempt.FailedAttempt.{FailedAttempt}
 
 -- where the report comes from, and its sums
 unfoldable pub intro_text : ProvenanceData → ReportData → List ℕ

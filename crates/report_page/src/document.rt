@@ -2,20 +2,19 @@
 
 ghost use Rattle.std.specs.Prelude.{◌≡◌, ◌++◌, List, OnOk, IfOk, map, string_bytes, flat_map};
 ghost use Rattle.std.specs.List.{AllZip};
-ghost use Rattle.verdicts.specs.Lines.{line};
-ghost use Rattle.verdicts.specs.Shown.{data_of};
+ghost use Rattle.report_lines.specs.Lines.{line};
+ghost use Rattle.report_lines.specs.Shown.{data_of};
 ghost use Rattle.report_forms.specs.Grown.{Grows};
 ghost use Rattle.report_forms.specs.Provenances.{provenance_of};
 ghost use Rattle.report_page.specs.PageForm.{intro_text, row_text, IsSectionOf, IsPage};
 
 use crate::picture::section_of;
-use crate::pieces::{push_number, push_text};
 use crate::style::{END, HEAD, STYLE, TABLE, TABLE_END};
 use crate::table::push_row;
-use explained_reports::FailedAttempt;
-use report_forms::{Provenance, push_escaped};
+use report_explained::FailedAttempt;
+use report_forms::{Provenance, push_escaped, push_number, push_text};
+use report_lines::{Line, Report};
 use std::alloc::{AllocError, Global};
-use verdicts::{Line, Report};
 
 /// Adds where the report comes from, and its sums.
 fn push_intro(text: &mut String, from: &Provenance<'_>, report: &Report) -> Result<(), AllocError>

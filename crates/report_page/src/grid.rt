@@ -1,6 +1,6 @@
 //! Where the columns and rows of a picture stand.
 
-use explaining::{Sheet, SheetRow, push_value};
+use report_explained::{Sheet, SheetRow, push_value};
 use std::alloc::{AllocError, Global};
 
 /// The height of a row.
@@ -36,7 +36,7 @@ pub(crate) fn number_of_letters(number: u64) -> usize {
     letters
 }
 
-/// The text of a value of so many bits, as `explaining` writes it.
+/// The text of a value of so many bits, as `report_explained` writes it.
 pub(crate) fn cell_text(alloc: Global, value: u128, width: u8) -> Result<String, AllocError> {
     let mut text = String::new(alloc);
     push_value(&mut text, value, width)?;

@@ -2,7 +2,7 @@
 //!
 //! ```text
 //! let from = Provenance { dump: "top.vcd", text: "rules.sva", times: times.as_slice() };
-//! let told = told_of(alloc, lines, &explanations, &standings)?;      // of `explained_reports`
+//! let told = told_of(alloc, lines, &explanations, &standings)?;      // of `report_explained`
 //! let bytes = page(alloc, &from, &report, told.as_slice())?;
 //! ```
 //!
@@ -26,7 +26,6 @@ mod canvas;
 mod document;
 mod grid;
 mod picture;
-mod pieces;
 mod style;
 mod table;
 mod wave;

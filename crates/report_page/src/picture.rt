@@ -2,36 +2,16 @@
 
 ghost use Rattle.std.specs.Prelude.{◌≡◌, ◌++◌, ℕ, List, OnOk, IfOk, string_bytes};
 ghost use Rattle.report_forms.specs.Grown.{Grows};
-ghost use Rattle.report_forms.specs.JunitForm.{clock_text};
 ghost use Rattle.report_forms.specs.Provenances.{provenance_of};
 ghost use Rattle.report_page.specs.PageForm.{head_of, section_head, IsSection};
 
 use crate::canvas::{Anchor, push_begin, push_box, push_end, push_label, push_upright};
 use crate::grid::Grid;
-use crate::pieces::{push_number, push_text};
 use crate::wave::{BASE, push_row};
-use explained_reports::{Arrow, FailedAttempt};
-use explaining::Sheet;
-use report_forms::{Provenance, push_escaped};
+use report_explained::{Arrow, FailedAttempt, Sheet};
+use report_forms::{Provenance, push_clock, push_escaped, push_number, push_text};
 use std::alloc::{AllocError, Global};
 use std::fmt::Write;
-
-/// Adds a label, a clock and its time.
-pub(crate) fn push_clock(
-    text: &mut String,
-    from: &Provenance<'_>,
-    label: &str,
-    clock: u64,
-) -> Result<(), AllocError>
-    ensures { OnOk result (Grows (string_bytes text.old) (string_bytes text.new)
-        (clock_text (provenance_of from.now) label.now clock)) }
-{
-    let time = from.time(clock);
-    push_number(text, label, clock)?;
-    push_number(text, " (#", time)?;
-    push_text(text, ")")?;
-    Ok(())
-}
 
 /// Adds what a section begins with: the assertion, its place, and when the attempt began and was
 /// decided.

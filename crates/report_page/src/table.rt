@@ -1,18 +1,16 @@
 //! The table of assertions.
 
 ghost use Rattle.std.specs.Prelude.{◌≡◌, ◌++◌, List, OnOk, string_bytes, codes, slice_get};
-ghost use Rattle.verdicts.specs.Lines.{line};
+ghost use Rattle.report_lines.specs.Lines.{line};
 ghost use Rattle.report_forms.specs.Grown.{Grows};
 ghost use Rattle.report_forms.specs.Outcomes.{has_failed, is_untried};
 ghost use Rattle.report_forms.specs.Provenances.{provenance_of};
 ghost use Rattle.report_page.specs.PageForm.{class_text, name_text, counts_text, first_text};
 ghost use Rattle.report_page.specs.PageForm.{row_text};
 
-use crate::picture::push_clock;
-use crate::pieces::{push_number, push_text};
-use report_forms::{Provenance, push_escaped};
+use report_forms::{Provenance, push_clock, push_escaped, push_number, push_text};
+use report_lines::{Counts, Failure, Line};
 use std::alloc::AllocError;
-use verdicts::{Counts, Failure, Line};
 
 /// The class of a row: whether the assertion failed, was never tried, or else held.
 fn class_of(of: &Line) -> &'static str

@@ -2,7 +2,7 @@
 
 use crate::canvas::{Anchor, push_box, push_label};
 use crate::grid::{Grid, ROW, cell_text};
-use explaining::SheetRow;
+use report_explained::SheetRow;
 use std::alloc::{AllocError, Global};
 use std::fmt::Write;
 

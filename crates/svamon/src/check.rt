@@ -4,20 +4,21 @@ ghost use Rattle.std.specs.Prelude.{IfOk};
 ghost use Rattle.vcd_reader.specs.Dump.{Contents};
 ghost use Rattle.vcd_reader.specs.Held.{HoldsContents};
 
-use crate::refused::{is_told_unjudged, paths_with, refused_of};
-use crate::team::{TeamFront, read_team, status_with};
+use crate::refused::{paths_with, print_refusals, refused_of};
+use crate::statuses::{report_moved_status, report_rest_status};
 use cli::{Fault, NoGate, PagedReport, Paths, page_over, report_over};
-use cli_lint::{Rest, rest_over};
 use cli_shell::{
-    FormFiles, Provenance, Refused, Sources, chosen_sources, moved_fault, open, print_report,
-    read_chosen, read_labelled, shown_status, told_paths, write_bytes,
+    FormFiles, Provenance, REFUSED_STATUS, Refused, Sources, StandardError, open, print_report,
+    read_chosen, read_labelled, status_of_totals, told_paths, write_bytes,
 };
+use cli_team::{TeamCase, open_team, status_with};
 use cli_words::TeamFiles;
 use cycle_window::WindowSize;
+use lint::{Rest, rest_over};
 use signals::Counted;
-use source_files::{Added, Origin};
+use source_files::Origin;
 use std::fs::Files;
-use std::io::{Cursor, Eprint, Print, Read};
+use std::io::{Print, Read};
 use std::sync::Wait;
 use std::thread::Threads;
 use vcd_reader::{Dump, read_dump_by};
@@ -75,7 +76,7 @@ const SHOWN: u64 = 3;
 
 /// The report on a text over a dump in memory; the page is made where it is asked for, and names
 /// what is refused of the text.
-fn paged_over<'a, R: Files + AllocGlobal + Threads + Wait + Sync>(
+fn make_paged_report<'a, R: Files + AllocGlobal + Threads + Wait + Sync>(
     rt: &R,
     dump: Dump,
     text: &'a str,
@@ -124,18 +125,18 @@ fn write_page<R: Files + AllocGlobal>(
 }
 
 /// Judges a text over a dump in memory by a team; the report goes to files in other forms, with
-/// what was refused of the text before, and to standard output.
-fn judge_over<'a, R: Files + Print + AllocGlobal + Threads + Wait + Sync>(
+/// what was refused of the text before, and to standard output. The answer is the status.
+fn judge_dump<'a, R: Files + Print + AllocGlobal + Threads + Wait + Sync>(
     rt: &R,
     dump: Dump,
     text: &'a str,
     origin: &Origin<'_>,
     asked: &Asked<'_>,
     refused: &[Refused<'_>],
-) -> Result<[u64; 5], Fault<'a>>
+) -> Result<u8, Fault<'a>>
     requires held { (c : Contents) × HoldsContents dump c }
 {
-    let made = paged_over(rt, dump, text, origin, asked, refused)?;
+    let made = make_paged_report(rt, dump, text, origin, asked, refused)?;
     let paths = told_paths(rt.alloc(), asked.files_of_text(), asked.axi)?;
     let from = Provenance {
         dump: asked.vcd,
@@ -143,7 +144,8 @@ fn judge_over<'a, R: Files + Print + AllocGlobal + Threads + Wait + Sync>(
         times: made.timed.times.as_slice(),
     };
     write_page(rt, asked.html, made.page.as_slice())?;
-    print_report(rt, &asked.files, &from, refused, &made.timed.report)
+    let totals = print_report(rt, &asked.files, &from, refused, &made.timed.report);
+    status_of_totals(totals)
 }
 
 /// Reads a dump by as many threads at most as the team has workers. Windows and workers out of
@@ -160,16 +162,16 @@ fn read_by_team<R: AllocGlobal + Threads, D: Read + Drop>(
     Ok(read)
 }
 
-/// Reads a dump, and judges a text over it, as [`judge_over`] does.
-fn judge_into_forms<'a, R: Files + Print + AllocGlobal + Threads + Wait + Sync, D: Read + Drop>(
+/// Reads a dump, and judges a text over it, as [`judge_dump`] does.
+fn read_and_judge<'a, R: Files + Print + AllocGlobal + Threads + Wait + Sync, D: Read + Drop>(
     rt: &R,
     dump: D,
     text: &'a str,
     origin: &Origin<'_>,
     asked: &Asked<'_>,
-) -> Result<[u64; 5], Fault<'a>> {
+) -> Result<u8, Fault<'a>> {
     let dump = read_by_team(rt, dump, asked.team)?;
-    judge_over(rt, dump, text, origin, asked, &[])
+    judge_dump(rt, dump, text, origin, asked, &[])
 }
 
 /// Judges what is left of a text over a dump in memory.
@@ -180,168 +182,105 @@ fn judge_rest<'a, R: Files + Print + AllocGlobal + Threads + Wait + Sync>(
     rest: &Rest,
     origin: &Origin<'_>,
     asked: &Asked<'_>,
-) -> Result<[u64; 5], Fault<'a>>
+) -> Result<u8, Fault<'a>>
     requires held { (c : Contents) × HoldsContents dump c }
 {
     let refused = refused_of(rt.alloc(), rest)?;
-    judge_over(rt, dump, text, origin, asked, refused.as_slice())
+    judge_dump(rt, dump, text, origin, asked, refused.as_slice())
 }
 
-/// The status of an outcome; the line of a fault goes to standard error, with the byte that it has
-/// in the files.
-pub(crate) fn shown<R: Eprint + AllocGlobal>(
-    rt: &R,
-    added: &[Added],
-    outcome: Result<[u64; 5], Fault<'_>>,
-) -> u8 {
-    match outcome {
-        Ok(totals) => shown_status(rt, Ok(totals)),
-        Err(fault) => shown_status(rt, Err(moved_fault(added, fault))),
-    }
-}
-
-/// The status where some items were refused, which were told, and the rest was judged. That no
-/// assertion was left is not told: all that were there were refused.
-pub(crate) fn shown_after_refusals<R: Eprint + AllocGlobal>(
-    rt: &R,
-    added: &[Added],
-    outcome: Result<[u64; 5], Fault<'_>>,
-) -> u8 {
-    match outcome {
-        Ok(_) | Err(Fault::Parse(_)) => 2,
-        Err(fault) => shown_status(rt, Err(moved_fault(added, fault))),
-    }
-}
-
-/// Judges what is left of a text over a dump in memory, and answers the status.
-fn serve_rest<R: Files + Print + Eprint + AllocGlobal + Threads + Wait + Sync>(
+/// Judges what is left of a text over a dump in memory, and answers the status; the line of a fault
+/// goes to standard error.
+fn check_rest<R: Files + Print + StandardError + AllocGlobal + Threads + Wait + Sync>(
     rt: &R,
     dump: Dump,
+    text: &str,
     rest: &Rest,
     origin: &Origin<'_>,
     asked: &Asked<'_>,
 ) -> u8
     requires held { (c : Contents) × HoldsContents dump c }
 {
-    let Some(text) = &rest.text else {
-        return 2;
-    };
-    let added = origin.added;
-    let outcome = judge_rest(rt, dump, text.as_str(), rest, origin, asked);
-    if rest.refused == 0 {
-        return shown(rt, added, outcome);
-    }
-    shown_after_refusals(rt, added, outcome)
+    let outcome = judge_rest(rt, dump, text, rest, origin, asked);
+    report_rest_status(rt, rest, origin.added, outcome)
 }
 
 /// Tells all that is refused of a text over a dump in memory, and judges the rest: status 2 where
 /// something was refused.
-fn serve_going<R: Files + Print + Eprint + AllocGlobal + Threads + Wait + Sync>(
+fn check_keep_going<R: Files + Print + StandardError + AllocGlobal + Threads + Wait + Sync>(
     rt: &R,
     dump: Dump,
     sources: &Sources,
     asked: &Asked<'_>,
-) -> u8
+) -> Result<u8, Fault<'static>>
     requires held { (c : Contents) × HoldsContents dump c }
 {
-    let origin = Origin {
-        parts: sources.parts.as_slice(),
-        added: sources.added.as_slice(),
+    let origin = sources.origin();
+    let rest = rest_over(rt.alloc(), &dump, sources.text.as_str(), &origin)?;
+    let Some(text) = print_refusals(rt, sources.text.as_str(), &rest) else {
+        return Ok(REFUSED_STATUS);
     };
-    match rest_over(rt.alloc(), &dump, sources.text.as_str(), &origin) {
-        Ok(rest) => {
-            if is_told_unjudged(rt, sources.text.as_str(), &rest) {
-                return 2;
-            }
-            serve_rest(rt, dump, &rest, &origin, asked)
-        }
-        Err(_) => shown_status(rt, Err(Fault::Memory)),
-    }
+    Ok(check_rest(rt, dump, text, &rest, &origin, asked))
 }
 
-/// Judges a text over a dump, and answers the status.
-fn serve_whole<R: Files + Print + Eprint + AllocGlobal + Threads + Wait + Sync, D: Read + Drop>(
-    rt: &R,
-    dump: D,
-    sources: &Sources,
-    asked: &Asked<'_>,
-) -> u8 {
-    let text = sources.text.as_str();
-    let origin = Origin {
-        parts: sources.parts.as_slice(),
-        added: sources.added.as_slice(),
-    };
-    let outcome = judge_into_forms(rt, dump, text, &origin, asked);
-    shown(rt, origin.added, outcome)
+/// Judges a text over a dump, and answers the status; the line of a fault goes to standard error.
+fn check_whole<
+    R: Files + Print + StandardError + AllocGlobal + Threads + Wait + Sync,
+    D: Read + Drop,
+>(rt: &R, dump: D, sources: &Sources, asked: &Asked<'_>) -> u8 {
+    let origin = sources.origin();
+    let outcome = read_and_judge(rt, dump, sources.text.as_str(), &origin, asked);
+    report_moved_status(rt, origin.added, outcome)
 }
 
 /// Judges a text over a dump, or what is left of it where what is refused is to be told and left
 /// out.
-fn serve_sources<R: Files + Print + Eprint + AllocGlobal + Threads + Wait + Sync, D: Read + Drop>(
-    rt: &R,
-    dump: D,
-    sources: &Sources,
-    asked: &Asked<'_>,
-) -> u8 {
+fn check_sources<
+    R: Files + Print + StandardError + AllocGlobal + Threads + Wait + Sync,
+    D: Read + Drop,
+>(rt: &R, dump: D, sources: &Sources, asked: &Asked<'_>) -> Result<u8, Fault<'static>> {
     if !asked.keep_going {
-        return serve_whole(rt, dump, sources, asked);
+        return Ok(check_whole(rt, dump, sources, asked));
     }
-    match read_by_team(rt, dump, asked.team) {
-        Ok(dump) => serve_going(rt, dump, sources, asked),
-        Err(fault) => shown_status(rt, Err(fault)),
-    }
+    let dump = read_by_team(rt, dump, asked.team)?;
+    check_keep_going(rt, dump, sources, asked)
 }
 
 /// Judges what is written of a team's files over a dump: status 2 where an assertion is refused,
 /// here or where it is compiled.
-fn serve_team<R: Files + Print + Eprint + AllocGlobal + Threads + Wait + Sync, D: Read + Drop>(
+fn check_team<R: Files + Print + StandardError + AllocGlobal + Threads + Wait + Sync>(
     rt: &R,
-    mut dump: D,
     asked: &Asked<'_>,
-) -> u8 {
-    let front = match read_team(rt, &mut dump, asked.team_files) {
-        Ok(front) => front,
-        Err(fault) => return shown_status(rt, Err(fault)),
+) -> Result<u8, Fault<'static>> {
+    let Some(case) = open_team(rt, asked.vcd, asked.team_files, asked.only)? else {
+        return Ok(REFUSED_STATUS);
     };
-    let TeamFront {
-        head,
+    let TeamCase {
+        dump,
         sources,
         is_whole,
-    } = front;
-    let Some(sources) = sources else {
-        return 2;
-    };
-    let sources = match chosen_sources(rt.alloc(), sources, asked.only) {
-        Ok(sources) => sources,
-        Err(fault) => return shown_status(rt, Err(fault)),
-    };
-    let dump = Cursor::new(head).chain(dump);
+    } = case;
     let asked = Asked {
         keep_going: true,
         ..*asked
     };
-    status_with(is_whole, serve_sources(rt, dump, &sources, &asked))
+    let status = check_sources(rt, dump, &sources, &asked)?;
+    Ok(status_with(is_whole, status))
 }
 
 /// Opens the dump, then reads the text or a team's files, and judges it.
-pub fn serve_check<R: Files + Print + Eprint + AllocGlobal + Threads + Wait + Sync>(
+pub fn serve_check<R: Files + Print + StandardError + AllocGlobal + Threads + Wait + Sync>(
     rt: &R,
     asked: &Asked<'_>,
-) -> u8 {
-    let dump = match open(rt, asked.vcd) {
-        Ok(dump) => dump,
-        Err(fault) => return shown_status(rt, Err(fault)),
-    };
+) -> Result<u8, Fault<'static>> {
     if !asked.team_files.files.is_empty() {
-        return serve_team(rt, dump, asked);
+        return check_team(rt, asked);
     }
-    let read = if asked.keep_going {
-        read_labelled(rt, asked.sva, asked.axi, asked.only)
+    let dump = open(rt, asked.vcd)?;
+    let sources = if asked.keep_going {
+        read_labelled(rt, asked.sva, asked.axi, asked.only)?
     } else {
-        read_chosen(rt, asked.sva, asked.axi, asked.only)
+        read_chosen(rt, asked.sva, asked.axi, asked.only)?
     };
-    match read {
-        Ok(sources) => serve_sources(rt, dump, &sources, asked),
-        Err(fault) => shown_status(rt, Err(fault)),
-    }
+    check_sources(rt, dump, &sources, asked)
 }

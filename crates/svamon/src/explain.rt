@@ -4,20 +4,21 @@ ghost use Rattle.std.specs.Prelude.{IfOk};
 ghost use Rattle.vcd_reader.specs.Dump.{Contents};
 ghost use Rattle.vcd_reader.specs.Held.{HoldsContents};
 
-use crate::check::{shown, shown_after_refusals};
-use crate::dump_front::header_in;
-use crate::refused::is_told_unjudged;
+use crate::refused::print_refusals;
+use crate::statuses::{report_moved_status, report_rest_status};
 use cli::{Fault, NoGate, ShownFailures, Wanted, Waveform, Waves, explain_one, failures_over};
-use cli_lint::{Rest, rest_over};
 use cli_shell::{
-    Sources, open, print_bytes, read_chosen, read_labelled, shown_lines, shown_status, write_bytes,
+    REFUSED_STATUS, Sources, StandardError, open, print_bytes, print_error_lines, read_chosen,
+    read_labelled, write_bytes,
 };
+use cli_team::header_in;
+use lint::{Rest, rest_over};
 use signals::Counted;
 use source_files::Origin;
 use std::alloc::{AllocError, Global};
 use std::fs::Files;
 use std::io;
-use std::io::{Eprint, Print, Read};
+use std::io::{Print, Read};
 use std::sync::Wait;
 use std::thread::Threads;
 use vcd_reader::{Dump, read_dump_and_bytes};
@@ -37,14 +38,6 @@ pub(crate) struct ExplainAsked<'a> {
 
 /// By how many workers a text is judged whose failures are explained.
 const WORKERS: u64 = 4;
-
-/// The files that a text was made of.
-fn origin_of(sources: &Sources) -> Origin<'_> {
-    Origin {
-        parts: sources.parts.as_slice(),
-        added: sources.added.as_slice(),
-    }
-}
 
 /// The size of the team.
 fn team_size() -> Result<TeamSize, Fault<'static>> {
@@ -69,7 +62,7 @@ fn explain_to_output<'a, R: Print + AllocGlobal + Threads + Wait + Sync, D: Read
         rt.alloc(),
         &mut dump,
         sources.text.as_str(),
-        &origin_of(sources),
+        &sources.origin(),
         wanted,
         team,
         &NoGate,
@@ -79,30 +72,30 @@ fn explain_to_output<'a, R: Print + AllocGlobal + Threads + Wait + Sync, D: Read
 
 /// A dump in memory, and what GTKWave calls its variables, which is told from its header.
 #[derive(Drop)]
-struct Shown {
+struct NamedDump {
     dump: Dump,
     waves: Waves,
 }
 
 /// Reads a dump, and what GTKWave calls its variables.
-fn read_shown<R: AllocGlobal + Threads, D: Read + Drop>(
+fn read_named_dump<R: AllocGlobal + Threads, D: Read + Drop>(
     rt: &R,
     dump: D,
-) -> Result<Shown, Fault<'static>>
+) -> Result<NamedDump, Fault<'static>>
     ensures { IfOk result (λ s. (c : Contents) × HoldsContents s.dump c) }
 {
     let threads = team_size()?.workers();
     let mut dump = Counted::new(dump);
     let (dump, bytes) = read_dump_and_bytes(rt, rt.alloc(), &mut dump, threads)?;
-    let waves = Waves::of(rt.alloc(), header_in(bytes.as_slice()))?;
-    Ok(Shown { dump, waves })
+    let waves = Waves::of(rt.alloc(), header_in(rt.alloc(), bytes.as_slice())?)?;
+    Ok(NamedDump { dump, waves })
 }
 
 /// Explains failed attempts of a text over a dump in memory; what GTKWave is to show goes to a
 /// file, if one is asked for, and then the text to standard output. The answer is how many.
-fn explain_shown<'a, R: Files + Print + AllocGlobal + Threads + Wait + Sync>(
+fn explain_dump<'a, R: Files + Print + AllocGlobal + Threads + Wait + Sync>(
     rt: &R,
-    read: Shown,
+    read: NamedDump,
     text: &'a str,
     origin: &Origin<'_>,
     asked: &ExplainAsked<'_>,
@@ -110,7 +103,7 @@ fn explain_shown<'a, R: Files + Print + AllocGlobal + Threads + Wait + Sync>(
     requires held { (c : Contents) × HoldsContents read.dump c }
 {
     let team = team_size()?;
-    let Shown { dump, waves } = read;
+    let NamedDump { dump, waves } = read;
     let failures = failures_in(rt, dump, &waves, text, origin, asked, team)?;
     if let Some(path) = asked.gtkw {
         write_bytes(rt, path, failures.save.as_slice())?;
@@ -148,15 +141,15 @@ fn failures_in<'a, R: AllocGlobal + Threads + Wait + Sync>(
     )
 }
 
-/// Reads a dump, and explains failed attempts over it, as [`explain_shown`] does.
+/// Reads a dump, and explains failed attempts over it, as [`explain_dump`] does.
 fn explain_to_file<'a, R: Files + Print + AllocGlobal + Threads + Wait + Sync, D: Read + Drop>(
     rt: &R,
     dump: D,
     sources: &'a Sources,
     asked: &ExplainAsked<'_>,
 ) -> Result<u64, Fault<'a>> {
-    let read = read_shown(rt, dump)?;
-    explain_shown(rt, read, sources.text.as_str(), &origin_of(sources), asked)
+    let read = read_named_dump(rt, dump)?;
+    explain_dump(rt, read, sources.text.as_str(), &sources.origin(), asked)
 }
 
 /// Adds the patterns by which assertions were chosen.
@@ -171,7 +164,7 @@ fn push_patterns(line: &mut String, only: &[String]) -> Result<(), AllocError> {
 }
 
 /// What was looked for where nothing was found.
-fn not_found(alloc: Global, asked: &ExplainAsked<'_>) -> Result<String, AllocError> {
+fn none_found(alloc: Global, asked: &ExplainAsked<'_>) -> Result<String, AllocError> {
     let mut line = String::from_str(alloc, "svamon: no attempt")?;
     push_patterns(&mut line, asked.only)?;
     if let Some(start) = asked.wanted.start {
@@ -182,118 +175,101 @@ fn not_found(alloc: Global, asked: &ExplainAsked<'_>) -> Result<String, AllocErr
     Ok(line)
 }
 
-/// Tells what was looked for where nothing was found.
-fn tell_count<R: Eprint + AllocGlobal>(rt: &R, asked: &ExplainAsked<'_>, count: u64) {
-    if count > 0 {
-        return;
-    }
-    if let Ok(line) = not_found(rt.alloc(), asked) {
-        shown_lines(rt, line.as_str());
+/// Prints what was looked for where nothing was found.
+fn print_none_found<R: StandardError + AllocGlobal>(rt: &R, asked: &ExplainAsked<'_>) {
+    if let Ok(line) = none_found(rt.alloc(), asked) {
+        print_error_lines(rt, line.as_str());
     }
 }
 
-/// The answer to so many explained attempts, as that of a report, of which the third number counts
-/// them. Where there is none, it is told what was looked for.
-fn totals_of<'a, R: Eprint + AllocGlobal>(
+/// The status of so many explained attempts: 1 where there is one, 0 where there is none, and what
+/// was looked for is printed then.
+fn report_count_status<'a, R: StandardError + AllocGlobal>(
     rt: &R,
     asked: &ExplainAsked<'_>,
     explained: Result<u64, Fault<'a>>,
-) -> Result<[u64; 5], Fault<'a>> {
-    let count = explained?;
-    tell_count(rt, asked, count);
-    Ok([0, 0, count, 0, 0])
+) -> Result<u8, Fault<'a>> {
+    if explained? > 0 {
+        return Ok(1);
+    }
+    print_none_found(rt, asked);
+    Ok(0)
 }
 
-/// Explains failed attempts of a text's assertions over a dump; the text goes to standard output.
-fn explain_text<
-    'a,
-    R: Files + Print + Eprint + AllocGlobal + Threads + Wait + Sync,
+/// Explains failed attempts of a text's assertions over a dump, and answers the status; the line of
+/// a fault goes to standard error.
+fn explain_whole<
+    R: Files + Print + StandardError + AllocGlobal + Threads + Wait + Sync,
     D: Read + Drop,
->(rt: &R, dump: D, sources: &'a Sources, asked: &ExplainAsked<'_>) -> Result<[u64; 5], Fault<'a>> {
+>(rt: &R, dump: D, sources: &Sources, asked: &ExplainAsked<'_>) -> u8 {
     let explained = match asked.gtkw {
         None => explain_to_output(rt, dump, sources, &asked.wanted),
         Some(_) => explain_to_file(rt, dump, sources, asked),
     };
-    totals_of(rt, asked, explained)
+    let outcome = report_count_status(rt, asked, explained);
+    report_moved_status(rt, sources.added.as_slice(), outcome)
 }
 
-/// Explains failures of what is left of a text over a dump in memory, and answers the status.
-fn explain_rest<R: Files + Print + Eprint + AllocGlobal + Threads + Wait + Sync>(
+/// Explains failures of what is left of a text over a dump in memory, and answers the status; the
+/// line of a fault goes to standard error.
+fn explain_rest<R: Files + Print + StandardError + AllocGlobal + Threads + Wait + Sync>(
     rt: &R,
-    dump: Shown,
+    dump: NamedDump,
+    text: &str,
     rest: &Rest,
     origin: &Origin<'_>,
     asked: &ExplainAsked<'_>,
 ) -> u8
     requires held { (c : Contents) × HoldsContents dump.dump c }
 {
-    let Some(text) = &rest.text else {
-        return 2;
-    };
-    let explained = explain_shown(rt, dump, text.as_str(), origin, asked);
-    let outcome = totals_of(rt, asked, explained);
-    if rest.refused == 0 {
-        return shown(rt, origin.added, outcome);
-    }
-    shown_after_refusals(rt, origin.added, outcome)
+    let explained = explain_dump(rt, dump, text, origin, asked);
+    let outcome = report_count_status(rt, asked, explained);
+    report_rest_status(rt, rest, origin.added, outcome)
 }
 
 /// Tells all that is refused of a text over a dump in memory, and explains failures of the rest:
 /// status 2 where something was refused.
-fn explain_going<R: Files + Print + Eprint + AllocGlobal + Threads + Wait + Sync>(
+fn explain_keep_going<R: Files + Print + StandardError + AllocGlobal + Threads + Wait + Sync>(
     rt: &R,
-    dump: Shown,
+    dump: NamedDump,
     sources: &Sources,
     asked: &ExplainAsked<'_>,
-) -> u8
+) -> Result<u8, Fault<'static>>
     requires held { (c : Contents) × HoldsContents dump.dump c }
 {
-    let origin = origin_of(sources);
-    match rest_over(rt.alloc(), &dump.dump, sources.text.as_str(), &origin) {
-        Ok(rest) => {
-            if is_told_unjudged(rt, sources.text.as_str(), &rest) {
-                return 2;
-            }
-            explain_rest(rt, dump, &rest, &origin, asked)
-        }
-        Err(_) => shown_status(rt, Err(Fault::Memory)),
-    }
+    let origin = sources.origin();
+    let rest = rest_over(rt.alloc(), &dump.dump, sources.text.as_str(), &origin)?;
+    let Some(text) = print_refusals(rt, sources.text.as_str(), &rest) else {
+        return Ok(REFUSED_STATUS);
+    };
+    Ok(explain_rest(rt, dump, text, &rest, &origin, asked))
 }
 
 /// Explains failures of a text over a dump, or of what is left of it where what is refused is to be
 /// told and left out, and answers the status: 1 where one was explained, 0 where none was.
 pub(crate) fn explain_sources<
-    R: Files + Print + Eprint + AllocGlobal + Threads + Wait + Sync,
+    R: Files + Print + StandardError + AllocGlobal + Threads + Wait + Sync,
     D: Read + Drop,
->(rt: &R, dump: D, sources: &Sources, asked: &ExplainAsked<'_>) -> u8 {
+>(rt: &R, dump: D, sources: &Sources, asked: &ExplainAsked<'_>) -> Result<u8, Fault<'static>> {
     if !asked.keep_going {
-        let added = sources.added.as_slice();
-        return shown(rt, added, explain_text(rt, dump, sources, asked));
+        return Ok(explain_whole(rt, dump, sources, asked));
     }
-    match read_shown(rt, dump) {
-        Ok(dump) => explain_going(rt, dump, sources, asked),
-        Err(fault) => shown_status(rt, Err(fault)),
-    }
+    let dump = read_named_dump(rt, dump)?;
+    explain_keep_going(rt, dump, sources, asked)
 }
 
 /// Opens the dump, then reads the text, and explains its failures.
-pub(crate) fn serve_explain<R: Files + Print + Eprint + AllocGlobal + Threads + Wait + Sync>(
+pub(crate) fn serve_explain<R: Files + Print + StandardError + AllocGlobal + Threads + Wait + Sync>(
     rt: &R,
     sva: &[String],
     axi: Option<&str>,
     asked: &ExplainAsked<'_>,
-) -> u8 {
-    let dump = match open(rt, asked.vcd) {
-        Ok(dump) => dump,
-        Err(fault) => return shown_status(rt, Err(fault)),
-    };
-    let read = if asked.keep_going {
-        read_labelled(rt, sva, axi, asked.only)
+) -> Result<u8, Fault<'static>> {
+    let dump = open(rt, asked.vcd)?;
+    let sources = if asked.keep_going {
+        read_labelled(rt, sva, axi, asked.only)?
     } else {
-        read_chosen(rt, sva, axi, asked.only)
+        read_chosen(rt, sva, axi, asked.only)?
     };
-    match read {
-        Ok(sources) => explain_sources(rt, dump, &sources, asked),
-        Err(fault) => shown_status(rt, Err(fault)),
-    }
+    explain_sources(rt, dump, &sources, asked)
 }

@@ -19,17 +19,17 @@
 //! svamon --version
 //! ```
 //!
-//! A report goes to standard output, a fault as one line to standard error, or two for a file: the
-//! second says why it can't be used. The status is 0 where no attempt failed, 1 where some did, 2
-//! for input or words that are refused, 3 for want of memory, and 4 for a file that can't be
-//! opened, read or written.
+//! A report goes to standard output, a fault as one line to standard error; at a terminal a second
+//! one says why a file can't be used. The status is 0 if no attempt failed, 1 if some did, 2 for
+//! input or words that are refused, 3 if memory ran out, and 4 for a file that can't be opened,
+//! read or written.
 //!
 //! It opens files (`cli_shell`) and hands over what is in them; what a command answers is said by
 //! the contracts of `vcd_reader` (`read_dump`, `read_dump_by`, `read_dump_and_bytes`), of `cli`
 //! (`check_over`, `report_over`, `page_over`, `judge_one`, `build_one`, `explain_one`,
 //! `failures_over`), of `report_page` (`page`), of `report_gtkwave` (`save_file`), of
 //! `report_forms` (`junit_report`, `json_report`), of `cli_bytecode` (`verify_code`, `run_code`,
-//! `upgrade_code`), of `cli_lint` (`lint_one`, `rest_over`), of `cli_names_command` (`names_one`),
+//! `upgrade_code`), of `lint` (`lint_one`, `rest_over`), of `cli_names` (`names_one`),
 //! of `import_files` (`imported`, `text_of`, `placed`, `status_of`), of `source_files` (`joined`,
 //! `chosen`) and of `axi4_rules` (`port_rules`, `read_ports`), whose definitions stand in their
 //! `specs/`.
@@ -41,15 +41,12 @@
 
 mod build;
 mod check;
-mod dump_front;
-mod dump_header;
 mod explain;
-mod import;
 mod large_stack;
 mod plain_check;
 mod refused;
 mod serve;
-mod team;
+mod statuses;
 mod team_commands;
 mod version;
 
@@ -59,6 +56,7 @@ ghost use Rattle.vcd_reader.specs.Held.{HoldsContents};
 use crate::large_stack::on_large_stack;
 use crate::plain_check::{judge_read, read_plain};
 use crate::serve::{read_request, serve};
+use cli_shell::report_status;
 use std::process::ExitCode;
 
 /// Reads what a plain check asks for here, and does all else on a large stack.
@@ -75,7 +73,7 @@ fn main(rt: HostRuntime) -> ExitCode {
             { judge_read(&rt, read) };
             on_large_stack(&rt, judged)
         }
-        Some(Err(status)) => status,
+        Some(Err(fault)) => report_status(&rt, Err(fault)),
     };
     ExitCode::from(status)
 }

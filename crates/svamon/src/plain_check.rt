@@ -8,15 +8,16 @@ ghost use Rattle.std.specs.Prelude.{IfOk, IfSome};
 ghost use Rattle.vcd_reader.specs.Dump.{Contents};
 ghost use Rattle.vcd_reader.specs.Held.{HoldsContents};
 
-use crate::check::{Team, shown};
-use crate::serve::path_of;
+use crate::check::Team;
+use crate::serve::text_of;
+use crate::statuses::report_moved_status;
 use cli::{Fault, NoGate, Request, check_over};
-use cli_shell::{FormFiles, Sources, open, read_chosen, shown_status};
+use cli_shell::{FormFiles, Sources, StandardError, open, read_chosen, status_of_totals};
 use cycle_window::WindowSize;
 use signals::Counted;
 use std::fs::Files;
 use std::io;
-use std::io::{Eprint, Print};
+use std::io::Print;
 use std::sync::Wait;
 use std::thread::Threads;
 use vcd_reader::{Dump, read_dump_by};
@@ -33,7 +34,7 @@ pub struct ReadCheck {
 
 /// Opens the dump, then reads the text; windows and workers out of their range are refused after
 /// that, and then the dump is read.
-fn read_all_of<R: Files + AllocGlobal + Threads>(
+fn read_check<R: Files + AllocGlobal + Threads>(
     rt: &R,
     vcd: &str,
     sva: &[String],
@@ -55,12 +56,11 @@ fn read_all_of<R: Files + AllocGlobal + Threads>(
     })
 }
 
-/// Reads what a plain check asks for, or answers the status where that is refused; none where the
-/// words ask for something else.
-pub fn read_plain<R: Files + Eprint + AllocGlobal + Threads>(
+/// Reads what a plain check asks for; none where the words ask for something else.
+pub fn read_plain<R: Files + AllocGlobal + Threads>(
     rt: &R,
     request: &Request,
-) -> Option<Result<ReadCheck, u8>>
+) -> Option<Result<ReadCheck, Fault<'static>>>
     ensures { IfSome result (λ r. IfOk r (λ read. (c : Contents) × HoldsContents read.dump c)) }
 {
     let Request::Check {
@@ -80,8 +80,8 @@ pub fn read_plain<R: Files + Eprint + AllocGlobal + Threads>(
         return None;
     };
     let files = FormFiles {
-        junit: path_of(junit),
-        json: path_of(json),
+        junit: text_of(junit),
+        json: text_of(json),
     };
     if !files.is_empty() || !team_files.files.is_empty() {
         return None;
@@ -90,29 +90,29 @@ pub fn read_plain<R: Files + Eprint + AllocGlobal + Threads>(
         workers: *workers,
         window: *window,
     };
-    let (vcd, axi) = (vcd.as_str(), path_of(axi));
-    match read_all_of(rt, vcd, sva.as_slice(), axi, only.as_slice(), team) {
-        Ok(read) => Some(Ok(read)),
-        Err(fault) => Some(Err(shown_status(rt, Err(fault)))),
-    }
+    let (vcd, axi) = (vcd.as_str(), text_of(axi));
+    let read = read_check(rt, vcd, sva.as_slice(), axi, only.as_slice(), team);
+    Some(read)
 }
 
-/// Judges a text over a dump in memory; the report goes to standard output.
+/// Judges a text over a dump in memory; the report goes to standard output. The answer is the
+/// status.
 fn judge_dump<'a, R: Print + AllocGlobal + Threads + Wait + Sync>(
     rt: &R,
     dump: Dump,
     text: &'a str,
     team: TeamSize,
     size: WindowSize,
-) -> Result<[u64; 5], Fault<'a>>
+) -> Result<u8, Fault<'a>>
     requires held { (c : Contents) × HoldsContents dump c }
 {
     let mut out = Counted::new(io::writer(rt));
-    check_over(rt, rt.alloc(), dump, text, team, size, &NoGate, &mut out)
+    let totals = check_over(rt, rt.alloc(), dump, text, team, size, &NoGate, &mut out);
+    status_of_totals(totals)
 }
 
-/// Judges what was read, and answers the status.
-pub fn judge_read<R: Print + Eprint + AllocGlobal + Threads + Wait + Sync>(
+/// Judges what was read, and answers the status; the line of a fault goes to standard error.
+pub fn judge_read<R: Print + StandardError + AllocGlobal + Threads + Wait + Sync>(
     rt: &R,
     read: ReadCheck,
 ) -> u8
@@ -125,5 +125,5 @@ pub fn judge_read<R: Print + Eprint + AllocGlobal + Threads + Wait + Sync>(
         size,
     } = read;
     let outcome = judge_dump(rt, dump, sources.text.as_str(), team, size);
-    shown(rt, sources.added.as_slice(), outcome)
+    report_moved_status(rt, sources.added.as_slice(), outcome)
 }

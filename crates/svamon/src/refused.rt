@@ -1,9 +1,9 @@
 //! What is refused of a text, item by item, for reports in other forms.
 
-use cli_lint::{Rest, why_not_judged};
-use cli_shell::{Refused, shown_lines};
+use crate::serve::text_of;
+use cli_shell::{Refused, StandardError, print_error_lines};
+use lint::{Rest, why_not_judged};
 use std::alloc::{AllocError, Global};
-use std::io::Eprint;
 
 /// How many lines tell of each: where it stands and why, that line of the text, and a caret.
 const LINES: usize = 3;
@@ -44,18 +44,24 @@ fn why_unjudged(whole: &str, rest: &Rest) -> Option<&'static str> {
     }
 }
 
-/// Tells what is refused of a text, and whether the rest is not to be judged, and why.
-pub(crate) fn is_told_unjudged<R: Eprint>(rt: &R, whole: &str, rest: &Rest) -> bool {
+/// Prints what is refused of a text; the answer is what is left of it, or none where that is not
+/// judged, and why is printed then.
+pub(crate) fn print_refusals<'a, R: StandardError>(
+    rt: &R,
+    whole: &str,
+    rest: &'a Rest,
+) -> Option<&'a str> {
+    let left = text_of(&rest.text);
     if rest.refused == 0 {
-        return false;
+        return left;
     }
-    shown_lines(rt, rest.told.as_str());
+    print_error_lines(rt, rest.told.as_str());
     match why_unjudged(whole, rest) {
-        None => false,
+        None => left,
         Some(why) => {
-            shown_lines(rt, why);
-            shown_lines(rt, "\n");
-            true
+            print_error_lines(rt, why);
+            print_error_lines(rt, "\n");
+            None
         }
     }
 }

@@ -1,57 +1,54 @@
 //! The commands, from the words of the command line to the answer.
 
 use crate::check::{Asked, Team, serve_check};
-use crate::dump_front::{header_in, read_front};
 use crate::explain::{ExplainAsked, serve_explain};
-use crate::import::serve_import;
 use crate::team_commands::{serve_team_explain, serve_team_lint};
-use crate::version::shown_version_and_build;
+use crate::version::print_version_and_build_if_asked;
 use axi4_rules::{Case, Port, PortFault, read_ports};
 use cli::{Fault, NoGate, Request, Wanted, build_one, judge_one};
 use cli_bytecode::{run_code, upgrade_code, verify_code};
-use cli_lint::{LintFault, PortSaid, Selects, lint_one};
-use cli_names_command::{Filter, NamesFault, names_one};
+use cli_names::{Filter, NamesFault, names_one};
 use cli_shell::{
-    FormFiles, Sources, clash_of, open, print_rules, read_bytes, read_sources, refuse_words,
-    request_of, shown_lines, shown_status, words_of, write_bytes,
+    FormFiles, REFUSED_STATUS, Sources, StandardError, clash_of, open, print_error_lines,
+    print_rules, read_bytes, read_sources, refuse_words, report_status, request_of,
+    status_of_totals, words_of, write_bytes,
 };
+use cli_team::{read_dump_front, serve_import};
+use lint::{LintFault, PortSaid, Selects, lint_one};
 use signals::Counted;
-use source_files::Origin;
 use std::alloc::{AllocError, Global};
 use std::env::Env;
 use std::fs::Files;
 use std::io;
-use std::io::{Eprint, Print, Read};
+use std::io::{Print, Read};
 use std::sync::Wait;
 use std::thread::Threads;
 
-/// Judges a text over a dump by the slow judge; the report goes to standard output.
+/// Judges a text over a dump by the slow judge; the report goes to standard output. The answer is
+/// the status.
 fn judge_text<'a, R: Files + Print + AllocGlobal>(
     rt: &R,
     dump: R::File,
     text: &'a str,
-) -> Result<[u64; 5], Fault<'a>> {
+) -> Result<u8, Fault<'a>> {
     let mut dump = Counted::new(dump);
     let mut out = Counted::new(io::writer(rt));
-    judge_one(rt.alloc(), &mut dump, text, &mut out)
+    let totals = judge_one(rt.alloc(), &mut dump, text, &mut out);
+    status_of_totals(totals)
 }
 
-/// Opens the dump, then reads the text, and judges it by the slow judge.
-fn serve_judge<R: Files + Print + Eprint + AllocGlobal>(
+/// Opens the dump, then reads the text, and judges it by the slow judge. The line of a fault of the
+/// text goes to standard error.
+fn serve_judge<R: Files + Print + StandardError + AllocGlobal>(
     rt: &R,
     vcd: &str,
     sva: &[String],
     axi: Option<&str>,
-) -> u8 {
-    let dump = match open(rt, vcd) {
-        Ok(dump) => dump,
-        Err(fault) => return shown_status(rt, Err(fault)),
-    };
-    let sources = match read_sources(rt, sva, axi) {
-        Ok(sources) => sources,
-        Err(fault) => return shown_status(rt, Err(fault)),
-    };
-    shown_status(rt, judge_text(rt, dump, sources.text.as_str()))
+) -> Result<u8, Fault<'static>> {
+    let dump = open(rt, vcd)?;
+    let sources = read_sources(rt, sva, axi)?;
+    let outcome = judge_text(rt, dump, sources.text.as_str());
+    Ok(report_status(rt, outcome))
 }
 
 /// Why nothing is told of a text, as a fault of a command.
@@ -93,9 +90,9 @@ fn ports_of(alloc: Global, text: &Option<String>) -> Result<Vec<PortSaid>, Alloc
     }
 }
 
-/// Tells all refusals of a text over a dump, and notes; they go to standard output. The answer is
-/// how many refusals there are.
-fn lint_text<R: Files + Print + AllocGlobal, D: Read + Drop>(
+/// Prints all refusals of a text over a dump, and notes, to standard output. The answer is how many
+/// refusals there are.
+fn print_lint<R: Files + Print + AllocGlobal, D: Read + Drop>(
     rt: &R,
     dump: D,
     sources: &Sources,
@@ -104,16 +101,11 @@ fn lint_text<R: Files + Print + AllocGlobal, D: Read + Drop>(
     let mut dump = Counted::new(dump);
     let mut out = Counted::new(io::writer(rt));
     let ports = ports_of(rt.alloc(), &sources.ports)?;
-    let text = sources.text.as_str();
-    let origin = Origin {
-        parts: sources.parts.as_slice(),
-        added: sources.added.as_slice(),
-    };
     lint_one(
         rt.alloc(),
         &mut dump,
-        text,
-        &origin,
+        sources.text.as_str(),
+        &sources.origin(),
         ports.as_slice(),
         selects,
         &mut out,
@@ -122,36 +114,30 @@ fn lint_text<R: Files + Print + AllocGlobal, D: Read + Drop>(
 
 /// Tells all refusals of a text over a dump, and notes, and answers the status: 2 where one was
 /// refused, 0 where none was.
-pub(crate) fn lint_status<R: Files + Print + Eprint + AllocGlobal, D: Read + Drop>(
+pub(crate) fn lint_sources<R: Files + Print + AllocGlobal, D: Read + Drop>(
     rt: &R,
     dump: D,
     sources: &Sources,
     selects: Selects,
-) -> u8 {
-    match lint_text(rt, dump, sources, selects) {
-        Ok(0) => 0,
-        Ok(_) => 2,
-        Err(fault) => shown_status(rt, Err(lint_fault(fault))),
+) -> Result<u8, Fault<'static>> {
+    match print_lint(rt, dump, sources, selects) {
+        Ok(0) => Ok(0),
+        Ok(_) => Ok(REFUSED_STATUS),
+        Err(fault) => Err(lint_fault(fault)),
     }
 }
 
 /// Opens the dump, then reads the text, and tells its refusals: status 2 where one was told, 0
 /// where none was.
-fn serve_lint<R: Files + Print + Eprint + AllocGlobal>(
+fn serve_lint<R: Files + Print + AllocGlobal>(
     rt: &R,
     vcd: &str,
     sva: &[String],
     axi: Option<&str>,
-) -> u8 {
-    let dump = match open(rt, vcd) {
-        Ok(dump) => dump,
-        Err(fault) => return shown_status(rt, Err(fault)),
-    };
-    let sources = match read_sources(rt, sva, axi) {
-        Ok(sources) => sources,
-        Err(fault) => return shown_status(rt, Err(fault)),
-    };
-    lint_status(rt, dump, &sources, Selects::Written)
+) -> Result<u8, Fault<'static>> {
+    let dump = open(rt, vcd)?;
+    let sources = read_sources(rt, sva, axi)?;
+    lint_sources(rt, dump, &sources, Selects::Written)
 }
 
 /// Why the names of a dump are not told, as a fault of a command.
@@ -163,15 +149,15 @@ fn names_fault(fault: NamesFault) -> Fault<'static> {
     }
 }
 
-/// Tells the variables of a dump, of which its front alone is read; they go to standard output. The
-/// answer is how many.
-fn tell_names<R: Files + Print + AllocGlobal>(
+/// Prints the variables of a dump, of which its front alone is read, to standard output. The answer
+/// is how many.
+fn print_names<R: Files + Print + AllocGlobal>(
     rt: &R,
     mut dump: R::File,
     filter: &Filter<'_>,
 ) -> Result<u64, Fault<'static>> {
-    let front = read_front(rt.alloc(), &mut dump)?;
-    let mut header = Counted::new(header_in(front.as_slice()));
+    let front = read_dump_front(rt.alloc(), &mut dump)?;
+    let mut header = Counted::new(front.header());
     let mut out = Counted::new(io::writer(rt));
     match names_one(rt.alloc(), &mut header, filter, &mut out) {
         Ok(count) => Ok(count),
@@ -180,113 +166,87 @@ fn tell_names<R: Files + Print + AllocGlobal>(
 }
 
 /// Opens the dump, and tells its variables: status 0 where one was told, 1 where none was.
-fn serve_names<R: Files + Print + Eprint + AllocGlobal>(
+fn serve_names<R: Files + Print + AllocGlobal>(
     rt: &R,
     vcd: &str,
     filter: &Filter<'_>,
-) -> u8 {
-    let dump = match open(rt, vcd) {
-        Ok(dump) => dump,
-        Err(fault) => return shown_status(rt, Err(fault)),
-    };
-    match tell_names(rt, dump, filter) {
-        Ok(0) => 1,
-        Ok(_) => 0,
-        Err(fault) => shown_status(rt, Err(fault)),
-    }
+) -> Result<u8, Fault<'static>> {
+    let dump = open(rt, vcd)?;
+    let count = print_names(rt, dump, filter)?;
+    Ok(if count == 0 { 1 } else { 0 })
 }
 
-/// Compiles an assertion of a text over a dump, and makes a file of its program.
+/// Compiles an assertion of a text over a dump, and makes a file of its program. The answer is the
+/// status: 0.
 fn build_text<'a, R: Files + AllocGlobal>(
     rt: &R,
     dump: R::File,
     text: &'a str,
     name: &str,
     out: &str,
-) -> Result<(), Fault<'a>> {
+) -> Result<u8, Fault<'a>> {
     let mut dump = Counted::new(dump);
     let bytes = build_one(rt.alloc(), &mut dump, text, name)?;
-    write_bytes(rt, out, bytes.as_slice())
+    write_bytes(rt, out, bytes.as_slice())?;
+    Ok(0)
 }
 
 /// Opens the dump, then reads the text, compiles its assertion of a name, and answers the status: 0
-/// where the file of the program was made.
-fn serve_build<R: Files + Eprint + AllocGlobal>(
+/// where the file of the program was made. The line of a fault of the text goes to standard error.
+fn serve_build<R: Files + StandardError + AllocGlobal>(
     rt: &R,
     vcd: &str,
     sva: &[String],
     axi: Option<&str>,
     name: &str,
     out: &str,
-) -> u8 {
-    let dump = match open(rt, vcd) {
-        Ok(dump) => dump,
-        Err(fault) => return shown_status(rt, Err(fault)),
-    };
-    let sources = match read_sources(rt, sva, axi) {
-        Ok(sources) => sources,
-        Err(fault) => return shown_status(rt, Err(fault)),
-    };
-    match build_text(rt, dump, sources.text.as_str(), name, out) {
-        Ok(()) => 0,
-        Err(fault) => shown_status(rt, Err(fault)),
-    }
+) -> Result<u8, Fault<'static>> {
+    let dump = open(rt, vcd)?;
+    let sources = read_sources(rt, sva, axi)?;
+    let outcome = build_text(rt, dump, sources.text.as_str(), name, out);
+    Ok(report_status(rt, outcome))
 }
 
 /// Prints the rules of ports, and answers the status: 0 where they were printed.
-fn serve_rules<R: Files + Print + Eprint + AllocGlobal>(rt: &R, axi: &str) -> u8 {
-    match print_rules(rt, axi) {
-        Ok(()) => 0,
-        Err(fault) => shown_status(rt, Err(fault)),
-    }
+fn serve_rules<R: Files + Print + AllocGlobal>(rt: &R, axi: &str) -> Result<u8, Fault<'static>> {
+    print_rules(rt, axi)?;
+    Ok(0)
 }
 
-/// Verifies the program in a file; the line of its limits goes to standard output.
-fn verify_file<R: Files + Print + AllocGlobal>(rt: &R, path: &str) -> Result<(), Fault<'static>> {
+/// Verifies the program in a file, and answers the status: 0 where it may run. The line of its
+/// limits goes to standard output.
+fn serve_verify<R: Files + Print + AllocGlobal>(rt: &R, path: &str) -> Result<u8, Fault<'static>> {
     let bytes = read_bytes(rt, path)?;
     let mut out = Counted::new(io::writer(rt));
-    verify_code(rt.alloc(), bytes.as_slice(), &mut out)
+    verify_code(rt.alloc(), bytes.as_slice(), &mut out)?;
+    Ok(0)
 }
 
-/// Verifies the program in a file, and answers the status: 0 where it may run.
-fn serve_code<R: Files + Print + Eprint + AllocGlobal>(rt: &R, path: &str) -> u8 {
-    match verify_file(rt, path) {
-        Ok(()) => 0,
-        Err(fault) => shown_status(rt, Err(fault)),
-    }
-}
-
-/// Makes a file of the program in another file, in version 2 of the bytecode.
-fn upgrade_file<R: Files + AllocGlobal>(
+/// Makes a file of the program in another file, in version 2 of the bytecode, and answers the
+/// status: 0 where it was made.
+fn serve_upgrade<R: Files + AllocGlobal>(
     rt: &R,
     path: &str,
     out: &str,
-) -> Result<(), Fault<'static>> {
+) -> Result<u8, Fault<'static>> {
     let bytes = read_bytes(rt, path)?;
     let upgraded = upgrade_code(rt.alloc(), bytes.as_slice())?;
-    write_bytes(rt, out, upgraded.as_slice())
+    write_bytes(rt, out, upgraded.as_slice())?;
+    Ok(0)
 }
 
-/// Writes a program anew in version 2 of the bytecode, and answers the status: 0 where the file was
-/// made.
-fn serve_upgrade<R: Files + Eprint + AllocGlobal>(rt: &R, path: &str, out: &str) -> u8 {
-    match upgrade_file(rt, path, out) {
-        Ok(()) => 0,
-        Err(fault) => shown_status(rt, Err(fault)),
-    }
-}
-
-/// Runs a program over a dump by a team; the report goes to standard output.
+/// Runs a program over a dump by a team; the report goes to standard output. The answer is the
+/// status.
 fn run_bytes<R: Files + Print + AllocGlobal + Threads + Wait + Sync>(
     rt: &R,
     dump: R::File,
     code: &[u8],
     team: Team,
-) -> Result<[u64; 5], Fault<'static>> {
+) -> Result<u8, Fault<'static>> {
     let mut dump = Counted::new(dump);
     let mut out = Counted::new(io::writer(rt));
     let Team { workers, window } = team;
-    run_code(
+    let totals = run_code(
         rt,
         rt.alloc(),
         &mut dump,
@@ -295,34 +255,35 @@ fn run_bytes<R: Files + Print + AllocGlobal + Threads + Wait + Sync>(
         window,
         &NoGate,
         &mut out,
-    )
+    );
+    status_of_totals(totals)
 }
 
 /// Opens the dump, then reads the program, and runs it.
-fn run_file<R: Files + Print + AllocGlobal + Threads + Wait + Sync>(
+fn serve_run<R: Files + Print + AllocGlobal + Threads + Wait + Sync>(
     rt: &R,
     vcd: &str,
     code: &str,
     team: Team,
-) -> Result<[u64; 5], Fault<'static>> {
+) -> Result<u8, Fault<'static>> {
     let dump = open(rt, vcd)?;
     let bytes = read_bytes(rt, code)?;
     run_bytes(rt, dump, bytes.as_slice(), team)
 }
 
-/// The text of an option that may be left out.
-pub(crate) fn path_of(option: &Option<String>) -> Option<&str> {
+/// A text that may be left out.
+pub(crate) fn text_of(option: &Option<String>) -> Option<&str> {
     match option {
         None => None,
         Some(path) => Some(path.as_str()),
     }
 }
 
-/// Does what the words ask for, and answers the status that a shell sees.
-pub fn serve<R: Files + Print + Eprint + AllocGlobal + Threads + Wait + Sync>(
+/// Does what the words ask for, and answers the status.
+fn serve_request<R: Files + Print + StandardError + AllocGlobal + Threads + Wait + Sync>(
     rt: &R,
     request: &Request,
-) -> u8 {
+) -> Result<u8, Fault<'static>> {
     match request {
         Request::Check {
             vcd,
@@ -342,19 +303,19 @@ pub fn serve<R: Files + Print + Eprint + AllocGlobal + Threads + Wait + Sync>(
                 window: *window,
             };
             let files = FormFiles {
-                junit: path_of(junit),
-                json: path_of(json),
+                junit: text_of(junit),
+                json: text_of(json),
             };
             let asked = Asked {
                 vcd: vcd.as_str(),
                 sva: sva.as_slice(),
-                axi: path_of(axi),
+                axi: text_of(axi),
                 team_files,
                 only: only.as_slice(),
                 keep_going: *keep_going,
                 team,
                 files,
-                html: path_of(html),
+                html: text_of(html),
             };
             serve_check(rt, &asked)
         }
@@ -368,11 +329,11 @@ pub fn serve<R: Files + Print + Eprint + AllocGlobal + Threads + Wait + Sync>(
             rt,
             vcd.as_str(),
             sva.as_slice(),
-            path_of(axi),
+            text_of(axi),
             name.as_str(),
             out.as_str(),
         ),
-        Request::Verify { code } => serve_code(rt, code.as_str()),
+        Request::Verify { code } => serve_verify(rt, code.as_str()),
         Request::Run {
             vcd,
             code,
@@ -383,10 +344,10 @@ pub fn serve<R: Files + Print + Eprint + AllocGlobal + Threads + Wait + Sync>(
                 workers: *workers,
                 window: *window,
             };
-            shown_status(rt, run_file(rt, vcd.as_str(), code.as_str(), team))
+            serve_run(rt, vcd.as_str(), code.as_str(), team)
         }
         Request::Judge { vcd, sva, axi } => {
-            serve_judge(rt, vcd.as_str(), sva.as_slice(), path_of(axi))
+            serve_judge(rt, vcd.as_str(), sva.as_slice(), text_of(axi))
         }
         Request::Explain {
             vcd,
@@ -409,12 +370,12 @@ pub fn serve<R: Files + Print + Eprint + AllocGlobal + Threads + Wait + Sync>(
                 only: only.as_slice(),
                 keep_going: *keep_going,
                 wanted,
-                gtkw: path_of(gtkw),
+                gtkw: text_of(gtkw),
             };
             if !team.files.is_empty() {
                 return serve_team_explain(rt, team, &asked);
             }
-            serve_explain(rt, sva.as_slice(), path_of(axi), &asked)
+            serve_explain(rt, sva.as_slice(), text_of(axi), &asked)
         }
         Request::Lint {
             vcd,
@@ -425,7 +386,7 @@ pub fn serve<R: Files + Print + Eprint + AllocGlobal + Threads + Wait + Sync>(
             if !team.files.is_empty() {
                 return serve_team_lint(rt, vcd.as_str(), team);
             }
-            serve_lint(rt, vcd.as_str(), sva.as_slice(), path_of(axi))
+            serve_lint(rt, vcd.as_str(), sva.as_slice(), text_of(axi))
         }
         Request::Names {
             vcd,
@@ -433,38 +394,53 @@ pub fn serve<R: Files + Print + Eprint + AllocGlobal + Threads + Wait + Sync>(
             scope,
         } => {
             let filter = Filter {
-                matching: path_of(matching),
-                scope: path_of(scope),
+                matching: text_of(matching),
+                scope: text_of(scope),
             };
             serve_names(rt, vcd.as_str(), &filter)
         }
-        Request::Import { team, vcd } => serve_import(rt, team, path_of(vcd)),
+        Request::Import { team, vcd } => serve_import(rt, team, text_of(vcd)),
         Request::Rules { axi } => serve_rules(rt, axi.as_str()),
         Request::Upgrade { code, out } => serve_upgrade(rt, code.as_str(), out.as_str()),
     }
 }
 
+/// Does what the words ask for, and answers the status that a shell sees; the line of a fault goes
+/// to standard error.
+pub fn serve<R: Files + Print + StandardError + AllocGlobal + Threads + Wait + Sync>(
+    rt: &R,
+    request: &Request,
+) -> u8 {
+    report_status(rt, serve_request(rt, request))
+}
+
+/// What the words of the command line ask for, or the status where they are answered here.
+fn read_or_answer<R: Files + Env + Print + StandardError + AllocGlobal>(
+    rt: &R,
+) -> Result<Result<Request, u8>, Fault<'static>> {
+    let words = match words_of(rt) {
+        Ok(words) => words,
+        Err(error) => return Ok(Err(refuse_words(rt, &error)?)),
+    };
+    if print_version_and_build_if_asked(rt, words.as_slice())? {
+        return Ok(Err(0));
+    }
+    let request = request_of(rt, words.as_slice())?;
+    if let Some(refusal) = clash_of(rt, &request)? {
+        print_error_lines(rt, refusal.as_str());
+        return Ok(Err(REFUSED_STATUS));
+    }
+    Ok(Ok(request))
+}
+
 /// What the words of the command line ask for, or the status where they are answered: a file would
 /// be written over one that is read, or over another one that is written; the version was asked
 /// for; or they can't be read.
-pub fn read_request<R: Files + Env + Print + Eprint + AllocGlobal>(rt: &R) -> Result<Request, u8> {
-    let words = match words_of(rt) {
-        Ok(words) => words,
-        Err(error) => return Err(refuse_words(rt, &error)),
-    };
-    if let Some(status) = shown_version_and_build(rt, words.as_slice()) {
-        return Err(status);
-    }
-    let request = match request_of(rt, words.as_slice()) {
+pub fn read_request<R: Files + Env + Print + StandardError + AllocGlobal>(
+    rt: &R,
+) -> Result<Request, u8> {
+    match read_or_answer(rt) {
         Ok(request) => request,
-        Err(fault) => return Err(shown_status(rt, Err(fault))),
-    };
-    match clash_of(rt, &request) {
-        Ok(None) => Ok(request),
-        Ok(Some(refusal)) => {
-            shown_lines(rt, refusal.as_str());
-            Err(2)
-        }
-        Err(_) => Err(shown_status(rt, Err(Fault::Memory))),
+        Err(fault) => Err(report_status(rt, Err(fault))),
     }
 }

@@ -1,4 +1,4 @@
-//! Tests of what reads dumps and writes reports, from `signals` to `cycle_window` and `verdicts`:
+//! Tests of what reads dumps and writes reports, `signals` to `cycle_window` and `report_lines`:
 //! happy paths that no table of a program `answers_*` reaches by itself, and devices that fail or
 //! keep bytes back.
 //!
@@ -14,7 +14,7 @@
 //!
 //! `rt test` in this crate proves the tests and runs them. The definitions that the contracts cite
 //! stand in the crates that are tested: of values and devices in `signals`, of dumps in
-//! `vcd_reader`, of ticks in `cycle_window`, of lines in `verdicts`, each in its `specs/`.
+//! `vcd_reader`, of ticks in `cycle_window`, of lines in `report_lines`, each in its `specs/`.
 //!
 //! Not promised: that each fault of a dump occurs here; `SlowWriter`, which keeps bytes back until
 //! it is flushed, is for tests alone.

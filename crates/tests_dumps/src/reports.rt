@@ -1,10 +1,10 @@
 //! The bytes of a report, and devices that fail on the way or keep bytes back.
 
 use crate::slow_writer::SlowWriter;
+use report_lines::{Counts, Failure, Line, Report, ReportFault, write_report};
 use signals::{Counted, CutWriter, Sink, Verdict};
 use std::alloc::{AllocError, Global};
 use std::test::Fail;
-use verdicts::{Counts, Failure, Line, Report, ReportFault, write_report};
 
 /// A report over three clocks: `first` with two failures out of their order, and `second` without
 /// attempts that failed.

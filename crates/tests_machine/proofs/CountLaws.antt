@@ -7,9 +7,9 @@ use Rattle.std.proofs.lemmas.Bool.Decides.{eqb_tells}
 use Rattle.std.specs.Prelude.{nat_eq, cond, IsSome}
 use Rattle.std.specs.List.{IsDistinct}
 use Rattle.std.specs.Map.{lookup, set_value, remove_entry, keys_of}
-use Rattle.machine_memory.specs.Pooled.{Pooled, pooled, first_slot, slot_after}
-use Rattle.machine_memory.specs.Walk.{WalkIsAt, left_at}
-use Rattle.machine_memory.proofs.WalkLaws as walk
+use Rattle.attempt_pool.specs.Pooled.{Pooled, pooled, first_slot, slot_after}
+use Rattle.attempt_pool.specs.Walk.{WalkIsAt, left_at}
+use Rattle.attempt_pool.proofs.WalkLaws as walk
 use Rattle.tests_machine.specs.Counted.{counted_down}
 
 pub record Counting (pool : Pooled ℕ) (at : Option ℕ) (old : Pooled ℕ) : Type 0 where

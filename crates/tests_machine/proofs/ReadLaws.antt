@@ -4,9 +4,9 @@ use Rattle.std.proofs.Common.{refl, sym, ap, subst, arith}
 use Rattle.std.specs.Prelude.{nat_eq, IsSome, IfSome}
 use Rattle.std.specs.List.{IsDistinct}
 use Rattle.std.specs.Map.{lookup, keys_of}
-use Rattle.machine_memory.specs.Pooled.{first_slot, slot_after}
-use Rattle.machine_memory.specs.Walk.{WalkIsAt, left_at}
-use Rattle.machine_memory.proofs.WalkLaws as walk
+use Rattle.attempt_pool.specs.Pooled.{first_slot, slot_after}
+use Rattle.attempt_pool.specs.Walk.{WalkIsAt, left_at}
+use Rattle.attempt_pool.proofs.WalkLaws as walk
 
 module _ {T : Type 0} where
   pub record Reading (live : List (ℕ × T)) (at : Option ℕ) : Type 0 where

@@ -1,4 +1,4 @@
-//! Tests of the parts of a machine: `machine_memory` and `machine_expressions`.
+//! Tests of the parts of a machine: `history_ring`, `attempt_pool` and `machine_sample_code`.
 //!
 //! A ring keeps the last rows of a monitor: the tests look back each number of pushes at each slot,
 //! beside a plain list of all rows that were pushed. A pool holds the attempts that are not

@@ -2,17 +2,17 @@
 //! of 128 bits, and one atom.
 
 ghost use Rattle.std.specs.Prelude.{◌≡◌, ◌<◌, ◌∷◌, drop, length, IfOk, IsTrue};
-ghost use Rattle.bytecode.specs.Instructions.{frame_of};
-ghost use Rattle.bytecode.specs.Programs.{data_of};
+ghost use Rattle.bytecode_programs.specs.Instructions.{frame_of};
+ghost use Rattle.bytecode_programs.specs.Programs.{data_of};
 ghost use Rattle.verifier.specs.Programs.{IsAccepted};
-ghost use Rattle.machine_expressions.specs.Memory.{AreRows};
-ghost use Rattle.machine_expressions.specs.Decoded.{IsNewest};
-ghost use Rattle.machine_definition.specs.Values.{AreValues};
+ghost use Rattle.machine_sample_code.specs.Memory.{AreRows};
+ghost use Rattle.machine_sample_code.specs.Decoded.{IsNewest};
+ghost use Rattle.machine_checked.specs.Values.{AreValues};
 
-use bytecode::Program;
-use bytecode_files::decode;
-use machine_expressions::{Decoded, Stack, run};
-use machine_memory::Ring;
+use bytecode::decode;
+use bytecode_programs::Program;
+use history_ring::Ring;
+use machine_sample_code::{Decoded, Stack, run};
 use signals::Bits;
 use std::alloc::{AllocError, Global};
 use verifier::{Frame, verify};

@@ -3,7 +3,7 @@
 ghost use Rattle.std.specs.Prelude.{◌<◌, ◌≤◌};
 
 use crate::walks::{count_down, fill, holds, nth};
-use machine_memory::Pool;
+use attempt_pool::Pool;
 use std::alloc::{AllocError, Global};
 use std::test::Fail;
 use std::thread;

@@ -2,7 +2,7 @@
 
 ghost use Rattle.std.specs.Prelude.{◌≡◌, ◌≤◌, IfOk, length};
 
-use machine_memory::Ring;
+use history_ring::Ring;
 use std::alloc::{AllocError, Global};
 use std::test::Fail;
 

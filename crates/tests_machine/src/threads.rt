@@ -2,7 +2,7 @@
 
 ghost use Rattle.std.specs.Prelude.{◌≡◌};
 
-use machine_memory::Pool;
+use attempt_pool::Pool;
 
 /// Takes what may move to another thread.
 fn moved_value<T: Send>(value: T) -> T

@@ -2,10 +2,10 @@
 
 ghost use Rattle.std.specs.Prelude.{◌≡◌, IsSome, IfSome, length, nat_eq};
 ghost use Rattle.std.specs.Map.{lookup};
-ghost use Rattle.machine_memory.specs.Pooled.{pooled};
+ghost use Rattle.attempt_pool.specs.Pooled.{pooled};
 ghost use Rattle.tests_machine.specs.Counted.{counted_down};
 
-use machine_memory::{Pool, Slot};
+use attempt_pool::{Pool, Slot};
 
 /// Counts each record down by one, and retires those that are 0.
 pub fn count_down(pool: &mut Pool<u64>)

@@ -3,7 +3,7 @@
 ghost use Rattle.std.specs.Prelude.{◌<◌};
 
 use crate::job::text_of;
-use bytecode_files::decode;
+use bytecode::decode;
 use cycle_window::WindowSize;
 use signals::Counted;
 use std::alloc::{AllocError, Global};

@@ -1,11 +1,11 @@
 //! A batch by its receipt, from another thread.
 
-use machine_decisions::{Batch, Streaks};
+use machine_batches::{Batch, Streaks};
 use signals::{Decided, Verdict};
 use std::alloc::{AllocError, Global};
 use std::test::Fail;
 use std::thread;
-use workers_shared::Board;
+use verdicts::Board;
 
 /// A batch of one attempt, which failed at its start.
 fn batch_of(alloc: Global, start: u64) -> Result<Batch, AllocError> {

@@ -1,7 +1,7 @@
 //! Claims from a bench, and one worker's round.
 
 ghost use Rattle.std.specs.Prelude.{◌≡◌};
-ghost use Rattle.workers_shared.specs.Blanks.{HaveParts, HaveNames};
+ghost use Rattle.verdicts.specs.Blanks.{HaveParts, HaveNames};
 
 use crate::job::job_of;
 use crate::tests::{OVERLAPPED, THREE, TWO_POSITIONS};
@@ -10,11 +10,12 @@ use std::alloc::{AllocError, Global};
 use std::marker::Brand;
 use std::sync::Wait;
 use std::test::Fail;
+use verdicts::{Blanks, Board, Tally, Tallying};
+use workers::round::put_all;
+use workers::worker::work;
 use workers::{NoGate, first_monitors};
+use workers_bench::{Bench, Numbered};
 use workers_core::{Job, window_of};
-use workers_rounds::round::put_all;
-use workers_rounds::work::work;
-use workers_shared::{Bench, Blanks, Board, Numbered, Tally, Tallying};
 
 /// The number of a claimed monitor.
 fn number_of(claimed: &Option<Numbered>) -> Option<usize> {

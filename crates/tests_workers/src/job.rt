@@ -1,11 +1,11 @@
 //! Jobs of programs over the text of a dump.
 
 use crate::answers::verified_of;
+use report_lines::{Report, write_report};
 use signals::{Counted, CutWriter};
 use std::alloc::{AllocError, Global};
 use std::test::Fail;
 use vcd_reader::read_dump;
-use verdicts::{Report, write_report};
 use verifier::Verified;
 use workers_core::Job;
 

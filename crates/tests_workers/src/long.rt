@@ -2,10 +2,10 @@
 
 use crate::job::{job_of, text_of};
 use crate::tests::{OVERLAPPED, THREE, TWO_POSITIONS};
+use report_lines::Report;
 use std::alloc::{AllocError, Global};
 use std::fmt::Write;
 use std::test::Fail;
-use verdicts::Report;
 use workers::{NoGate, run};
 use workers_core::RunFault;
 

@@ -1,6 +1,6 @@
 //! Decided attempts, kept as streaks and read back.
 
-use machine_decisions::{Streak, Streaks};
+use machine_batches::{Streak, Streaks};
 use signals::{Decided, Verdict};
 use std::alloc::Global;
 use std::test::Fail;

@@ -1,8 +1,8 @@
 -- One declaration more.
 use Rattle.std.proofs.Common.{◌≡◌, inl, inr, ℕ, ◌+◌, ◌≤◌, List, Option, Some, None, get_or, sym, subst, arith}
 use Rattle.std.proofs.lemmas.Bool.{cases_eq, cases_lt}
-use Rattle.types_sequences.specs.Drafts.{Draft, IsCyclic}
-use Rattle.types.specs.Cycles.{IsFirstCycle, IsAtMost}
+use Rattle.types.specs.Drafts.{Draft, IsCyclic}
+use Rattle.types.specs.CycleStages.{IsFirstCycle, IsAtMost}
 
 -- it doesn't reach itself
 pub cycle_none : {B : Type 0} (bodies : List (Draft B)) (bytes : List ℕ) (place : ℕ) (fault : Option ℕ)

@@ -7,21 +7,21 @@ use Rattle.std.proofs.lemmas.Option.{slice_get-map, slice_get-get_or, get_or_fro
 use Rattle.std.specs.Prelude.{option_map}
 use Rattle.parser_grammar.specs.Trees.{DeclarationForm, ItemForm}
 use Rattle.assertions.specs.declared.sequence.Boolean.{Boolean}
-use Rattle.types_sequences.specs.declared.entry.Entry.{Entry}
-use Rattle.types_sequences.specs.Drafts.{Draft, IsCyclic}
-use Rattle.types_sequences.specs.Outlines.{map_draft}
-use Rattle.types_sequences.specs.Entries.{IsEntryTable, has_entry, is_entry}
-use Rattle.types_sequences.proofs.MapLaws.{cyclic_map, map_cyclic}
-use Rattle.types_sequences.proofs.AcyclicLaws.{named_acyclic}
-use Rattle.types_sequences.proofs.CyclicLaws.{declared_by_reach}
+use Rattle.types.specs.declared.entry.Entry.{Entry}
+use Rattle.types.specs.Drafts.{Draft, IsCyclic}
+use Rattle.types.specs.Outlines.{map_draft}
+use Rattle.types.specs.Entries.{IsEntryTable, has_entry, is_entry}
+use Rattle.types.proofs.MapLaws.{cyclic_map, map_cyclic}
+use Rattle.types.proofs.AcyclicLaws.{named_acyclic}
+use Rattle.types.proofs.CyclicLaws.{declared_by_reach}
 use Rattle.types_names.specs.Scopes.{Scope}
-use Rattle.types_suites.specs.declared.fault.TypeFault.TheVariants.{CyclicSequence}
-use Rattle.types_suites.specs.declared.fault.TypeFault.{TypeFault}
-use Rattle.types_suites.specs.Readings.{Dot, dot}
-use Rattle.types_suites.specs.Texts.{declarations_of}
-use Rattle.types_suites.specs.Readings.{outlines_of}
-use Rattle.types_suites.specs.Faults.{CycleAt, ClearTo, FaultStands, IsFirst, rank, byte_of}
-use Rattle.types.specs.Cycles.{IsLowest, AreOutlined}
+use Rattle.types.specs.declared.fault.TypeFault.TheVariants.{CyclicSequence}
+use Rattle.types.specs.declared.fault.TypeFault.{TypeFault}
+use Rattle.types.specs.Readings.{Dot, dot}
+use Rattle.types.specs.Texts.{declarations_of}
+use Rattle.types.specs.Readings.{outlines_of}
+use Rattle.types.specs.Faults.{CycleAt, ClearTo, FaultStands, IsFirst, rank, byte_of}
+use Rattle.types.specs.CycleStages.{IsLowest, AreOutlined}
 use Rattle.types.proofs.StageLaws.{clear_next, first_at, of_rank}
 
 entry_there : (o : Option (Option Entry)) → is_entry o ≡ true → (e : Entry) × (o ≡ Some (Some e))

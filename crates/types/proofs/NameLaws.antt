@@ -32,7 +32,7 @@ use Rattle.std.specs.String.{string_eq}
 use Rattle.indexmap.specs.IndexSet.{insert_key}
 use Rattle.types_names.specs.Faults.{earlier, least}
 use Rattle.types_names.proofs.FaultLaws.{earlier-assoc}
-use Rattle.types_suites.specs.Texts.{is_among, repeated_names, assertions_after}
+use Rattle.types.specs.Texts.{is_among, repeated_names, assertions_after}
 use Rattle.parser_grammar.specs.Trees.{ItemForm, counter, declaration, assertion}
 
 -- the keys of a set, as texts

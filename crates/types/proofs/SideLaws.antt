@@ -10,12 +10,12 @@ use Rattle.assertions.specs.Emptiness.{admits_empty, takes_ticks}
 use Rattle.assertions.proofs.FirstLaws.{empty-degenerate, none-degenerate_by, degenerate_by-none}
 use Rattle.assertions.proofs.EmptinessLaws.{degenerate-none, none-degenerate, empty-Matches, Matches-empty}
 use Rattle.std.specs.List.{AllByRecursion}
-use Rattle.types_sequences.specs.Drafts.{Draft, IsNumberIn, IsWrittenOut}
-use Rattle.types_sequences.proofs.MapLaws.{spells_one}
+use Rattle.types.specs.Drafts.{Draft, IsNumberIn, IsWrittenOut}
+use Rattle.types.proofs.MapLaws.{spells_one}
 use Rattle.types.specs.declared.side.Side.{Side}
-use Rattle.types_suites.specs.Readings.{Dot, dot}
-use Rattle.types_suites.specs.Faults as faults
-use Rattle.types_suites.specs.Faults.{SideAt}
+use Rattle.types.specs.Readings.{Dot, dot}
+use Rattle.types.specs.Faults as faults
+use Rattle.types.specs.Faults.{SideAt}
 use Rattle.types.specs.Sides.{IsWeighed, AreWeighed, AreLight, places_where, is_wide, is_degenerate, is_side_empty}
 
 -- the test tells what is so of what a side says, where something is known of what it tells

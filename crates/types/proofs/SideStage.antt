@@ -7,15 +7,15 @@ use Rattle.assertions.specs.Written.{kernel, weight}
 use Rattle.types_names.specs.Scopes.{Scope}
 use Rattle.types_names.specs.Faults.{least}
 use Rattle.types.specs.declared.side.Side.{Side}
-use Rattle.types_suites.specs.declared.fault.TypeFault.{TypeFault}
-use Rattle.types_suites.specs.declared.fault.TypeFault.TheVariants.{UnknownName, Duplicate}
-use Rattle.types_suites.specs.declared.fault.TypeFault.TheVariants.{WiderThan128, SliceRange}
-use Rattle.types_suites.specs.declared.fault.TypeFault.TheVariants.{Degenerate, AdmitsEmpty as Empty, OtherClock}
-use Rattle.types_suites.specs.declared.fault.TypeFault.TheVariants.{CyclicSequence, TooWide, Memory}
-use Rattle.types_suites.specs.Readings.{dot}
-use Rattle.types_suites.specs.Texts.{assertions_of}
-use Rattle.types_suites.specs.Readings.{outlines_of}
-use Rattle.types_suites.specs.Faults.{sides_of, consequents_of, ClearTo, IsFaultless, IsFirst, rank, byte_of}
+use Rattle.types.specs.declared.fault.TypeFault.{TypeFault}
+use Rattle.types.specs.declared.fault.TypeFault.TheVariants.{UnknownName, Duplicate}
+use Rattle.types.specs.declared.fault.TypeFault.TheVariants.{WiderThan128, SliceRange}
+use Rattle.types.specs.declared.fault.TypeFault.TheVariants.{Degenerate, AdmitsEmpty as Empty, OtherClock}
+use Rattle.types.specs.declared.fault.TypeFault.TheVariants.{CyclicSequence, TooWide, Memory}
+use Rattle.types.specs.Readings.{dot}
+use Rattle.types.specs.Texts.{assertions_of}
+use Rattle.types.specs.Readings.{outlines_of}
+use Rattle.types.specs.Faults.{sides_of, consequents_of, ClearTo, IsFaultless, IsFirst, rank, byte_of}
 use Rattle.types.specs.Sides.{AreWeighed, AreLight, places_where, is_wide, is_degenerate, is_side_empty}
 use Rattle.types.proofs.StageLaws.{nowhere, least_stands, clear_next, first_at, of_rank}
 use Rattle.types.proofs.SideLaws.{side_there, side_back, tells_wide, tells_degenerate, tells_empty, Any, all_any, Light}

@@ -5,18 +5,18 @@ use Rattle.std.specs.Result.{IsErrAnd}
 use Rattle.std.proofs.lemmas.Option.{none-some}
 use Rattle.std.proofs.lemmas.Bool.{cases_eq, cases_lt}
 use Rattle.parser_grammar.specs.Trees.{ItemForm}
-use Rattle.types_sequences.specs.Drafts.{IsNumberIn}
+use Rattle.types.specs.Drafts.{IsNumberIn}
 use Rattle.types_names.specs.declared.own.Sought.{Sought}
 use Rattle.types_names.specs.declared.own.Sought.TheVariants.{Unknown, Wide, OutOfRange}
 use Rattle.types_names.specs.Scopes.{Scope}
 use Rattle.types_names.specs.Faults.{file_faults, earlier, least}
-use Rattle.types_suites.specs.declared.fault.TypeFault.{TypeFault}
-use Rattle.types_suites.specs.declared.fault.TypeFault.TheVariants.{UnknownName, Duplicate}
-use Rattle.types_suites.specs.declared.fault.TypeFault.TheVariants.{WiderThan128, SliceRange}
-use Rattle.types_suites.specs.declared.fault.TypeFault.TheVariants.{Degenerate, AdmitsEmpty as Empty, OtherClock}
-use Rattle.types_suites.specs.declared.fault.TypeFault.TheVariants.{CyclicSequence, TooWide, Memory}
-use Rattle.types_suites.specs.Texts.{assertions_of, duplicates, other_clocks}
-use Rattle.types_suites.specs.Faults.{FaultStands, rank, byte_of, IsFirst, IsTypeFault, ClearTo}
+use Rattle.types.specs.declared.fault.TypeFault.{TypeFault}
+use Rattle.types.specs.declared.fault.TypeFault.TheVariants.{UnknownName, Duplicate}
+use Rattle.types.specs.declared.fault.TypeFault.TheVariants.{WiderThan128, SliceRange}
+use Rattle.types.specs.declared.fault.TypeFault.TheVariants.{Degenerate, AdmitsEmpty as Empty, OtherClock}
+use Rattle.types.specs.declared.fault.TypeFault.TheVariants.{CyclicSequence, TooWide, Memory}
+use Rattle.types.specs.Texts.{assertions_of, duplicates, other_clocks}
+use Rattle.types.specs.Faults.{FaultStands, rank, byte_of, IsFirst, IsTypeFault, ClearTo}
 
 -- where a list has no least place it has no place, and each place is at least the least
 least_of_more : (x : ℕ) (o : Option ℕ) → earlier (Some x) o ≡ None → ⊥

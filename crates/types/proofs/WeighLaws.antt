@@ -10,21 +10,21 @@ use Rattle.assertions.specs.declared.sequence.Boolean.{Boolean}
 use Rattle.assertions.specs.declared.sequence.Boolean.TheVariants.{One}
 use Rattle.assertions.specs.Written.{weight}
 use Rattle.assertions.specs.Written as written
-use Rattle.types_sequences.specs.declared.entry.Entry.{Entry}
-use Rattle.types_sequences.specs.Drafts.{Draft, IsWrittenOut}
-use Rattle.types_sequences.specs.Outlines.{map_written}
-use Rattle.types_sequences.specs.Entries.{HasEntry}
-use Rattle.types_sequences.proofs.MapLaws.{spells_map, weight_map, empty_map, ticks_map, ordered_map, spells_one}
+use Rattle.types.specs.declared.entry.Entry.{Entry}
+use Rattle.types.specs.Drafts.{Draft, IsWrittenOut}
+use Rattle.types.specs.Outlines.{map_written}
+use Rattle.types.specs.Entries.{HasEntry}
+use Rattle.types.proofs.MapLaws.{spells_map, weight_map, empty_map, ticks_map, ordered_map, spells_one}
 use Rattle.types_names.specs.Scopes.{Scope}
 use Rattle.types.specs.declared.side.Side.{Side}
-use Rattle.types_suites.specs.declared.resolved.Resolved.{Resolved}
-use Rattle.types_suites.specs.Readings.{Dot, dot, outline}
-use Rattle.types_suites.specs.Texts.{sequence_byte, led_byte, is_led}
-use Rattle.types_suites.specs.Suites.{before_by, first_by, ReadsAntecedent, ReadsConsequent}
-use Rattle.types_suites.specs.Faults as faults
-use Rattle.types_suites.specs.Faults.{outline_before, antecedents_in, consequent_in, sides_of, consequents_of}
+use Rattle.types.specs.declared.resolved.Resolved.{Resolved}
+use Rattle.types.specs.Readings.{Dot, dot, outline}
+use Rattle.types.specs.Texts.{sequence_byte, led_byte, is_led}
+use Rattle.types.specs.Suites.{before_by, first_by, ReadsAntecedent, ReadsConsequent}
+use Rattle.types.specs.Faults as faults
+use Rattle.types.specs.Faults.{outline_before, antecedents_in, consequent_in, sides_of, consequents_of}
 use Rattle.types.specs.Sides.{IsWeighed, AreWeighed, AreLight}
-use Rattle.types_suites.specs.Drafted.{antecedent_byte, consequent_byte}
+use Rattle.types.specs.Drafted.{antecedent_byte, consequent_byte}
 use Rattle.types.specs.Sides.{side_of, side_at, consequent_side, sides_in, consequents_in, entry_ticks, sequence_ticks}
 use Rattle.types.specs.Sides.{AreKnownEntries}
 use Rattle.std.specs.Prelude.{Box, nat_lt, Bool, true, false, if◌then◌else◌}
@@ -37,10 +37,10 @@ use Rattle.assertions.specs.Written.{Written, kernel, IsOrdered}
 use Rattle.assertions.specs.Shapes.{written_form}
 use Rattle.assertions.specs.Emptiness.{takes_ticks}
 use Rattle.assertions.proofs.EmptinessLaws.{degenerate-none, none-degenerate}
-use Rattle.types_sequences.specs.Entries.{IsTheEntryOf, HasSame, SaysSame}
-use Rattle.types_suites.specs.Resolved.{AreResolved}
-use Rattle.types_suites.specs.Made.{AreFitting}
-use Rattle.types_suites.proofs.OutlineLaws.{dotted, reads_outline}
+use Rattle.types.specs.Entries.{IsTheEntryOf, HasSame, SaysSame}
+use Rattle.types.specs.Resolved.{AreResolved}
+use Rattle.types.specs.Made.{AreFitting}
+use Rattle.types.proofs.OutlineLaws.{dotted, reads_outline}
 
 weighed_both : (o : List (Draft Dot)) (xs : List faults.Side) (ys : List Side) (us : List faults.Side) (vs : List Side)
     → AreWeighed o xs ys → AreWeighed o us vs → AreWeighed o (xs ++ us) (ys ++ vs)

@@ -8,13 +8,13 @@ use Rattle.assertions.specs.declared.sequence.Sequence.{Sequence}
 use Rattle.assertions.specs.Written.{Written, weight, IsOrdered}
 use Rattle.assertions.specs.Shapes.{written_form}
 use Rattle.assertions.specs.Emptiness.{admits_empty, takes_ticks}
-use Rattle.types_sequences.specs.declared.entry.Entry.{Entry}
-use Rattle.types_sequences.specs.Entries.{IsTheEntryOf}
-use Rattle.types_sequences.specs.Drafts.{Draft, IsWrittenOut}
+use Rattle.types.specs.declared.entry.Entry.{Entry}
+use Rattle.types.specs.Entries.{IsTheEntryOf}
+use Rattle.types.specs.Drafts.{Draft, IsWrittenOut}
 use Rattle.types.specs.declared.side.Side.{Side}
-use Rattle.types_suites.specs.declared.resolved.Resolved.{Resolved}
-use Rattle.types_suites.specs.Readings.{Dot}
-use Rattle.types_suites.specs.Faults as faults
+use Rattle.types.specs.declared.resolved.Resolved.{Resolved}
+use Rattle.types.specs.Readings.{Dot}
+use Rattle.types.specs.Faults as faults
 
 -- What a side's outline says with the names written out, of which these are the weight, up to 128,
 -- and what its form tells.

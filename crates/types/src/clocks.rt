@@ -4,7 +4,7 @@ ghost use Rattle.std.specs.Prelude.{◌≡◌, map, IfOk, string_bytes};
 ghost use Rattle.parser_grammar.specs.Views.{path_of, item_of};
 ghost use Rattle.types_names.specs.Faults.{least};
 ghost use Rattle.types_names.specs.Scopes.{first_byte};
-ghost use Rattle.types_suites.specs.Texts.{assertions_of, clocks_unlike, suite_clock};
+ghost use Rattle.types.specs.Texts.{assertions_of, clocks_unlike, suite_clock};
 
 use parser_grammar::{ItemTree, Path};
 use std::alloc::{AllocError, Global};

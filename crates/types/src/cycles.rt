@@ -2,13 +2,15 @@
 
 ghost use Rattle.std.specs.Prelude.{◌≡◌, ◌<◌, ◌≤◌, ℕ, true, false, map, length, slice_index_or};
 ghost use Rattle.std.specs.Prelude.{IfOk, IfNone, IfSome, IsTrue, ◌↔◌};
-ghost use Rattle.types_sequences.specs.Drafts.{IsCyclic};
-ghost use Rattle.types_sequences.specs.Entries.{has_entry};
-ghost use Rattle.types_sequences.specs.Views.{draft_of};
-ghost use Rattle.types.specs.Cycles.{IsFirstCycle, IsAtMost, LacksAt};
+ghost use Rattle.types.specs.Drafts.{IsCyclic};
+ghost use Rattle.types.specs.Entries.{has_entry};
+ghost use Rattle.types.specs.Views.{draft_of};
+ghost use Rattle.types.specs.CycleStages.{IsFirstCycle, IsAtMost, LacksAt};
 
+use crate::cyclic::is_cyclic;
+use crate::draft::Draft;
+use crate::entry::Entry;
 use std::alloc::{AllocError, Global};
-use types_sequences::{Draft, Entry, is_cyclic};
 
 /// The lowest of the bytes of those declarations that reach themselves.
 pub(crate) fn first_cycle(

@@ -18,26 +18,46 @@
 //! says nothing of the text. Named sequences and counters that nothing uses are looked at, but for
 //! Y9, Y5 and Y6, which are of antecedents and consequents.
 //!
-//! The definitions: which faults stand in a text, which is the first, and the suite that a text
-//! says are those of `types_suites`, in its `specs/Faults.antt` (`IsFaultless`, `IsTypeFault`)
-//! and `specs/Suites.antt` (`IsSuite`); after them are `specs/Cycles.antt`, of sequences that reach
-//! themselves, and `specs/Sides.antt`, of what is known of antecedents and consequents. Scopes and
-//! the faults of expressions are those of `types_names`, and named sequences those of
-//! `types_sequences`. `laws_reports` has the law that suites of one text mean the same.
+//! The definitions: which faults stand in a text, and which is the first, in `specs/Faults.antt`
+//! (`IsFaultless`, `IsTypeFault`); the suite that a text says in `specs/Suites.antt` (`IsSuite`),
+//! and of a sequence in `specs/Readings.antt`. Named sequences are drafts (`specs/Drafts.antt`),
+//! which reach themselves (`specs/Cycles.antt`) or have an entry: what they weigh and match with
+//! names written out (`specs/Entries.antt`). Scopes and the faults of expressions are those of
+//! `types_names`, weights and matches those of `assertions`. `laws_one_report` has the law
+//! that suites of one text mean the same.
 //!
 //! Not promised: that the clock's path is among the dump's, how the expressions of a suite are laid
 //! out, or that memory suffices.
 #![tactic(auto)]
 
+mod bodies;
+mod bytes;
 mod clocks;
+mod counters;
 mod cycles;
+mod cyclic;
+mod declared;
+mod draft;
+mod drafted_assertion;
+mod drafts;
+mod entry;
+mod facts;
+mod fault;
+mod implication;
+mod label;
+mod make;
 mod names;
+mod places;
+mod resolved;
 mod side;
 mod sides;
 mod stages;
 mod suite;
+mod suite_signals;
+mod table;
+mod typed_assertions;
 
 pub use assertions::{Assertion, Suite};
+pub use fault::TypeFault;
 pub use suite::check;
 pub use types_names::{Names, PathWidths, Width, path_string};
-pub use types_suites::TypeFault;

@@ -4,13 +4,13 @@ ghost use Rattle.std.specs.Prelude.{◌≡◌, ◌<◌, ◌++◌, ◌+◌, map, 
 ghost use Rattle.std.specs.Prelude.{codes};
 ghost use Rattle.parser_grammar.specs.Views.{assertion_of, item_of};
 ghost use Rattle.types_names.specs.Faults.{least};
-ghost use Rattle.types_suites.specs.Texts.{label_byte, name_made, assertions_after, duplicates};
+ghost use Rattle.types.specs.Texts.{label_byte, name_made, assertions_after, duplicates};
 
+use crate::label::label_string;
 use indexmap::IndexSet;
 use parser_grammar::{AssertionTree, ItemTree};
 use std::alloc::{AllocError, Global};
 use types_signals::earlier;
-use types_suites::label_string;
 
 /// A name with the byte where it stands.
 #[derive(Drop)]

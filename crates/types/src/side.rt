@@ -4,8 +4,8 @@ ghost use Rattle.std.specs.Prelude.{◌≡◌};
 ghost use Rattle.types_names.specs.Faults.{least};
 ghost use Rattle.types.specs.Sides.{places_where, is_wide, is_degenerate, is_side_empty};
 
+use crate::facts::Facts;
 use assertions::HEAVIEST;
-use types_sequences::Facts;
 use types_signals::earlier;
 
 /// What is known of an antecedent or a consequent, with the byte of its first token but brackets.

@@ -4,12 +4,12 @@ ghost use Rattle.std.specs.Prelude.{◌≡◌, ◌++◌, IfOk, OnOk};
 ghost use Rattle.types.specs.Sides.{side_of, side_at, sides_in, consequents_in, entry_ticks};
 ghost use Rattle.types.specs.Sides.{IsKnownEntry, AreKnownEntries};
 
+use crate::entry::Entry;
+use crate::resolved::Resolved;
 use crate::side::Side;
 use assertions::HEAVIEST;
 use judging::takes_ticks;
 use std::alloc::{AllocError, Global};
-use types_sequences::Entry;
-use types_suites::Resolved;
 
 /// Whether what an entry is of matches a tick or more, if it weighs at most 127.
 fn entry_ticks(alloc: Global, entry: &Entry) -> Result<bool, AllocError>

@@ -3,27 +3,28 @@
 ghost use Rattle.std.specs.Prelude.{◌≡◌, ◌<◌, ℕ, true, false, map, length, IfOk, IfErr};
 ghost use Rattle.parser_grammar.specs.Views.{item_of};
 ghost use Rattle.types_names.specs.Views.{scope_of};
-ghost use Rattle.types_suites.specs.Texts.{assertions_of, suite_clock};
-ghost use Rattle.types_suites.specs.Readings.{Where, outlines_of};
-ghost use Rattle.types_suites.specs.Faults.{Text, sides_of, consequents_of};
-ghost use Rattle.types_suites.specs.Faults.{ClearTo, IsFaultless};
-ghost use Rattle.types_suites.specs.Faults.{IsTypeFault};
-ghost use Rattle.types.specs.Cycles.{AreOutlined};
+ghost use Rattle.types.specs.Texts.{assertions_of, suite_clock};
+ghost use Rattle.types.specs.Readings.{Where, outlines_of};
+ghost use Rattle.types.specs.Faults.{Text, sides_of, consequents_of};
+ghost use Rattle.types.specs.Faults.{ClearTo, IsFaultless};
+ghost use Rattle.types.specs.Faults.{IsTypeFault};
+ghost use Rattle.types.specs.CycleStages.{AreOutlined};
 ghost use Rattle.types.specs.Sides.{AreWeighed, AreLight};
-ghost use Rattle.types_sequences.specs.Cycles.{ReachesCycle};
-ghost use Rattle.types_sequences.specs.Entries.{IsEntryTable, has_entry};
-ghost use Rattle.types_sequences.specs.Views.{draft_of};
+ghost use Rattle.types.specs.Cycles.{ReachesCycle};
+ghost use Rattle.types.specs.Entries.{IsEntryTable, has_entry};
+ghost use Rattle.types.specs.Views.{draft_of};
 
 use crate::clocks::first_other_clock;
 use crate::cycles::{first_cycle, has_all};
+use crate::draft::Draft;
+use crate::entry::Entry;
+use crate::fault::TypeFault;
 use crate::names::first_duplicate;
 use crate::side::{Side, first_degenerate, first_empty, first_wide};
 use parser_grammar::ItemTree;
 use std::alloc::Global;
 use types_names::{Scope, Sought};
-use types_sequences::{Draft, Entry};
 use types_signals::first_fault;
-use types_suites::TypeFault;
 
 /// Looks for unknown names (Y1).
 #[tactic(auto, using(crate::proofs::StageLaws::for_stages))]

@@ -4,38 +4,41 @@ ghost use Rattle.std.specs.Prelude.{◌≡◌, ◌<◌, ℕ, [], true, map, leng
 ghost use Rattle.std.specs.Prelude.{IfErr, OnOk, IsTrue};
 ghost use Rattle.parser_grammar.specs.Trees.{Tree};
 ghost use Rattle.parser_grammar.specs.Views.{item_of, items_of};
-ghost use Rattle.types_sequences.specs.Entries.{has_entry};
+ghost use Rattle.types.specs.Entries.{has_entry};
 ghost use Rattle.types_names.specs.declared.own.Sought.{Sought};
 ghost use Rattle.types_names.specs.Scopes.{sequence_named};
 ghost use Rattle.types_names.specs.Asked.{scope_for};
 ghost use Rattle.types_names.specs.Columns.{all_listed, file_signals, columns_of};
 ghost use Rattle.types_names.specs.Faults.{file_faults};
 ghost use Rattle.types_names.specs.Views.{scope_of, columns_in};
-ghost use Rattle.types_sequences.specs.Placed.{ExtendsPlaces};
-ghost use Rattle.types_suites.specs.Texts.{declarations_of, assertions_of, suite_clock};
-ghost use Rattle.types_suites.specs.Readings.{Where, outlines_of};
-ghost use Rattle.types_suites.specs.Faults.{Text, sides_of, consequents_of};
-ghost use Rattle.types_suites.specs.Faults.{ClearTo, IsFaultless};
-ghost use Rattle.types_suites.specs.Faults.{IsTypeFault};
+ghost use Rattle.types.specs.Placed.{ExtendsPlaces};
+ghost use Rattle.types.specs.Texts.{declarations_of, assertions_of, suite_clock};
+ghost use Rattle.types.specs.Readings.{Where, outlines_of};
+ghost use Rattle.types.specs.Faults.{Text, sides_of, consequents_of};
+ghost use Rattle.types.specs.Faults.{ClearTo, IsFaultless};
+ghost use Rattle.types.specs.Faults.{IsTypeFault};
 ghost use Rattle.types.specs.Sides.{AreWeighed, AreLight, AreKnownEntries};
-ghost use Rattle.types_suites.specs.Suites.{IsSuite};
+ghost use Rattle.types.specs.Suites.{IsSuite};
 ghost use Rattle.types.specs.Sides.{sides_in, consequents_in};
-ghost use Rattle.types_suites.specs.Resolved.{HasBodies};
-ghost use Rattle.types.specs.Resolved.{HasResolved};
+ghost use Rattle.types.specs.Resolved.{HasBodies};
+ghost use Rattle.types.specs.ResolvedTexts.{HasResolved};
 
+use crate::bodies::{bodies_of, name_bytes};
 use crate::clocks::first_clock;
+use crate::counters::counters_of;
+use crate::entry::Entry;
+use crate::fault::TypeFault;
+use crate::resolved::{Resolved, all_resolved};
 use crate::sides::written_sides;
 use crate::stages::{check_cycles, check_expressions, check_sides};
+use crate::suite_signals::signals_of;
+use crate::table::resolve;
+use crate::typed_assertions::assertions_of;
 use assertions::Suite;
 use parser_grammar::{File, ItemTree};
 use std::alloc::Global;
 use types_names::{PathWidths, Scope, SignalPaths};
-use types_sequences::{Entry, resolve};
 use types_signals::{columns_of, scope_for};
-use types_suites::{
-    Resolved, TypeFault, all_resolved, assertions_of, bodies_of, counters_of, name_bytes,
-    signals_of,
-};
 
 /// The entries of the named sequences, by the places of their declarations, if none reaches itself
 /// (Y8).

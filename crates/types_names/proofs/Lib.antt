@@ -1,3 +1,6 @@
+pub mod MeaningLaws
+pub mod TypedLaws
+pub mod OneMeaning
 pub mod EntryLaws
 pub mod FaultLaws
 pub mod Lists

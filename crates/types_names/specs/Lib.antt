@@ -1,3 +1,5 @@
+pub mod Meanings
+pub mod Laws
 pub mod Scopes
 pub mod Width
 pub mod Faults

@@ -107,7 +107,7 @@ impl Scope {
         Ok(Scope { own, paths })
     }
 
-    /// The same names over the paths of a list.
+    /// These names over the paths of a list.
     pub fn over(self, names: Names) -> Scope
         ensures { scope_of result ≡ record (scope_of self) { dump = look_up (names_in names) } }
     {

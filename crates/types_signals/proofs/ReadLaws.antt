@@ -8,8 +8,10 @@ use Rattle.parser_grammar.specs.Trees.{throughout, joined, Steps, no_step, step,
 use Rattle.parser_grammar.specs.Trees.{PropertyForm, plain, implication, ItemForm, counter, declaration, assertion}
 use Rattle.types_names.specs.declared.own.Own.{Own}
 use Rattle.types_names.specs.Scopes.{Scope, meaning_by, path_text, look_up, owns}
-use Rattle.types_names.specs.Columns.{path_signals, signals, link_signals, part_signals, sequence_signals, step_signals}
-use Rattle.types_names.specs.Columns.{other_signals, property_signals, optional_signals, clause_signals, item_signals}
+use Rattle.types_names.specs.Columns.{path_signals, signals, link_signals, part_signals, sequence_signals}
+use Rattle.types_names.specs.Columns.{step_signals}
+use Rattle.types_names.specs.Columns.{other_signals, property_signals, optional_signals, clause_signals}
+use Rattle.types_names.specs.Columns.{item_signals}
 use Rattle.types_names.specs.Columns.{file_signals, all_listed}
 use Rattle.types_names.specs.Asked.{whole_scope, scope_over_any, asked}
 use Rattle.types_names.proofs.ColumnLaws.{all_listed-append, listed-parts, columns-all}

@@ -99,7 +99,7 @@ fn binary_width(op: Binary, left: usize, right: usize) -> usize
     }
 }
 
-/// The same of an operator of one operand.
+/// The own width of an operator of one operand.
 fn unary_width(op: Unary, operand: usize) -> usize
     ensures { result ≡ unary_width op operand }
 {

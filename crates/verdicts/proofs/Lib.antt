@@ -1,2 +1,2 @@
-pub mod Pieces
-pub mod TallyLaws
+pub mod Sums
+mod StreakCounts

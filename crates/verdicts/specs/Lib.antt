@@ -1,6 +1,4 @@
-pub mod Tallies
-pub mod Lines
-pub mod Totals
-pub mod Shown
-pub mod Texts
-pub mod Written
+pub mod Receipts
+pub mod Counts
+pub mod Blanks
+pub mod Shares

@@ -1,45 +1,36 @@
-//! Reports: what became of each attempt, and the text that says it.
+//! Verdicts of a run: batches of them, the board on which they are published, the tally that counts
+//! them, and the report that says what became of each attempt.
 //!
-//! A line has an assertion's name, how many of its attempts came to each verdict, and those that
-//! failed: where each began and the clock at which it failed, by clock, then start. It is made from
-//! the verdicts, one for each attempt, by start. A report has the number of clocks, a line for each
-//! assertion, and the sums of their counts, each held at 2^64 - 1.
+//! On the board batches are published, with no lock; it only grows. Who publishes a batch gets a
+//! receipt, by which that batch is read, on any thread, for as long as the board lasts. A tally has
+//! the totals of all workers under a lock: verdicts that hold, are vacuous, fail, and are disabled.
+//! Each worker has a share, which says what it added. Batches are those of `machine_batches`;
+//! reports, their lines and their text those of `report_lines`. Both can be imported from here.
 //!
 //! ```text
-//! let line = Line::new(alloc, name, verdicts.as_slice())?;
-//! let report = Report::new(clocks, lines);
+//! let board = Board::new(alloc)?;
+//! let receipt = board.publish(&rt, batch)?;      // or the batch, where memory was refused
+//! let batch = board.read(&receipt);
+//! let totals = tally.add(&rt, &mut share, &batch);
+//! let totals = tally.total(&rt, shares);
 //! write_report(alloc, &report, &mut out)?;
 //! ```
 //!
-//! Each line of the text ends with a line feed:
+//! `Tally::<L>`: `L` names the tally. A function with that parameter is called with `Brand`, and
+//! its proof says which four ledgers the names are (`run` of `workers`).
 //!
-//! ```text
-//! svamon 1
-//! clocks 4
-//! monitor first holds 0 vacuous 1 fails 2 disabled 0 open 1
-//! fail first start 1 clock 2
-//! fail first start 0 clock 3
-//! total holds 0 vacuous 1 fails 2 disabled 0 open 1
-//! ```
+//! The definitions: receipts in `specs/Receipts.antt`, the counts of a batch in
+//! `specs/Counts.antt`, shares in `specs/Shares.antt`, the ledgers of a new tally in
+//! `specs/Blanks.antt`.
 //!
-//! The text is made before the first byte of it is written, so where memory is refused nothing was
-//! written. Where the device fails (G1), it holds a beginning of the text after what it held.
-//!
-//! The definitions: what verdicts come to in `specs/Tallies.antt`; what lines and a report say in
-//! `specs/Lines.antt`, their sums in `specs/Totals.antt`, and what those in memory say in
-//! `specs/Shown.antt`; the text in `specs/Texts.antt`; why it was not written in
-//! `specs/Written.antt`. Verdicts and devices are those of `signals`.
-//!
-//! Not promised: that memory suffices, or that a line which `Line::new` didn't make counts any
-//! verdicts. A name is written as it is, whatever bytes it has.
+//! Not promised: in which order workers publish and add, and that a call returns.
 #![tactic(auto)]
 
-mod failures;
-mod line;
-mod report;
-mod text;
-mod write;
+mod board;
+mod counts;
+mod tally;
 
-pub use line::{Counts, Failure, Line};
-pub use report::Report;
-pub use write::{ReportFault, write_report};
+pub use board::{Board, Receipt};
+pub use machine_batches::{Batch, Streak, Streaks};
+pub use report_lines::{Counts, Failure, Line, Report, ReportFault, write_report};
+pub use tally::{Blanks, Share, Tally, Tallying};

@@ -1,6 +1,6 @@
 -- What is accepted, in two parts: its code is well formed, and its declared limits are enough.
 use Rattle.std.specs.Prelude.{◌≤◌}
-use Rattle.bytecode.specs.Values.{ProgramData}
+use Rattle.bytecode_programs.specs.Values.{ProgramData}
 use Rattle.verifier.specs.Limits.{farthest}
 use Rattle.verifier.specs.Programs.{IsWellFormed, HasRoom, least_stack, least_attempts}
 use Rattle.verifier.specs.Programs.{least_obligations, least_budget}

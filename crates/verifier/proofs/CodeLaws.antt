@@ -3,16 +3,16 @@ use Rattle.std.proofs.Common.{◌≡◌, ◌⊎◌, inl, inr, ℕ, ◌+◌, ◌^
 use Rattle.std.proofs.Common.{List, [], ◌∷◌, ◌++◌, length, map, refl, sym, ap, ◌∙◌, subst, arith}
 use Rattle.std.specs.Prelude.{nat_lt}
 use Rattle.std.proofs.lemmas.Bool.{lt-ltb, ltb-true, cases_Bool}
-use Rattle.bytecode.specs.declared.block_instr.BlockInstr.{BlockInstr}
+use Rattle.bytecode_programs.specs.declared.block_instr.BlockInstr.{BlockInstr}
 use Rattle.verifier.specs.declared.refusal.Refusal.{Refusal}
 use Rattle.verifier.specs.declared.refusal.Refusal.TheVariants.{SlotRange}
 use Rattle.verifier.specs.Rules.{Rules}
-use Rattle.bytecode.specs.Instructions.{leaves}
+use Rattle.bytecode_programs.specs.Instructions.{leaves}
 use Rattle.verifier.specs.Rules.{block_rules}
 use Rattle.verifier.specs.Inference.{Found, found, code_faults, entry}
 use Rattle.verifier.specs.Order.{IsIn, IsFirstRefusal}
 use Rattle.verifier.specs.Typing.{IsCodeTyped, AreShort}
-use Rattle.bytecode.specs.Values.{SectionData}
+use Rattle.bytecode_programs.specs.Values.{SectionData}
 use Rattle.verifier.specs.Sections.{blocks_faults, start_faults, section_faults, AreTyped}
 use Rattle.verifier.specs.Sections.{IsSection}
 use Rattle.verifier.proofs.OrderLaws.{in_append, in_left, stands_from}

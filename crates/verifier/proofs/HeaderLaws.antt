@@ -14,8 +14,8 @@ use Rattle.verifier.specs.Inference.{Found, found}
 use Rattle.verifier.specs.Order.{number_of, fault_part, field_place, IsUpTo, found_place, IsIn, IsFirstFound}
 use Rattle.verifier.specs.Scans.{IsHeadRefusal}
 use Rattle.verifier.specs.Sections.{instructions_in}
-use Rattle.bytecode.specs.Instructions.{frame_of}
-use Rattle.bytecode.specs.Values.{ProgramData}
+use Rattle.bytecode_programs.specs.Instructions.{frame_of}
+use Rattle.bytecode_programs.specs.Values.{ProgramData}
 use Rattle.verifier.specs.Programs.{HasRoom, disable_faults, over, header_refusals}
 use Rattle.verifier.proofs.TypingLaws.{nil_parts}
 

@@ -4,10 +4,10 @@ use Rattle.std.proofs.Common.{arith}
 use Rattle.std.specs.Prelude.{slice_index, ◌==◌}
 use Rattle.std.specs.Int.{bit_at}
 use Rattle.std.proofs.lemmas.Bool.{cases_Bool}
-use Rattle.bytecode.specs.declared.block_instr.BlockInstr.{BlockInstr}
-use Rattle.bytecode.specs.declared.block_instr.BlockInstr.TheVariants.{Unless, Enter, Accept, Stop}
-use Rattle.bytecode.specs.declared.block_instr.BlockInstr.TheVariants.{AcceptFirst}
-use Rattle.bytecode.specs.Values.{SectionData}
+use Rattle.bytecode_programs.specs.declared.block_instr.BlockInstr.{BlockInstr}
+use Rattle.bytecode_programs.specs.declared.block_instr.BlockInstr.TheVariants.{Unless, Enter, Accept, Stop}
+use Rattle.bytecode_programs.specs.declared.block_instr.BlockInstr.TheVariants.{AcceptFirst}
+use Rattle.bytecode_programs.specs.Values.{SectionData}
 use Rattle.verifier.specs.Limits.{longest_entered, lives_from, most_in, start_life}
 
 entered-most : (next m : ℕ) (later : List ℕ) → ((k : ℕ) → slice_index later k ≤ m) → (b : List BlockInstr)

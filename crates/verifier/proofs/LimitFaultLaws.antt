@@ -9,8 +9,8 @@ use Rattle.verifier.specs.declared.refusal.Refusal.TheVariants.{PoolTooSmall, Bu
 use Rattle.verifier.specs.Inference.{Found, found}
 use Rattle.verifier.specs.Order.{IsFirstRefusal, first_refusal}
 use Rattle.verifier.specs.Limits.{farthest}
-use Rattle.bytecode.specs.Values.{ProgramData}
-use Rattle.bytecode.specs.declared.limits.Limits.{Limits}
+use Rattle.bytecode_programs.specs.Values.{ProgramData}
+use Rattle.bytecode_programs.specs.declared.limits.Limits.{Limits}
 use Rattle.verifier.specs.declared.least.LeastLimits.{LeastLimits}
 use Rattle.verifier.specs.Programs.{below, least_stack, least_attempts, least_obligations}
 use Rattle.verifier.specs.Programs.{least_budget, limit_refusals, least_limits, part_faults}

@@ -2,12 +2,12 @@
 use Rattle.std.proofs.Common.{◌≡◌, ◌⊎◌, inl, inr, ℕ, ◌+◌, ◌<◌, ◌≤◌, ◌==◌, Bool, true, false, cond}
 use Rattle.std.proofs.Common.{List, [], ◌∷◌, ◌++◌, length, map, refl, sym, ap, ◌∙◌, subst, arith}
 use Rattle.std.specs.Prelude.{nat_lt, nat_le}
-use Rattle.bytecode.specs.declared.flow.Flow.{Flow}
-use Rattle.bytecode.specs.declared.flow.Flow.TheVariants.{Stops, GoesOn, Jumps, Branches}
+use Rattle.bytecode_programs.specs.declared.flow.Flow.{Flow}
+use Rattle.bytecode_programs.specs.declared.flow.Flow.TheVariants.{Stops, GoesOn, Jumps, Branches}
 use Rattle.verifier.specs.declared.refusal.Refusal.{Refusal}
 use Rattle.verifier.specs.declared.refusal.Refusal.TheVariants.{Overflow, JumpRange, BackwardJump}
 use Rattle.verifier.specs.declared.refusal.Refusal.TheVariants.{NoHalt}
-use Rattle.bytecode.specs.Instructions.{Effect, leaves, too_few, misfit}
+use Rattle.bytecode_programs.specs.Instructions.{Effect, leaves, too_few, misfit}
 use Rattle.verifier.specs.Rules.{Rules}
 use Rattle.verifier.specs.Inference.{Message, ArrivalData, nothing, agreed, mismatch, arrival_at}
 use Rattle.verifier.specs.Inference.{effect_faults, operand_faults, target_faults, jump_faults}

@@ -8,9 +8,9 @@ use Rattle.verifier.specs.Rules.{sample_rules}
 use Rattle.verifier.specs.Inference.{Found, found, code_faults, entry}
 use Rattle.verifier.specs.Typing.{IsCodeTyped, AreShort, longest_list}
 use Rattle.verifier.specs.Sections.{section_faults}
-use Rattle.bytecode.specs.Instructions.{frame_of}
+use Rattle.bytecode_programs.specs.Instructions.{frame_of}
 use Rattle.verifier.proofs.CodeLaws.{typed_code, faultless_code, typed_section, faultless_section}
-use Rattle.bytecode.specs.Values.{ProgramData}
+use Rattle.bytecode_programs.specs.Values.{ProgramData}
 use Rattle.verifier.specs.Programs.{disable_faults, header_refusals, part_faults, least_stack}
 use Rattle.verifier.specs.Programs.{HasRoom, IsAtom, IsWellFormed}
 use Rattle.verifier.proofs.TypingLaws.{nil_parts, nil_map, longest_typed}

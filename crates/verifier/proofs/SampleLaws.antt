@@ -1,7 +1,7 @@
 -- What holds of the rules of sample code.
 use Rattle.std.proofs.Common.{ℕ, Bool, true, false, [], ◌∷◌, cond, refl, arith}
 use Rattle.verifier.specs.declared.refusal.Refusal.TheVariants.{SlotRange}
-use Rattle.bytecode.specs.Instructions.{FrameData, is_there}
+use Rattle.bytecode_programs.specs.Instructions.{FrameData, is_there}
 use Rattle.verifier.specs.Rules.{sample_rules}
 use Rattle.verifier.proofs.OrderLaws.{Rises, NamesRise}
 

@@ -4,10 +4,10 @@ use Rattle.std.proofs.Common.{Option, refl, sym, ap, ◌∙◌, subst, append-ni
 use Rattle.std.proofs.lemmas.List.{drop_more, drop_all, drop-map}
 use Rattle.std.specs.Global.{Vec}
 use Rattle.verifier.specs.Views.{blocks_of}
-use Rattle.bytecode.specs.declared.block_instr.BlockInstr.{BlockInstr}
+use Rattle.bytecode_programs.specs.declared.block_instr.BlockInstr.{BlockInstr}
 use Rattle.verifier.specs.Rules.{block_rules}
 use Rattle.verifier.specs.Inference.{Found, code_faults}
-use Rattle.bytecode.specs.Values.{SectionData}
+use Rattle.bytecode_programs.specs.Values.{SectionData}
 use Rattle.verifier.specs.Sections.{blocks_faults, start_faults, section_faults}
 use Rattle.verifier.specs.Scans.{IsFirstOf}
 

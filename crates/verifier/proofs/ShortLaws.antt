@@ -3,22 +3,22 @@ use Rattle.std.proofs.Common.{◌≡◌, ◌⊎◌, inl, inr, ℕ, zero, suc, �
 use Rattle.std.proofs.Common.{length, Some, refl, sym, ap, ◌∙◌, subst, arith}
 use Rattle.std.specs.Prelude.{slice_get}
 use Rattle.std.proofs.lemmas.Option.{slice_get_within}
-use Rattle.bytecode.specs.declared.flow.Flow.{Flow}
-use Rattle.bytecode.specs.declared.flow.Flow.TheVariants.{Stops, GoesOn, Jumps, Branches}
-use Rattle.bytecode.specs.declared.sample_instr.SampleInstr.{SampleInstr}
-use Rattle.bytecode.specs.declared.sample_instr.SampleInstr.TheVariants.{Push, Load, Past, Join}
-use Rattle.bytecode.specs.declared.sample_instr.SampleInstr.TheVariants.{Compare, Shift, Not}
-use Rattle.bytecode.specs.declared.sample_instr.SampleInstr.TheVariants.{Reduce, Concat, Zext}
-use Rattle.bytecode.specs.declared.sample_instr.SampleInstr.TheVariants.{Slice, Mux, Jump}
-use Rattle.bytecode.specs.declared.sample_instr.SampleInstr.TheVariants.{JumpIfZero, SetAtom, Store}
-use Rattle.bytecode.specs.declared.sample_instr.SampleInstr.TheVariants.{Halt}
-use Rattle.bytecode.specs.Instructions.{leaves}
-use Rattle.bytecode.specs.Instructions.{FrameData, sample_flow, sample_effect}
+use Rattle.bytecode_programs.specs.declared.flow.Flow.{Flow}
+use Rattle.bytecode_programs.specs.declared.flow.Flow.TheVariants.{Stops, GoesOn, Jumps, Branches}
+use Rattle.bytecode_programs.specs.declared.sample_instr.SampleInstr.{SampleInstr}
+use Rattle.bytecode_programs.specs.declared.sample_instr.SampleInstr.TheVariants.{Push, Load, Past, Join}
+use Rattle.bytecode_programs.specs.declared.sample_instr.SampleInstr.TheVariants.{Compare, Shift, Not}
+use Rattle.bytecode_programs.specs.declared.sample_instr.SampleInstr.TheVariants.{Reduce, Concat, Zext}
+use Rattle.bytecode_programs.specs.declared.sample_instr.SampleInstr.TheVariants.{Slice, Mux, Jump}
+use Rattle.bytecode_programs.specs.declared.sample_instr.SampleInstr.TheVariants.{JumpIfZero, SetAtom, Store}
+use Rattle.bytecode_programs.specs.declared.sample_instr.SampleInstr.TheVariants.{Halt}
+use Rattle.bytecode_programs.specs.Instructions.{leaves}
+use Rattle.bytecode_programs.specs.Instructions.{FrameData, sample_flow, sample_effect}
 use Rattle.verifier.specs.Rules.{sample_rules}
-use Rattle.bytecode.specs.Instructions.{LeadsTo}
+use Rattle.bytecode_programs.specs.Instructions.{LeadsTo}
 use Rattle.verifier.specs.Typing.{IsFine, IsCodeTyped, AreShort, longest_list}
-use Rattle.bytecode.specs.Instructions.{frame_of}
-use Rattle.bytecode.specs.Values.{ProgramData}
+use Rattle.bytecode_programs.specs.Instructions.{frame_of}
+use Rattle.bytecode_programs.specs.Values.{ProgramData}
 use Rattle.verifier.specs.Programs.{all_faults, IsAccepted}
 use Rattle.verifier.proofs.Acceptable.{IsAcceptable}
 use Rattle.verifier.specs.declared.refusal.Refusal.{Refusal}

@@ -8,12 +8,12 @@ use Rattle.std.proofs.lemmas.Slice.Eq.{bytes_eq-Decides}
 use Rattle.std.proofs.lemmas.Bool.{cases_Bool, cases_eq, eqb-true, eqb-false, eq-eqb, ne_eqb}
 use Rattle.std.proofs.lemmas.Bool.{ltb-false, leb-false, le-ltb, lt-leb}
 use Rattle.std.proofs.lemmas.Option.{slice_get_within}
-use Rattle.bytecode.specs.declared.flow.Flow.{Flow}
-use Rattle.bytecode.specs.declared.flow.Flow.TheVariants.{Stops, GoesOn, Jumps, Branches}
+use Rattle.bytecode_programs.specs.declared.flow.Flow.{Flow}
+use Rattle.bytecode_programs.specs.declared.flow.Flow.TheVariants.{Stops, GoesOn, Jumps, Branches}
 use Rattle.verifier.specs.declared.refusal.Refusal.{Refusal}
 use Rattle.verifier.specs.declared.refusal.Refusal.TheVariants.{Overflow, JumpRange, BackwardJump}
 use Rattle.verifier.specs.declared.refusal.Refusal.TheVariants.{NoHalt}
-use Rattle.bytecode.specs.Instructions.{Effect, leaves, too_few, misfit}
+use Rattle.bytecode_programs.specs.Instructions.{Effect, leaves, too_few, misfit}
 use Rattle.verifier.specs.Rules.{Rules}
 use Rattle.verifier.specs.Inference.{Message, ArrivalData, nothing, agreed, mismatch, merge}
 use Rattle.verifier.specs.Inference.{arrival_at, sends, effect_faults, operand_faults}
@@ -22,7 +22,7 @@ use Rattle.verifier.specs.Inference.{faults_at, after_of, left_by, if_faultless,
 use Rattle.verifier.specs.Inference.{faults_from, entry}
 use Rattle.verifier.specs.Scans.{list_at, longest_agreed}
 use Rattle.verifier.specs.Order.{IsIn}
-use Rattle.bytecode.specs.Instructions.{LeadsTo}
+use Rattle.bytecode_programs.specs.Instructions.{LeadsTo}
 use Rattle.verifier.specs.Typing.{IsFine, IsCodeTyped, AreShort, longest_list}
 use Rattle.verifier.proofs.ScanLaws.{told-clear}
 

@@ -8,8 +8,8 @@ use Rattle.verifier.specs.Inference.{Found, found, code_faults}
 use Rattle.verifier.specs.Order.{IsIn, IsFirstFound, IsFirstRefusal, first_refusal}
 use Rattle.verifier.specs.Scans.{IsFirstOf}
 use Rattle.verifier.specs.Sections.{section_faults}
-use Rattle.bytecode.specs.Instructions.{frame_of}
-use Rattle.bytecode.specs.Values.{ProgramData}
+use Rattle.bytecode_programs.specs.Instructions.{frame_of}
+use Rattle.bytecode_programs.specs.Values.{ProgramData}
 use Rattle.verifier.specs.Programs.{header_refusals, limit_refusals, least_limits, part_faults}
 use Rattle.verifier.specs.Programs.{all_faults, HasRoom}
 use Rattle.verifier.proofs.OrderLaws.{in_append, in_left}

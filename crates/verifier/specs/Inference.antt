@@ -2,15 +2,15 @@
 use Rattle.std.specs.Prelude.{ℕ, ◌+◌, ◌==◌, nat_le, nat_lt, if◌then◌else◌, List, [], ◌∷◌, ◌++◌}
 use Rattle.std.specs.Prelude.{length, map}
 use Rattle.std.specs.Str.{bytes_eq}
-use Rattle.bytecode.specs.declared.flow.Flow.{Flow}
-use Rattle.bytecode.specs.declared.flow.Flow.TheVariants.{Stops, GoesOn, Jumps, Branches}
+use Rattle.bytecode_programs.specs.declared.flow.Flow.{Flow}
+use Rattle.bytecode_programs.specs.declared.flow.Flow.TheVariants.{Stops, GoesOn, Jumps, Branches}
 use Rattle.verifier.specs.declared.refusal.Refusal.{Refusal}
 use Rattle.verifier.specs.declared.refusal.Refusal.TheVariants.{Operand, Underflow}
 use Rattle.verifier.specs.declared.refusal.Refusal.TheVariants.{Overflow}
 use Rattle.verifier.specs.declared.refusal.Refusal.TheVariants.{JumpRange, BackwardJump}
 use Rattle.verifier.specs.declared.refusal.Refusal.TheVariants.{JoinMismatch, Unreached}
 use Rattle.verifier.specs.declared.refusal.Refusal.TheVariants.{NoHalt}
-use Rattle.bytecode.specs.Instructions.{Effect, leaves, too_few, misfit}
+use Rattle.bytecode_programs.specs.Instructions.{Effect, leaves, too_few, misfit}
 use Rattle.verifier.specs.Rules.{Rules}
 
 -- A list that an instruction sends to one of its successors.

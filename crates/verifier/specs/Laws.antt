@@ -1,8 +1,8 @@
 -- Laws of typing and of acceptance.
 use Rattle.std.specs.Prelude.{◌≡◌, ◌↔◌, ℕ, List, []}
-use Rattle.bytecode.specs.declared.sample_instr.SampleInstr.{SampleInstr}
-use Rattle.bytecode.specs.Values.{SectionData, ProgramData}
-use Rattle.bytecode.specs.Instructions.{FrameData, frame_of}
+use Rattle.bytecode_programs.specs.declared.sample_instr.SampleInstr.{SampleInstr}
+use Rattle.bytecode_programs.specs.Values.{SectionData, ProgramData}
+use Rattle.bytecode_programs.specs.Instructions.{FrameData, frame_of}
 use Rattle.verifier.specs.Rules.{sample_rules}
 use Rattle.verifier.specs.Inference.{code_faults}
 use Rattle.verifier.specs.Typing.{IsTypable, IsCodeTyped, AreShort, longest_list}

@@ -2,14 +2,14 @@
 use Rattle.std.specs.Prelude.{ℕ, ◌+◌, ◌-◌, ◌==◌, if◌then◌else◌, max, List, [], ◌∷◌, length, map}
 use Rattle.std.specs.Prelude.{slice_index}
 use Rattle.std.specs.Int.{bit_at}
-use Rattle.bytecode.specs.declared.flow.Flow.{Flow}
-use Rattle.bytecode.specs.declared.flow.Flow.TheVariants.{Stops, GoesOn, Jumps, Branches}
-use Rattle.bytecode.specs.declared.sample_instr.SampleInstr.{SampleInstr}
-use Rattle.bytecode.specs.declared.sample_instr.SampleInstr.TheVariants.{Past}
-use Rattle.bytecode.specs.declared.block_instr.BlockInstr.{BlockInstr}
-use Rattle.bytecode.specs.declared.block_instr.BlockInstr.TheVariants.{Enter}
-use Rattle.bytecode.specs.Instructions.{block_flow}
-use Rattle.bytecode.specs.Values.{SectionData}
+use Rattle.bytecode_programs.specs.declared.flow.Flow.{Flow}
+use Rattle.bytecode_programs.specs.declared.flow.Flow.TheVariants.{Stops, GoesOn, Jumps, Branches}
+use Rattle.bytecode_programs.specs.declared.sample_instr.SampleInstr.{SampleInstr}
+use Rattle.bytecode_programs.specs.declared.sample_instr.SampleInstr.TheVariants.{Past}
+use Rattle.bytecode_programs.specs.declared.block_instr.BlockInstr.{BlockInstr}
+use Rattle.bytecode_programs.specs.declared.block_instr.BlockInstr.TheVariants.{Enter}
+use Rattle.bytecode_programs.specs.Instructions.{block_flow}
+use Rattle.bytecode_programs.specs.Values.{SectionData}
 
 -- how far back an instruction reads
 abbrev pub reach_of : SampleInstr → ℕ

@@ -1,7 +1,7 @@
 -- Programs: all their faults, and which of them are well formed.
 use Rattle.std.specs.Prelude.{◌≡◌, ℕ, ◌+◌, ◌-◌, ◌*◌, ◌<◌, ◌≤◌, nat_lt, if◌then◌else◌, List, [], ◌∷◌}
 use Rattle.std.specs.Prelude.{◌++◌, length, map, Option, Some, None}
-use Rattle.bytecode.specs.declared.limits.Limits.{Limits}
+use Rattle.bytecode_programs.specs.declared.limits.Limits.{Limits}
 use Rattle.verifier.specs.declared.least.LeastLimits.{LeastLimits}
 use Rattle.verifier.specs.declared.pool.Pool.TheVariants as pools
 use Rattle.verifier.specs.declared.field.Field.{Field}
@@ -13,10 +13,10 @@ use Rattle.verifier.specs.declared.refusal.Refusal.TheVariants.{StackTooShort}
 use Rattle.verifier.specs.declared.refusal.Refusal.TheVariants.{PoolTooSmall}
 use Rattle.verifier.specs.declared.refusal.Refusal.TheVariants.{BudgetTooSmall}
 use Rattle.verifier.specs.declared.refusal.Refusal.TheVariants.{LimitTooLarge}
-use Rattle.bytecode.specs.Instructions.{frame_of, sample_flow}
+use Rattle.bytecode_programs.specs.Instructions.{frame_of, sample_flow}
 use Rattle.verifier.specs.Rules.{sample_rules}
 use Rattle.verifier.specs.Inference.{Found, found, code_faults}
-use Rattle.bytecode.specs.Values.{ProgramData}
+use Rattle.bytecode_programs.specs.Values.{ProgramData}
 use Rattle.verifier.specs.Sections.{section_faults, IsSection, instructions_in}
 use Rattle.verifier.specs.Scans.{entry_longest}
 use Rattle.verifier.specs.Typing.{IsCodeTyped, AreShort, longest_list}

@@ -1,13 +1,15 @@
 -- Rules of instructions: what the faults of code and its typing need to know of each, for sample
 -- code and for blocks.
 use Rattle.std.specs.Prelude.{ℕ, ◌==◌, nat_lt, if◌then◌else◌, List, [], ◌∷◌}
-use Rattle.bytecode.specs.declared.flow.Flow.{Flow}
-use Rattle.bytecode.specs.declared.sample_instr.SampleInstr.{SampleInstr}
-use Rattle.bytecode.specs.declared.block_instr.BlockInstr.{BlockInstr}
-use Rattle.bytecode.specs.declared.block_instr.BlockInstr.TheVariants.{Unless, Enter, Accept, Stop}
-use Rattle.bytecode.specs.declared.block_instr.BlockInstr.TheVariants.{AcceptFirst}
-use Rattle.bytecode.specs.Instructions.{FrameData, Effect, leaves, sample_flow, sample_effect}
-use Rattle.bytecode.specs.Instructions.{is_there, block_flow}
+use Rattle.bytecode_programs.specs.declared.flow.Flow.{Flow}
+use Rattle.bytecode_programs.specs.declared.sample_instr.SampleInstr.{SampleInstr}
+use Rattle.bytecode_programs.specs.declared.block_instr.BlockInstr.{BlockInstr}
+use Rattle.bytecode_programs.specs.declared.block_instr.BlockInstr.TheVariants.{Unless, Enter}
+use Rattle.bytecode_programs.specs.declared.block_instr.BlockInstr.TheVariants.{Accept, Stop}
+use Rattle.bytecode_programs.specs.declared.block_instr.BlockInstr.TheVariants.{AcceptFirst}
+use Rattle.bytecode_programs.specs.Instructions.{FrameData, Effect, leaves, sample_flow}
+use Rattle.bytecode_programs.specs.Instructions.{sample_effect}
+use Rattle.bytecode_programs.specs.Instructions.{is_there, block_flow}
 use Rattle.verifier.specs.declared.side.Side.{Side}
 use Rattle.verifier.specs.declared.side.Side.TheVariants.{Antecedent, Consequent}
 use Rattle.verifier.specs.declared.refusal.Refusal.{Refusal}

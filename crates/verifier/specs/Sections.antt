@@ -1,7 +1,7 @@
 -- Sections: their faults, and which of them are well formed.
 use Rattle.std.specs.Prelude.{ℕ, ◌+◌, ◌^◌, ◌<◌, nat_lt, if◌then◌else◌, List, [], ◌∷◌, ◌++◌, length}
-use Rattle.bytecode.specs.Values.{SectionData}
-use Rattle.bytecode.specs.declared.block_instr.BlockInstr.{BlockInstr}
+use Rattle.bytecode_programs.specs.Values.{SectionData}
+use Rattle.bytecode_programs.specs.declared.block_instr.BlockInstr.{BlockInstr}
 use Rattle.verifier.specs.declared.refusal.Refusal.TheVariants.{SlotRange}
 use Rattle.verifier.specs.Rules.{block_rules}
 use Rattle.verifier.specs.Inference.{Found, found, code_faults}

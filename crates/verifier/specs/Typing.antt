@@ -1,9 +1,9 @@
 -- Well formed code: there is a table of lists.
 use Rattle.std.specs.Prelude.{◌≡◌, ℕ, ◌+◌, ◌-◌, ◌<◌, ◌≤◌, max, List, [], ◌∷◌, length, Some}
 use Rattle.std.specs.Prelude.{slice_get}
-use Rattle.bytecode.specs.declared.flow.Flow.TheVariants.{Stops}
-use Rattle.bytecode.specs.declared.sample_instr.SampleInstr.{SampleInstr}
-use Rattle.bytecode.specs.Instructions.{FrameData, leaves, LeadsTo}
+use Rattle.bytecode_programs.specs.declared.flow.Flow.TheVariants.{Stops}
+use Rattle.bytecode_programs.specs.declared.sample_instr.SampleInstr.{SampleInstr}
+use Rattle.bytecode_programs.specs.Instructions.{FrameData, leaves, LeadsTo}
 use Rattle.verifier.specs.Rules.{Rules, sample_rules}
 
 -- An instruction at pc, of code that ends at end.

@@ -1,9 +1,9 @@
 -- What the code's values stand for.
 use Rattle.std.specs.Prelude.{ℕ, List, map, Option, Some, None}
 use Rattle.std.specs.Global.{Vec}
-use Rattle.bytecode.specs.declared.block_instr.BlockInstr.{BlockInstr}
-use Rattle.bytecode.specs.Instructions.{FrameData, Effect, leaves, too_few, misfit}
-use Rattle.bytecode.specs.declared.sample_instr.SampleInstr.{SampleInstr}
+use Rattle.bytecode_programs.specs.declared.block_instr.BlockInstr.{BlockInstr}
+use Rattle.bytecode_programs.specs.Instructions.{FrameData, Effect, leaves, too_few, misfit}
+use Rattle.bytecode_programs.specs.declared.sample_instr.SampleInstr.{SampleInstr}
 use Rattle.verifier.specs.Rules.{Rules, sample_rules}
 use Rattle.verifier.specs.declared.frame.Frame.{Frame}
 use Rattle.verifier.specs.declared.stack.RuleOutcome.{RuleOutcome}

@@ -3,7 +3,7 @@
 ghost use Rattle.std.specs.Prelude.{◌≡◌, ◌⊎◌, ◌++◌, List, [], IfOk, OnOk, IfErr};
 ghost use Rattle.verifier.specs.declared.refusal.Refusal.{Refusal};
 ghost use Rattle.verifier.specs.Order.{first_refusal, IsFirstRefusal};
-ghost use Rattle.bytecode.specs.Programs.{data_of};
+ghost use Rattle.bytecode_programs.specs.Programs.{data_of};
 ghost use Rattle.verifier.specs.Programs.{sample_faults, part_faults, all_faults, least_stack};
 ghost use Rattle.verifier.specs.Programs.{least_limits};
 ghost use Rattle.verifier.specs.Programs.{below, limit_refusals, HasRoom, IsAccepted};
@@ -18,7 +18,7 @@ use crate::sample_scan::infer;
 use crate::section_scan::section_fault;
 use crate::side::Side;
 use crate::verified::Verified;
-use bytecode::{Limits, Program};
+use bytecode_programs::{Limits, Program};
 use std::alloc::Global;
 
 /// The longest list of the sample code, or its first fault.

@@ -21,7 +21,7 @@ pub enum Field {
 
 impl Field {
     /// Its words in a line.
-    fn words(self) -> &'static str {
+    pub fn words(self) -> &'static str {
         match self {
             Field::History => "history",
             Field::Stack => "stack",

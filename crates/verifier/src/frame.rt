@@ -1,6 +1,6 @@
 //! What sample code may name.
 
-use bytecode::Program;
+use bytecode_programs::Program;
 use std::alloc::{AllocError, Global};
 
 /// The widths of the slots (the constant's bit, the signals, the counters) and of the counters, and
@@ -14,8 +14,8 @@ pub struct Frame {
 
 impl Frame {
     ghost use Rattle.std.specs.Prelude.{◌≡◌, IfOk};
-    ghost use Rattle.bytecode.specs.Instructions.{frame_of};
-    ghost use Rattle.bytecode.specs.Programs.{data_of};
+    ghost use Rattle.bytecode_programs.specs.Instructions.{frame_of};
+    ghost use Rattle.bytecode_programs.specs.Programs.{data_of};
     ghost use Rattle.verifier.specs.Views.{frame_data};
 
     /// That of a program.

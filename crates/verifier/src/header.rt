@@ -4,15 +4,15 @@ ghost use Rattle.std.specs.Prelude.{◌≡◌, ◌++◌, List, length};
 ghost use Rattle.verifier.specs.declared.refusal.Refusal.{Refusal};
 ghost use Rattle.verifier.specs.Order.{first_refusal};
 ghost use Rattle.verifier.specs.Sections.{instructions_in};
-ghost use Rattle.bytecode.specs.Instructions.{frame_of};
-ghost use Rattle.bytecode.specs.Programs.{data_of};
-ghost use Rattle.bytecode.specs.Views.{section_data};
+ghost use Rattle.bytecode_programs.specs.Instructions.{frame_of};
+ghost use Rattle.bytecode_programs.specs.Programs.{data_of};
+ghost use Rattle.bytecode_programs.specs.Views.{section_data};
 ghost use Rattle.verifier.specs.Programs.{disable_faults, over, header_refusals};
 
 use crate::field::Field;
 use crate::refusal::Refusal;
 use crate::section_scan::capped_size;
-use bytecode::{Program, Section};
+use bytecode_programs::{Program, Section};
 
 /// The fault of a disabling atom that isn't there.
 fn disable_fault(disable: Option<u8>, atoms: u8) -> Option<Refusal>
@@ -47,7 +47,7 @@ fn or_over(first: Option<Refusal>, most: usize, number: usize, field: Field) -> 
     }
 }
 
-/// The same of a part's code.
+/// The fault that was found, or else that of a part's code that is over the most.
 fn or_over_size(first: Option<Refusal>, section: &Section, field: Field) -> Option<Refusal>
     ensures { (rs : List Refusal) → first ≡ first_refusal rs →
         result ≡ first_refusal

@@ -18,7 +18,8 @@
 //! The definitions: what is accepted, all faults and the least limits in `specs/Programs.antt` and
 //! `specs/Limits.antt`; rules of instructions in `specs/Rules.antt`, faults by what arrives in
 //! `specs/Inference.antt`, their order in `specs/Order.antt`, tables of lists in
-//! `specs/Typing.antt`, sections in `specs/Sections.antt`; the table of instructions in `bytecode`.
+//! `specs/Typing.antt`, sections in `specs/Sections.antt`; the table of instructions in
+//! `bytecode_programs`.
 //! The laws of `typing_law` and `verifying_law` tie the two: no fault stands exactly where a table
 //! types the code and a program is accepted, and the least stack is the longest list of any table.
 //!
@@ -45,6 +46,7 @@ mod stack;
 mod verified;
 
 pub use accept::{least_limits, verify};
+pub use bytecode_programs::Limits;
 pub use fault::Fault;
 pub use field::Field;
 pub use frame::Frame;

@@ -1,16 +1,16 @@
 //! The least limits of a program.
 
 ghost use Rattle.std.specs.Prelude.{◌≡◌, ◌≤◌, ◌+◌, ◌*◌, max, map, IfOk};
-ghost use Rattle.bytecode.specs.Instructions.{sample_flow};
-ghost use Rattle.bytecode.specs.Views.{section_data};
-ghost use Rattle.bytecode.specs.Programs.{data_of};
+ghost use Rattle.bytecode_programs.specs.Instructions.{sample_flow};
+ghost use Rattle.bytecode_programs.specs.Views.{section_data};
+ghost use Rattle.bytecode_programs.specs.Programs.{data_of};
 ghost use Rattle.verifier.specs.Limits.{reach_of, farthest, longest_path, path_sum};
 ghost use Rattle.verifier.specs.Programs.{HasRoom, least_stack, least_limits};
 
 use crate::least::LeastLimits;
 use crate::lives::start_life;
 use crate::paths::{path_sum, sample_path};
-use bytecode::{Program, SampleInstr};
+use bytecode_programs::{Program, SampleInstr};
 use std::alloc::{AllocError, Global};
 
 /// How far back an instruction reads.

@@ -4,10 +4,10 @@ ghost use Rattle.std.specs.Prelude.{◌≡◌, ◌≤◌, ◌+◌, ℕ, length, 
 ghost use Rattle.verifier.specs.Limits.{entered_life, longest_entered, lives_from, life_in};
 ghost use Rattle.verifier.specs.Limits.{most_in, start_life};
 ghost use Rattle.verifier.specs.Views.{blocks_of};
-ghost use Rattle.bytecode.specs.Views.{section_data};
+ghost use Rattle.bytecode_programs.specs.Views.{section_data};
 
 use crate::paths::path_from;
-use bytecode::{BlockInstr, Section};
+use bytecode_programs::{BlockInstr, Section};
 use std::alloc::{AllocError, Global};
 
 /// The life of the position that an instruction enters, if it does.

@@ -2,12 +2,12 @@
 
 ghost use Rattle.std.specs.Prelude.{◌≡◌, ◌<◌, ◌≤◌, ◌+◌, ◌-◌, ◌^◌, ℕ, List, length, map, drop};
 ghost use Rattle.std.specs.Prelude.{slice_index, IfOk};
-ghost use Rattle.bytecode.specs.Instructions.{sample_flow, block_flow};
+ghost use Rattle.bytecode_programs.specs.Instructions.{sample_flow, block_flow};
 ghost use Rattle.verifier.specs.Limits.{path_of, paths_from, longest_path, path_sum};
 ghost use Rattle.verifier.specs.Sections.{instructions_in};
 ghost use Rattle.verifier.specs.Views.{blocks_of};
 
-use bytecode::{BlockInstr, Flow, SampleInstr};
+use bytecode_programs::{BlockInstr, Flow, SampleInstr};
 use std::alloc::{AllocError, Global};
 
 /// The path from a place, 0 past the end.

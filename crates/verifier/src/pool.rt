@@ -9,11 +9,18 @@ pub enum Pool {
     Obligations,
 }
 
+impl Pool {
+    /// Its word in a line.
+    pub fn words(self) -> &'static str {
+        match self {
+            Pool::Attempts => "attempts",
+            Pool::Obligations => "obligations",
+        }
+    }
+}
+
 impl Display for Pool {
     fn fmt<W: Write>(&self, f: &mut Formatter<W>) -> Result {
-        match self {
-            Pool::Attempts => f.write_str("attempts"),
-            Pool::Obligations => f.write_str("obligations"),
-        }
+        f.write_str(self.words())
     }
 }

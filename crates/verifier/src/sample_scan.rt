@@ -3,7 +3,7 @@
 ghost use Rattle.std.specs.Prelude.{◌≡◌, ◌⊎◌, ◌<◌, ◌≤◌, ◌+◌, ◌++◌, ℕ, List, [], length};
 ghost use Rattle.std.specs.Prelude.{reverse, OnOk, IfOk, IfErr};
 ghost use Rattle.verifier.specs.declared.refusal.Refusal.{Refusal};
-ghost use Rattle.bytecode.specs.Instructions.{sample_flow};
+ghost use Rattle.bytecode_programs.specs.Instructions.{sample_flow};
 ghost use Rattle.verifier.specs.Inference.{Message, ArrivalData, sends, operand_faults};
 ghost use Rattle.verifier.specs.Inference.{jump_faults, arrival_faults, end_faults};
 ghost use Rattle.verifier.specs.Inference.{faults_at};
@@ -17,7 +17,7 @@ use crate::arrival::{Arrival, first_arrivals, send, take_arrival};
 use crate::frame::Frame;
 use crate::refusal::Refusal;
 use crate::stack::{RuleOutcome, apply, is_there};
-use bytecode::{Flow, SampleInstr};
+use bytecode_programs::{Flow, SampleInstr};
 use std::alloc::{AllocError, Global};
 
 /// The fault of a target.

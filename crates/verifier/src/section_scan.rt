@@ -11,14 +11,14 @@ ghost use Rattle.verifier.specs.Scans.{IsFirstOf};
 ghost use Rattle.verifier.specs.Marks.{marked, MarksReached, found_in};
 ghost use Rattle.verifier.specs.Sections.{blocks_faults, section_faults, start_faults};
 ghost use Rattle.verifier.specs.Sections.{instructions_in};
-ghost use Rattle.bytecode.specs.Views.{section_data};
+ghost use Rattle.bytecode_programs.specs.Views.{section_data};
 ghost use Rattle.verifier.specs.Views.{blocks_of};
 
 use crate::fault::{Fault, earlier};
 use crate::refusal::Refusal;
 use crate::sample_scan::{end_fault, jump_fault};
 use crate::side::Side;
-use bytecode::{BlockInstr, Flow, Section};
+use bytecode_programs::{BlockInstr, Flow, Section};
 use std::alloc::{AllocError, Global};
 
 /// The fault of what an instruction names in the block of position `p`.

@@ -2,12 +2,13 @@
 
 ghost use Rattle.std.specs.Prelude.{◌≡◌, ◌<◌, ◌+◌, ◌-◌, ◌==◌, ◌&&◌, nat_le, nat_lt, ℕ};
 ghost use Rattle.std.specs.Prelude.{List, ◌∷◌, length, reverse, IfOk, slice_get, slice_index};
-ghost use Rattle.bytecode.specs.Instructions.{Effect, leaves, sample_effect, is_there, if_fits};
-ghost use Rattle.bytecode.specs.Instructions.{is_counter_width, one, two, three};
+ghost use Rattle.bytecode_programs.specs.Instructions.{Effect, leaves, sample_effect, is_there};
+ghost use Rattle.bytecode_programs.specs.Instructions.{if_fits};
+ghost use Rattle.bytecode_programs.specs.Instructions.{is_counter_width, one, two, three};
 ghost use Rattle.verifier.specs.Views.{frame_data, effect_when, on_one, on_two, on_three};
 
 use crate::frame::Frame;
-use bytecode::SampleInstr;
+use bytecode_programs::SampleInstr;
 use std::alloc::AllocError;
 
 /// Whether what an instruction names is there.

@@ -1,7 +1,7 @@
 //! Programs that were accepted.
 
 use crate::least::LeastLimits;
-use bytecode::{Limits, Program};
+use bytecode_programs::{Limits, Program};
 use std::alloc::{AllocError, Global};
 use std::marker::Model;
 
@@ -13,8 +13,8 @@ pub struct Verified {
 }
 
 impl Model for Verified {
-    ghost use Rattle.bytecode.specs.Values.{ProgramData};
-    ghost use Rattle.bytecode.specs.Programs.{data_of};
+    ghost use Rattle.bytecode_programs.specs.Values.{ProgramData};
+    ghost use Rattle.bytecode_programs.specs.Programs.{data_of};
     ghost use Rattle.verifier.specs.Programs.{IsVerified};
 
     ghost Value = { ProgramData };
@@ -26,7 +26,7 @@ impl Model for Verified {
 
 impl Verified {
     ghost use Rattle.std.specs.Prelude.{◌≡◌, IfOk};
-    ghost use Rattle.bytecode.specs.Programs.{data_of};
+    ghost use Rattle.bytecode_programs.specs.Programs.{data_of};
     ghost use Rattle.verifier.specs.Limits.{start_life};
     ghost use Rattle.verifier.specs.Programs.{least_limits, IsAccepted};
 
@@ -65,7 +65,7 @@ impl Verified {
         ((attempts + 1 - obligations) as u16, obligations as u16)
     }
 
-    /// The same, elsewhere in memory.
+    /// A copy of the verified program.
     pub fn copy(&self, alloc: Global) -> Result<Verified, AllocError>
         ensures { IfOk result (λ copied. copied ≡ self.now) }
     {

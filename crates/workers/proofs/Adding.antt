@@ -9,35 +9,35 @@ use Rattle.std.proofs.lemmas.Option.{slice_get_within}
 use Rattle.signals.specs.declared.verdict.Verdict.{Verdict}
 use Rattle.signals.specs.declared.verdict.Verdict.TheVariants as outcome
 use Rattle.signals.specs.declared.verdict.Decided.{Decided}
-use Rattle.bytecode.specs.Values.{ProgramData}
+use Rattle.bytecode_programs.specs.Values.{ProgramData}
 use Rattle.cycle_window.specs.declared.window.Window.{Window}
 use Rattle.cycle_window.specs.Held.{first_in}
-use Rattle.machine_definition.specs.Clocks.{Attempt}
-use Rattle.machine_definition.specs.Runs.{open_ones}
-use Rattle.machine_decisions.specs.Batches.{batch_of}
-use Rattle.verdicts.specs.declared.line.Line.{Line}
-use Rattle.verdicts.specs.Tallies.{tally_of}
-use Rattle.verdicts.specs.Lines.{LineData, ReportData, line}
-use Rattle.verdicts.specs.declared.line.Counts.{Counts}
+use Rattle.machine_checked.specs.Clocks.{Attempt}
+use Rattle.machine_checked.specs.Runs.{open_ones}
+use Rattle.machine_batches.specs.Batches.{batch_of}
+use Rattle.report_lines.specs.declared.line.Line.{Line}
+use Rattle.report_lines.specs.Tallies.{tally_of}
+use Rattle.report_lines.specs.Lines.{LineData, ReportData, line}
+use Rattle.report_lines.specs.declared.line.Counts.{Counts}
 use Rattle.workers_core.specs.declared.job.Job.{Job}
 use Rattle.workers_core.specs.Values.{job_value, rows_over}
-use Rattle.workers_single.specs.declared.growing_line.GrowingLine.{GrowingLine}
-use Rattle.workers_single.specs.Taken.{TookIn}
-use Rattle.workers_single.proofs.CoreLaws.{same-traced}
-use Rattle.workers_single.proofs.LineLaws.{job-traced}
-use Rattle.workers_shared.specs.declared.board.Board.{Board}
-use Rattle.workers_shared.specs.Receipts.{shown_by}
-use Rattle.machine_decisions.specs.Lines.{attempts_of}
-use Rattle.workers_shared.specs.Counts.{count_of}
-use Rattle.workers_shared.specs.Shares.{each_capped}
-use Rattle.workers_rounds.specs.declared.work.Published.{Published}
-use Rattle.workers_rounds.specs.Works.{IsPublished, published_count}
-use Rattle.workers_rounds.specs.Adding.{is_of_kind}
+use Rattle.workers_core.specs.declared.growing_line.GrowingLine.{GrowingLine}
+use Rattle.workers_core.specs.Taken.{TookIn}
+use Rattle.workers_core.proofs.CoreRoundLaws.{same-traced}
+use Rattle.workers_core.proofs.LineLaws.{job-traced}
+use Rattle.verdicts.specs.declared.board.Board.{Board}
+use Rattle.verdicts.specs.Receipts.{shown_by}
+use Rattle.machine_batches.specs.Lines.{attempts_of}
+use Rattle.verdicts.specs.Counts.{count_of}
+use Rattle.verdicts.specs.Shares.{each_capped}
+use Rattle.workers.specs.declared.worker.Published.{Published}
+use Rattle.workers.specs.Works.{IsPublished, published_count}
+use Rattle.workers.specs.Adding.{is_of_kind}
 use Rattle.workers.specs.Between.{IsTold}
 use Rattle.workers.specs.Taking.{Takes}
 use Rattle.workers.specs.Tallied.{count_in, told_by, lines_said}
 use Rattle.workers_core.proofs.CorePartLaws.{get-some, get-mapped}
-use Rattle.workers_single.proofs.TakenLaws.{some-at}
+use Rattle.workers_core.proofs.TakenLaws.{some-at}
 use Rattle.workers.proofs.Telling.{program-of, some-is, all-at, all-each}
 
 -- a tally, kind by kind

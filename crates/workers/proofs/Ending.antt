@@ -4,22 +4,22 @@ use Rattle.std.proofs.Common.{subst, arith, length-append}
 use Rattle.std.specs.Prelude.{slice_get}
 use Rattle.std.proofs.lemmas.List.{length-map}
 use Rattle.signals.specs.declared.verdict.Decided.{Decided}
-use Rattle.bytecode.specs.Values.{ProgramData}
+use Rattle.bytecode_programs.specs.Values.{ProgramData}
 use Rattle.vcd_reader.specs.Dump.{Contents}
-use Rattle.machine_definition.specs.Runs.{open_ones}
-use Rattle.machine_decisions.specs.Batches.{batch_of}
-use Rattle.machine_decisions.specs.Lines.{attempts_of}
+use Rattle.machine_checked.specs.Runs.{open_ones}
+use Rattle.machine_batches.specs.Batches.{batch_of}
+use Rattle.machine_batches.specs.Lines.{attempts_of}
 use Rattle.workers_core.specs.declared.job.Job.{Job}
 use Rattle.workers_core.specs.Opening.{monitor_part}
 use Rattle.workers_core.specs.Values.{Says, job_value, rows_over}
-use Rattle.workers_single.specs.declared.growing_line.GrowingLine.{GrowingLine}
-use Rattle.workers_single.specs.Taken.{TookIn}
-use Rattle.workers_single.proofs.RunLaws.{ComesTo, comes-to}
-use Rattle.workers_single.proofs.RoundLaws.{many-rows}
-use Rattle.workers_single.proofs.CoreLaws.{same-traced}
-use Rattle.workers_single.proofs.LineLaws.{job-traced}
-use Rattle.workers_shared.specs.declared.numbered.Numbered.{Numbered}
-use Rattle.workers_shared.specs.Monitors.{IsMonitorAt}
+use Rattle.workers_core.specs.declared.growing_line.GrowingLine.{GrowingLine}
+use Rattle.workers_core.specs.Taken.{TookIn}
+use Rattle.workers_core.proofs.RoundRunLaws.{ComesTo, comes-to}
+use Rattle.workers_core.proofs.RoundLaws.{many-rows}
+use Rattle.workers_core.proofs.CoreRoundLaws.{same-traced}
+use Rattle.workers_core.proofs.LineLaws.{job-traced}
+use Rattle.workers_bench.specs.declared.numbered.Numbered.{Numbered}
+use Rattle.workers_bench.specs.Monitors.{IsMonitorAt}
 use Rattle.workers.specs.Between.{clocks_of, IsTold}
 use Rattle.workers.proofs.Telling.{program-at}
 

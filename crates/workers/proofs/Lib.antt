@@ -4,3 +4,7 @@ pub mod Shares
 pub mod Rounding
 pub mod Ending
 pub mod ReportLaws
+pub mod Placing
+pub mod Running
+pub mod Orders
+pub mod Added

@@ -25,7 +25,7 @@ use Rattle.std.specs.List.{AllZip, filter_map}
 use Rattle.std.proofs.Math.Nat.{min-eq_left}
 use Rattle.std.proofs.lemmas.List.{length-map}
 use Rattle.std.proofs.lemmas.List.Elements.{All-get_or}
-use Rattle.bytecode.specs.Values.{SlotData, ProgramData}
+use Rattle.bytecode_programs.specs.Values.{SlotData, ProgramData}
 use Rattle.vcd_reader.specs.declared.dump.Dump.{Dump}
 use Rattle.vcd_reader.specs.Variables.{Declared, variable_named, code_number}
 use Rattle.vcd_reader.specs.Dump.{Contents}
@@ -43,19 +43,19 @@ use Rattle.cycle_window.specs.Bound.{
 }
 use Rattle.cycle_window.specs.Ticks.{ticks_of, row_of}
 use Rattle.cycle_window.specs.Held.{ticks_in, code_in}
-use Rattle.verdicts.specs.declared.line.Counts.{Counts}
-use Rattle.verdicts.specs.declared.line.Line.{Line}
-use Rattle.verdicts.specs.Lines.{LineData, ReportData, line, held_count, total_of, report_of}
-use Rattle.machine_decisions.specs.Lines.{IsLineOver, attempts_of}
-use Rattle.machine_decisions.specs.Reported.{IsBoundClock, HasSignals, rows_of, ReportsRun, wanted_slot}
-use Rattle.machine_decisions.proofs.BoundLaws.{bound}
+use Rattle.report_lines.specs.declared.line.Counts.{Counts}
+use Rattle.report_lines.specs.declared.line.Line.{Line}
+use Rattle.report_lines.specs.Lines.{LineData, ReportData, line, held_count, total_of, report_of}
+use Rattle.machine_batches.specs.Lines.{IsLineOver, attempts_of}
+use Rattle.machine_batches.specs.Reported.{IsBoundClock, HasSignals, rows_of, ReportsRun, wanted_slot}
+use Rattle.machine_batches.proofs.BoundLaws.{bound}
 use Rattle.workers_core.specs.declared.job.Job.{Job}
 use Rattle.workers_core.specs.Jobs.{sampled}
 use Rattle.workers_core.specs.Values.{JobValue, Says, job_value, rows_over}
-use Rattle.workers_single.specs.Lines.{AreLinesOf}
+use Rattle.workers_core.specs.Lines.{AreLinesOf}
 use Rattle.workers.specs.Reports.{IsJobReport}
-use Rattle.workers_single.proofs.CoreLaws.{ForContents, same-traced}
-use Rattle.workers_single.proofs.LineLaws.{job-traced}
+use Rattle.workers_core.proofs.CoreRoundLaws.{ForContents, same-traced}
+use Rattle.workers_core.proofs.LineLaws.{job-traced}
 
 record Named (o : Option ℕ) (rest : Option Refused) : Type 0 where
   variable : ℕ

@@ -3,22 +3,22 @@ use Rattle.std.proofs.Common.{◌≡◌, ℕ, ◌+◌, ◌<◌, ◌≤◌, List,
 use Rattle.std.proofs.Common.{◌∙◌, subst, arith}
 use Rattle.std.specs.Prelude.{slice_get}
 use Rattle.std.proofs.lemmas.Option.{slice_get_within}
-use Rattle.machine_decisions.specs.Lines.{attempts_of}
+use Rattle.machine_batches.specs.Lines.{attempts_of}
 use Rattle.cycle_window.specs.declared.window.Window.{Window}
 use Rattle.cycle_window.specs.Held.{first_in, end_in}
 use Rattle.workers_core.specs.declared.job.Job.{Job}
-use Rattle.workers_single.specs.declared.growing_line.GrowingLine.{GrowingLine}
-use Rattle.workers_single.proofs.TakenLaws.{some-at}
-use Rattle.workers_shared.specs.declared.board.Board.{Board}
-use Rattle.workers_shared.specs.Receipts.{shown_by}
-use Rattle.workers_shared.specs.declared.numbered.Numbered.{Numbered}
-use Rattle.workers_shared.specs.Monitors.{IsMonitorAt}
-use Rattle.workers_rounds.specs.declared.work.Published.{Published}
-use Rattle.workers_rounds.specs.Works.{IsSized, IsPublished, HasLine, published_count}
-use Rattle.workers_rounds.specs.Adding.{is_of_kind}
+use Rattle.workers_core.specs.declared.growing_line.GrowingLine.{GrowingLine}
+use Rattle.workers_core.proofs.TakenLaws.{some-at}
+use Rattle.verdicts.specs.declared.board.Board.{Board}
+use Rattle.verdicts.specs.Receipts.{shown_by}
+use Rattle.workers_bench.specs.declared.numbered.Numbered.{Numbered}
+use Rattle.workers_bench.specs.Monitors.{IsMonitorAt}
+use Rattle.workers.specs.declared.worker.Published.{Published}
+use Rattle.workers.specs.Works.{IsSized, IsPublished, HasLine, published_count}
+use Rattle.workers.specs.Adding.{is_of_kind}
 use Rattle.workers.specs.Tallied.{told_by}
 use Rattle.workers.proofs.Adding.{sum-told, round-count}
-use Rattle.workers_rounds.specs.Runs.{upto, published_numbers}
+use Rattle.workers.specs.Runs.{upto, published_numbers}
 use Rattle.workers.specs.Between.{IsTold, IsBetween, IsNext, clocks_of}
 use Rattle.workers.specs.Taking.{Takes, numbered_of}
 use Rattle.workers.proofs.Telling.{all-at, all-each, placed-number, length-published, room, told-more}

@@ -1,9 +1,9 @@
 -- What shares have, kind by kind.
 use Rattle.std.proofs.Common.{◌≡◌, ℕ, zero, suc, ap}
 use Rattle.std.specs.List.{slice_index}
-use Rattle.workers_shared.specs.declared.tally.Share.{Share}
-use Rattle.workers_shared.specs.Shares.{IsFresh}
-use Rattle.workers_rounds.specs.Adding.{amount_of}
+use Rattle.verdicts.specs.declared.tally.Share.{Share}
+use Rattle.verdicts.specs.Shares.{IsFresh}
+use Rattle.workers.specs.Adding.{amount_of}
 
 pub fresh-amount : {L : Type 0} (k : ℕ) (s : Share L) → IsFresh s → amount_of k s ≡ 0
 fresh-amount zero s is = ap (λ l. slice_index l 0) is.1

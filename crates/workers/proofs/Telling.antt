@@ -5,37 +5,37 @@ use Rattle.std.specs.Prelude.{slice_get, slice_set}
 use Rattle.std.proofs.lemmas.List.{length-map}
 use Rattle.std.proofs.lemmas.Option.{slice_get_within}
 use Rattle.signals.specs.declared.verdict.Decided.{Decided}
-use Rattle.bytecode.specs.Values.{ProgramData}
+use Rattle.bytecode_programs.specs.Values.{ProgramData}
 use Rattle.verifier.specs.Programs.{IsAccepted}
 use Rattle.vcd_reader.specs.Dump.{Contents}
 use Rattle.cycle_window.specs.declared.window.Window.{Window}
 use Rattle.cycle_window.specs.Held.{first_in, end_in}
-use Rattle.machine_definition.specs.Outcomes.{done, and_then}
-use Rattle.machine_definition.specs.Machine.{State, opening, clocks}
-use Rattle.machine_decisions.proofs.CutLaws.{ends-as}
-use Rattle.machine_decisions.specs.Lines.{attempts_of}
-use Rattle.machine_decisions.specs.Batches.{rows_between, decided_in, batch_of, HasCome}
-use Rattle.machine_decisions.proofs.JoinLaws.{come-to}
+use Rattle.machine_checked.specs.Outcomes.{done, and_then}
+use Rattle.machine_checked.specs.Machine.{State, opening, clocks}
+use Rattle.machine_batches.proofs.CutLaws.{ends-as}
+use Rattle.machine_batches.specs.Lines.{attempts_of}
+use Rattle.machine_batches.specs.Batches.{rows_between, decided_in, batch_of, HasCome}
+use Rattle.machine_batches.proofs.JoinLaws.{come-to}
 use Rattle.workers_core.specs.declared.job.Job.{Job}
 use Rattle.workers_core.specs.declared.monitor.Monitor.{Monitor}
 use Rattle.workers_core.specs.Opening.{MonitorPart, part_at, monitor_part, parts_from, IsNew}
 use Rattle.workers_core.specs.Values.{Says, job_value, rows_over}
 use Rattle.workers_core.proofs.RunLaws.{all-up-to}
 use Rattle.workers_core.proofs.CorePartLaws.{get-some, get-mapped}
-use Rattle.workers_single.specs.declared.growing_line.GrowingLine.{GrowingLine}
-use Rattle.workers_single.specs.Taken.{TookIn}
-use Rattle.workers_single.proofs.RunLaws.{runs, accepted-on, accepted-clocks}
-use Rattle.workers_single.proofs.CoreLaws.{less-traced}
-use Rattle.workers_single.proofs.LineLaws.{job-traced}
-use Rattle.workers_single.proofs.TakenLaws.{some-at}
-use Rattle.workers_shared.specs.declared.board.Board.{Board}
-use Rattle.workers_shared.specs.Receipts.{shown_by}
-use Rattle.workers_shared.specs.declared.numbered.Numbered.{Numbered}
-use Rattle.workers_shared.specs.Monitors.{IsMonitorAt}
-use Rattle.workers_shared.specs.Hands.{monitor_number, numbers}
-use Rattle.workers_rounds.specs.declared.work.Published.{Published}
-use Rattle.workers_rounds.specs.Works.{IsPublished, published_number}
-use Rattle.workers_rounds.specs.Runs.{upto, published_numbers}
+use Rattle.workers_core.specs.declared.growing_line.GrowingLine.{GrowingLine}
+use Rattle.workers_core.specs.Taken.{TookIn}
+use Rattle.workers_core.proofs.RoundRunLaws.{runs, accepted-on, accepted-clocks}
+use Rattle.workers_core.proofs.CoreRoundLaws.{less-traced}
+use Rattle.workers_core.proofs.LineLaws.{job-traced}
+use Rattle.workers_core.proofs.TakenLaws.{some-at}
+use Rattle.verdicts.specs.declared.board.Board.{Board}
+use Rattle.verdicts.specs.Receipts.{shown_by}
+use Rattle.workers_bench.specs.declared.numbered.Numbered.{Numbered}
+use Rattle.workers_bench.specs.Monitors.{IsMonitorAt}
+use Rattle.workers_bench.specs.Hands.{monitor_number, numbers}
+use Rattle.workers.specs.declared.worker.Published.{Published}
+use Rattle.workers.specs.Works.{IsPublished, published_number}
+use Rattle.workers.specs.Runs.{upto, published_numbers}
 use Rattle.workers.specs.Between.{IsTold}
 use Rattle.workers.specs.Taking.{Takes, monitor_of, numbered_of}
 

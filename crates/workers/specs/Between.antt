@@ -1,20 +1,20 @@
 -- A run between two rounds.
 use Rattle.std.specs.Prelude.{◌≡◌, ◌+◌, ◌≤◌, ℕ, List, Some, All, length, min, slice_get}
-use Rattle.bytecode.specs.Values.{ProgramData}
+use Rattle.bytecode_programs.specs.Values.{ProgramData}
 use Rattle.vcd_reader.specs.Dump.{Contents}
 use Rattle.cycle_window.specs.declared.window.Window.{Window}
 use Rattle.cycle_window.specs.Held.{ticks_in, size_in, first_in, end_in}
-use Rattle.machine_decisions.specs.Batches.{batch_of}
-use Rattle.machine_decisions.specs.Lines.{attempts_of}
+use Rattle.machine_batches.specs.Batches.{batch_of}
+use Rattle.machine_batches.specs.Lines.{attempts_of}
 use Rattle.workers_core.specs.declared.job.Job.{Job}
 use Rattle.workers_core.specs.Values.{Says, job_value, rows_over}
-use Rattle.workers_single.specs.declared.growing_line.GrowingLine.{GrowingLine}
-use Rattle.workers_single.specs.Taken.{TookIn}
-use Rattle.workers_shared.specs.declared.numbered.Numbered.{Numbered}
-use Rattle.workers_shared.specs.Monitors.{IsMonitorAt}
-use Rattle.workers_shared.specs.Windows.{IsWindowFor}
-use Rattle.workers_shared.specs.Hands.{numbers}
-use Rattle.workers_rounds.specs.Runs.{upto}
+use Rattle.workers_core.specs.declared.growing_line.GrowingLine.{GrowingLine}
+use Rattle.workers_core.specs.Taken.{TookIn}
+use Rattle.workers_bench.specs.declared.numbered.Numbered.{Numbered}
+use Rattle.workers_bench.specs.Monitors.{IsMonitorAt}
+use Rattle.workers_bench.specs.Windows.{IsWindowFor}
+use Rattle.workers_bench.specs.Hands.{numbers}
+use Rattle.workers.specs.Runs.{upto}
 
 -- The line in the making took in all that the program of its number decides before this clock.
 pub record IsTold (j : Job) (at i : ℕ) (l : GrowingLine) : Type 0 where

@@ -2,7 +2,7 @@
 use Rattle.std.specs.Prelude.{◌<◌}
 use Rattle.cycle_window.specs.declared.window.Window.{Window}
 use Rattle.cycle_window.specs.Held.{size_in, end_in}
-use Rattle.workers_shared.specs.Windows.{IsWindowFor}
+use Rattle.workers_bench.specs.Windows.{IsWindowFor}
 use Rattle.workers.specs.declared.filling.Filling.{Filling}
 use Rattle.workers.specs.Between.{IsFilledFrom, clocks_of}
 

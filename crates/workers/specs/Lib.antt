@@ -3,3 +3,7 @@ pub mod Taking
 pub mod Tallied
 pub mod Reports
 pub mod Filling
+pub mod Works
+pub mod Crews
+pub mod Runs
+pub mod Adding

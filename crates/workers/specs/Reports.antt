@@ -1,9 +1,9 @@
 -- The report of a job.
 use Rattle.std.specs.Prelude.{◌≡◌, length}
 use Rattle.vcd_reader.specs.Dump.{Contents}
-use Rattle.verdicts.specs.Lines.{ReportData, report_of}
+use Rattle.report_lines.specs.Lines.{ReportData, report_of}
 use Rattle.workers_core.specs.Values.{JobValue}
-use Rattle.workers_single.specs.Lines.{AreLinesOf}
+use Rattle.workers_core.specs.Lines.{AreLinesOf}
 
 -- A line for each program of the job, over all clocks of the trace, and the sums of the lines'
 -- counts. It knows no workers, no windows and no gate.

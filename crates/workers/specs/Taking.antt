@@ -2,10 +2,10 @@
 use Rattle.std.specs.Prelude.{List, ◌++◌}
 use Rattle.signals.specs.declared.verdict.Decided.{Decided}
 use Rattle.workers_core.specs.declared.monitor.Monitor.{Monitor}
-use Rattle.workers_single.specs.declared.growing_line.GrowingLine.{GrowingLine}
-use Rattle.workers_single.specs.Taken.{TookIn}
-use Rattle.workers_shared.specs.declared.numbered.Numbered.{Numbered}
-use Rattle.workers_rounds.specs.declared.work.Published.{Published}
+use Rattle.workers_core.specs.declared.growing_line.GrowingLine.{GrowingLine}
+use Rattle.workers_core.specs.Taken.{TookIn}
+use Rattle.workers_bench.specs.declared.numbered.Numbered.{Numbered}
+use Rattle.workers.specs.declared.worker.Published.{Published}
 
 -- the line took in these after what it had
 abbrev pub Takes : GrowingLine → List Decided → GrowingLine → Type 0

@@ -2,13 +2,13 @@
 -- that are vacuous, 2 those that fail, and each other number those that are disabled.
 use Rattle.std.specs.Prelude.{◌≡◌, ℕ, zero, suc, List, [], ◌∷◌}
 use Rattle.std.specs.List.{sum_by}
-use Rattle.verdicts.specs.declared.line.Counts.{Counts}
-use Rattle.verdicts.specs.declared.line.Line.{Line}
-use Rattle.workers_single.specs.declared.growing_line.GrowingLine.{GrowingLine}
-use Rattle.workers_shared.specs.declared.tally.Share.{Share}
-use Rattle.workers_shared.specs.Shares.{each_capped}
-use Rattle.workers_rounds.specs.declared.round.Member.{Member}
-use Rattle.workers_rounds.specs.Adding.{amount_of, added_by}
+use Rattle.report_lines.specs.declared.line.Counts.{Counts}
+use Rattle.report_lines.specs.declared.line.Line.{Line}
+use Rattle.workers_core.specs.declared.growing_line.GrowingLine.{GrowingLine}
+use Rattle.verdicts.specs.declared.tally.Share.{Share}
+use Rattle.verdicts.specs.Shares.{each_capped}
+use Rattle.workers.specs.declared.round.Member.{Member}
+use Rattle.workers.specs.Adding.{amount_of, added_by}
 
 abbrev pub count_in : ℕ → Counts → ℕ
 count_in zero c = c.holds

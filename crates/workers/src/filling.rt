@@ -2,12 +2,12 @@
 
 ghost use Rattle.std.specs.Prelude.{◌<◌};
 ghost use Rattle.cycle_window.specs.Held.{size_in, end_in};
-ghost use Rattle.workers_shared.specs.Windows.{IsWindowFor};
+ghost use Rattle.workers_bench.specs.Windows.{IsWindowFor};
 ghost use Rattle.workers.specs.Between.{IsFilledFrom, clocks_of};
 
+use crate::beside::Beside;
 use cycle_window::Window;
 use workers_core::Job;
-use workers_rounds::beside::Beside;
 
 /// A window that is done, to be filled with a job's clocks after those of another one.
 #[derive(Drop)]

@@ -1,11 +1,13 @@
 //! The report of a job, by 1 to 64 workers, and the report of one program.
 //!
-//! The trace is run window by window. In a round each monitor is claimed by one of the workers, the
-//! first in the calling thread and each other in a thread of its own, runs through the window and
-//! publishes its batch on the round's board. Meanwhile the calling thread fills the window of the
-//! round after. What the batches count is taken into the lines in the making, and the batches are
-//! let go with the board: what is kept is counts and failures. After the last clock the attempts
-//! that are still live are open. The totals of the last line are those of the workers' tally.
+//! The trace is run window by window, in rounds. All monitors are put on a bench; each worker, the
+//! first in the calling thread and each other in a thread of its own, claims one, runs it through
+//! the window, publishes its batch on the round's board, and adds what it counts to the tally,
+//! until the bench is empty. No lock is held from a claim to its publication. Meanwhile the calling
+//! thread fills the window of the round after. What the batches count is taken into the lines in
+//! the making, and the batches are let go with the board: what is kept is counts and failures.
+//! After the last clock the attempts that are still live are open. The totals of the last line are
+//! those of the workers' tally.
 //!
 //! ```text
 //! let job = Job::new(alloc, programs, dump, "top.clk")?;
@@ -22,25 +24,37 @@
 //!
 //! The definitions: the report of a job over the contents of its dump in `specs/Reports.antt`, a
 //! run between two rounds in `specs/Between.antt`, what workers and lines count in
-//! `specs/Tallied.antt`. The report of a program is that of `machine_decisions`, in its
-//! `specs/Reported.antt`. That a round is a list of steps of the core is a law of `laws_workers`.
+//! `specs/Tallied.antt`; what one worker's round gives back in `specs/Works.antt`, the workers of a
+//! round in `specs/Crews.antt`, a whole round in `specs/Runs.antt`. The report of a program is that
+//! of `machine_batches`. That a round is a list of steps of the core is a law of `laws_headline`.
 //!
 //! Not promised: that the call returns, that two workers were at work at once, who ran which
 //! monitor, when the memory of a job that was let go is back, and that memory suffices.
 #![tactic(auto)]
 
+pub mod beside;
+pub mod crew;
+mod fan_out;
 mod filling;
 mod letting_go;
 mod lines;
 mod opening;
+mod order;
+mod passage;
 mod report;
+pub mod round;
 mod round_batches;
 mod rounds_run;
 mod runs;
 mod totals;
+pub mod worker;
 
 pub use letting_go::let_go;
 pub use opening::first_monitors;
 pub use report::report_run;
 pub use runs::{job_report, run};
-pub use workers_rounds::work::{Gate, NoGate};
+pub use worker::{Gate, NoGate, Worked, work};
+pub use workers_bench::{Bench, Hand, Numbered, Pass};
+pub use workers_core::{
+    BadJob, BadTeam, Core, Job, JobFault, Monitor, Reply, RunFault, Step, TeamSize,
+};

@@ -2,23 +2,22 @@
 
 ghost use Rattle.std.specs.Prelude.{◌≡◌, ℕ, All, IfOk, Some, length, map, slice_get};
 ghost use Rattle.vcd_reader.specs.Dump.{Contents};
-ghost use Rattle.verdicts.specs.Lines.{line};
-ghost use Rattle.machine_decisions.specs.Lines.{IsLineOver, attempts_of};
+ghost use Rattle.report_lines.specs.Lines.{line};
+ghost use Rattle.machine_batches.specs.Lines.{IsLineOver, attempts_of};
 ghost use Rattle.workers_core.specs.Values.{Says, job_value, rows_over};
-ghost use Rattle.workers_single.specs.declared.growing_line.GrowingLine.{GrowingLine};
-ghost use Rattle.workers_single.specs.Lines.{AreLinesOf};
-ghost use Rattle.workers_shared.specs.declared.numbered.Numbered.{Numbered};
-ghost use Rattle.workers_shared.specs.Monitors.{IsMonitorAt};
+ghost use Rattle.workers_core.specs.declared.growing_line.GrowingLine.{GrowingLine};
+ghost use Rattle.workers_core.specs.Lines.{AreLinesOf};
+ghost use Rattle.workers_bench.specs.declared.numbered.Numbered.{Numbered};
+ghost use Rattle.workers_bench.specs.Monitors.{IsMonitorAt};
 ghost use Rattle.workers.specs.Between.{IsTold, clocks_of};
 ghost use Rattle.workers.specs.Tallied.{count_in, told_by, lines_said};
 
+use report_lines::Line;
 use std::alloc::{AllocError, Global};
 use std::mem;
-use verdicts::Line;
 use verifier::Verified;
-use workers_core::Job;
-use workers_shared::Numbered;
-use workers_single::GrowingLine;
+use workers_bench::Numbered;
+use workers_core::{GrowingLine, Job};
 
 /// The line of the program of a number, of what its monitor published and of the attempts that are
 /// still live, as open.

@@ -2,20 +2,20 @@
 
 ghost use Rattle.std.specs.Prelude.{◌≡◌, ℕ, [], All, IfOk, Some, length, map, vec_len};
 ghost use Rattle.std.specs.Prelude.{slice_get};
-ghost use Rattle.workers_shared.specs.Shares.{IsFresh};
-ghost use Rattle.workers_shared.specs.Monitors.{IsMonitorAt};
-ghost use Rattle.workers_shared.specs.Hands.{numbers};
+ghost use Rattle.verdicts.specs.Shares.{IsFresh};
+ghost use Rattle.workers_bench.specs.Monitors.{IsMonitorAt};
+ghost use Rattle.workers_bench.specs.Hands.{numbers};
 ghost use Rattle.workers.specs.Taking.{monitor_of};
-ghost use Rattle.workers_rounds.specs.Runs.{upto, IsMember};
-ghost use Rattle.workers_rounds.specs.Adding.{added_by};
-ghost use Rattle.workers_single.specs.declared.growing_line.GrowingLine.{GrowingLine};
-ghost use Rattle.workers_single.specs.Taken.{TookIn};
+ghost use Rattle.workers.specs.Runs.{upto, IsMember};
+ghost use Rattle.workers.specs.Adding.{added_by};
+ghost use Rattle.workers_core.specs.declared.growing_line.GrowingLine.{GrowingLine};
+ghost use Rattle.workers_core.specs.Taken.{TookIn};
 
+use crate::round::Member;
 use std::alloc::{AllocError, Global};
-use workers_core::{Job, Monitor, monitors_of};
-use workers_rounds::round::Member;
-use workers_shared::{Numbered, Share, Tallying};
-use workers_single::GrowingLine;
+use verdicts::{Share, Tallying};
+use workers_bench::Numbered;
+use workers_core::{GrowingLine, Job, Monitor, monitors_of};
 
 /// Monitors with their numbers.
 fn numbered(alloc: Global, monitors: Vec<Monitor>) -> Result<Vec<Numbered>, AllocError>

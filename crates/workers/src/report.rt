@@ -5,21 +5,21 @@ ghost use Rattle.vcd_reader.specs.Dump.{Contents};
 ghost use Rattle.vcd_reader.specs.Held.{HoldsContents, variables_of};
 ghost use Rattle.cycle_window.specs.Bound.{IsClock, IsClockFault, IsSignalFault};
 ghost use Rattle.cycle_window.specs.Held.{code_in, AreClocksOf};
-ghost use Rattle.verdicts.specs.Shown.{data_of};
-ghost use Rattle.machine_decisions.specs.Lines.{attempts_of};
-ghost use Rattle.machine_decisions.specs.Reported.{HasSignals, ReportsRun, WhyNoRun, wanted_slot};
+ghost use Rattle.report_lines.specs.Shown.{data_of};
+ghost use Rattle.machine_batches.specs.Lines.{attempts_of};
+ghost use Rattle.machine_batches.specs.Reported.{HasSignals, ReportsRun, WhyNoRun, wanted_slot};
 
 use crate::letting_go::let_go;
 use crate::runs::job_report;
+use crate::worker::Gate;
 use cycle_window::{Clocks, WindowFault, WindowSize};
+use report_lines::Report;
 use std::alloc::Global;
 use std::sync::Wait;
 use std::thread::Threads;
 use vcd_reader::Dump;
-use verdicts::Report;
 use verifier::Verified;
 use workers_core::{Job, TeamSize};
-use workers_rounds::work::Gate;
 
 /// The clock that a program names, by as many threads at most as a team has workers.
 fn clocks_of<R: Threads>(
@@ -55,7 +55,7 @@ fn job_of(alloc: Global, dump: Dump, verified: Verified, clocks: Clocks) -> Resu
 /// The report of a verified program over a dump, on the clock that it names, by a team through
 /// windows of a size. Neither the team nor the size nor the gate changes it. Threads of the team
 /// look for the ticks of the clock, too. The dump's memory is given back in a thread of its own
-/// ([`let_go`](crate::let_go)).
+/// ([`let_go`](crate::letting_go::let_go)).
 ///
 /// # Errors
 ///

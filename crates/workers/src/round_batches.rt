@@ -2,19 +2,19 @@
 
 ghost use Rattle.std.specs.Prelude.{◌≡◌, ◌+◌, ◌^◌, ◌<◌, ℕ, Some, All, OnOk, IfOk, length, map};
 ghost use Rattle.std.specs.Prelude.{slice_get};
-ghost use Rattle.machine_decisions.specs.Lines.{attempts_of};
-ghost use Rattle.workers_shared.specs.Receipts.{shown_by};
-ghost use Rattle.workers_single.specs.declared.growing_line.GrowingLine.{GrowingLine};
-ghost use Rattle.workers_single.specs.Taken.{TookIn};
-ghost use Rattle.workers_shared.specs.declared.numbered.Numbered.{Numbered};
-ghost use Rattle.workers_rounds.specs.declared.work.Published.{Published};
-ghost use Rattle.workers_rounds.specs.Works.{HasLine};
+ghost use Rattle.machine_batches.specs.Lines.{attempts_of};
+ghost use Rattle.verdicts.specs.Receipts.{shown_by};
+ghost use Rattle.workers_core.specs.declared.growing_line.GrowingLine.{GrowingLine};
+ghost use Rattle.workers_core.specs.Taken.{TookIn};
+ghost use Rattle.workers_bench.specs.declared.numbered.Numbered.{Numbered};
+ghost use Rattle.workers.specs.declared.worker.Published.{Published};
+ghost use Rattle.workers.specs.Works.{HasLine};
 ghost use Rattle.workers.specs.Taking.{Takes, numbered_of};
 
+use crate::worker::Published;
 use std::alloc::{AllocError, Global};
-use workers_rounds::work::Published;
-use workers_shared::Numbered;
-use workers_single::GrowingLine;
+use workers_bench::Numbered;
+use workers_core::GrowingLine;
 
 /// Takes the line of each monitor's batch into the line of its number.
 pub(crate) fn take_round(

@@ -2,22 +2,22 @@
 
 ghost use Rattle.std.specs.Prelude.{◌≡◌, ◌≤◌, ◌<◌, All, IfOk, OnOk, vec_len};
 ghost use Rattle.cycle_window.specs.Held.{size_in, end_in};
-ghost use Rattle.workers_shared.specs.Windows.{IsWindowFor};
-ghost use Rattle.workers_rounds.specs.Runs.{IsMember};
+ghost use Rattle.workers_bench.specs.Windows.{IsWindowFor};
+ghost use Rattle.workers.specs.Runs.{IsMember};
 ghost use Rattle.workers.specs.Between.{IsBetween, IsNext, clocks_of};
 ghost use Rattle.workers.specs.Tallied.{AreTallied};
 
 use crate::filling::{Filling, filled_after};
+use crate::round::{Member, round};
 use crate::round_batches::{monitors_back, take_round};
+use crate::worker::Gate;
 use cycle_window::Window;
 use std::alloc::{AllocError, Global};
 use std::sync::Wait;
 use std::thread::Threads;
-use workers_core::Job;
-use workers_rounds::round::{Member, round};
-use workers_rounds::work::Gate;
-use workers_shared::{Board, Numbered, Tally, Tallying};
-use workers_single::GrowingLine;
+use verdicts::{Board, Tally, Tallying};
+use workers_bench::Numbered;
+use workers_core::{GrowingLine, Job};
 
 /// A round: all monitors through the next window. Beside it the window after that one is filled, in
 /// the room of the one that is done. The round's batches are gone after it.

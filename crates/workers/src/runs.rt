@@ -2,10 +2,10 @@
 
 ghost use Rattle.std.specs.Prelude.{◌≡◌, ◌≤◌, ◌<◌, All, IfOk, IfErr, length};
 ghost use Rattle.vcd_reader.specs.Dump.{Contents};
-ghost use Rattle.verdicts.specs.Shown.{data_of};
-ghost use Rattle.machine_decisions.specs.Lines.{attempts_of};
+ghost use Rattle.report_lines.specs.Shown.{data_of};
+ghost use Rattle.machine_batches.specs.Lines.{attempts_of};
 ghost use Rattle.workers_core.specs.Values.{Says, WhyNoCore, job_value};
-ghost use Rattle.workers_shared.specs.Blanks.{HaveParts, HaveNames};
+ghost use Rattle.verdicts.specs.Blanks.{HaveParts, HaveNames};
 ghost use Rattle.workers.specs.Between.{clocks_of};
 ghost use Rattle.workers.specs.Reports.{IsJobReport};
 
@@ -13,15 +13,15 @@ use crate::lines::lines_of;
 use crate::opening::{blank_lines, first_monitors, members_of};
 use crate::rounds_run::run_rounds;
 use crate::totals::{report_with, shares_of};
+use crate::worker::Gate;
 use cycle_window::WindowSize;
+use report_lines::Report;
 use std::alloc::{AllocError, Global};
 use std::marker::Brand;
 use std::sync::Wait;
 use std::thread::Threads;
-use verdicts::Report;
+use verdicts::{Blanks, Tally, Tallying};
 use workers_core::{Job, RunFault, TeamSize, window_of};
-use workers_rounds::work::Gate;
-use workers_shared::{Blanks, Tally, Tallying};
 
 /// The run, with a tally of those names.
 fn run_in<L: Tallying + Send + Sync, G: Gate + Sync, R: Threads + Wait + Sync>(

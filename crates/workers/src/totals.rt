@@ -2,17 +2,17 @@
 
 ghost use Rattle.std.specs.Prelude.{◌≡◌, ℕ, All, IfOk, map, vec_len};
 ghost use Rattle.std.specs.List.{sum_by};
-ghost use Rattle.verdicts.specs.Lines.{line, report_of};
-ghost use Rattle.verdicts.specs.Shown.{data_of};
-ghost use Rattle.workers_shared.specs.Shares.{parts};
-ghost use Rattle.workers_rounds.specs.Adding.{added_by};
-ghost use Rattle.workers_rounds.specs.Runs.{IsMember};
+ghost use Rattle.report_lines.specs.Lines.{line, report_of};
+ghost use Rattle.report_lines.specs.Shown.{data_of};
+ghost use Rattle.verdicts.specs.Shares.{parts};
+ghost use Rattle.workers.specs.Adding.{added_by};
+ghost use Rattle.workers.specs.Runs.{IsMember};
 ghost use Rattle.workers.specs.Tallied.{AreTotals, shared_by};
 
+use crate::round::Member;
+use report_lines::{Counts, Line, Report};
 use std::alloc::{AllocError, Global};
-use verdicts::{Counts, Line, Report};
-use workers_rounds::round::Member;
-use workers_shared::{Share, Tallying};
+use verdicts::{Share, Tallying};
 
 /// The shares of all workers.
 pub(crate) fn shares_of<L: Tallying>(

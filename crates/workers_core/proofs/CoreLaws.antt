@@ -17,7 +17,7 @@ use Rattle.std.proofs.Common.{
 }
 use Rattle.std.specs.Prelude.{slice_get}
 use Rattle.std.specs.List.{filter_map}
-use Rattle.bytecode.specs.Values.{SlotData}
+use Rattle.bytecode_programs.specs.Values.{SlotData}
 use Rattle.vcd_reader.specs.Variables.{Declared, variable_named}
 use Rattle.vcd_reader.specs.Dump.{Contents}
 use Rattle.vcd_reader.specs.Held.{HoldsContents, variables_of}
@@ -28,7 +28,7 @@ use Rattle.cycle_window.specs.declared.window.Window.{Window}
 use Rattle.cycle_window.specs.Bound.{places_of}
 use Rattle.cycle_window.specs.Ticks.{ticks_of, row_of}
 use Rattle.cycle_window.specs.Held.{columns_in, places_in, code_in, ticks_in, size_in, IsOver, IsWindowOf}
-use Rattle.machine_decisions.specs.Reported.{wanted_slot}
+use Rattle.machine_batches.specs.Reported.{wanted_slot}
 use Rattle.workers_core.specs.declared.job.Job.{Job}
 use Rattle.workers_core.specs.declared.core_parts.CoreParts.{CoreParts}
 use Rattle.workers_core.specs.Standing.{variables_in}

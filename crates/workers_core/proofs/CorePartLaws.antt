@@ -83,7 +83,7 @@ use Rattle.vcd_reader.specs.Dump.{Contents}
 use Rattle.cycle_window.specs.declared.window.Window.{Window}
 use Rattle.cycle_window.specs.Ticks.{ticks_of, row_of}
 use Rattle.cycle_window.specs.Held.{columns_in, places_in, clock_in}
-use Rattle.machine_decisions.specs.declared.batch.Batch.{Batch}
+use Rattle.machine_batches.specs.declared.batch.Batch.{Batch}
 use Rattle.workers_core.specs.Standing.{seen, MonitorStands, IsSame, IsUnmoved, IsCleared}
 use Rattle.workers_core.specs.Parts.{
   worker_state,
@@ -94,11 +94,11 @@ use Rattle.workers_core.specs.Parts.{
   IsRight,
 }
 use Rattle.workers_core.specs.Opening.{MonitorPart, monitor_part}
-use Rattle.bytecode.specs.Values.{ProgramData}
+use Rattle.bytecode_programs.specs.Values.{ProgramData}
 use Rattle.std.proofs.lemmas.List.{length-set}
 use Rattle.workers_core.proofs.PlaceLaws.{same-part, unmoved-same, right-same, stands-unmoved}
-use Rattle.machine_decisions.specs.Batches.{HasCome, batch_of, decided_in}
-use Rattle.machine_decisions.proofs.JoinLaws.{come-anew}
+use Rattle.machine_batches.specs.Batches.{HasCome, batch_of, decided_in}
+use Rattle.machine_batches.proofs.JoinLaws.{come-anew}
 
 -- what holds of each place of a list holds after a write
 pub each-set : {A : Type 0} (Q : ℕ → A → Type 0) (xs : List A) (i : ℕ) (y : A) →

@@ -23,12 +23,12 @@ use Rattle.std.proofs.Common.{
   arith,
 }
 use Rattle.std.specs.Prelude.{slice_get}
-use Rattle.bytecode.specs.Values.{ProgramData}
+use Rattle.bytecode_programs.specs.Values.{ProgramData}
 use Rattle.vcd_reader.specs.Dump.{Contents}
-use Rattle.machine_definition.specs.Machine.{opening, clocks}
-use Rattle.machine_decisions.specs.declared.batch.Batch.{Batch}
-use Rattle.machine_decisions.specs.Batches.{batch_of}
-use Rattle.machine_decisions.proofs.JoinLaws.{ends-in}
+use Rattle.machine_checked.specs.Machine.{opening, clocks}
+use Rattle.machine_batches.specs.declared.batch.Batch.{Batch}
+use Rattle.machine_batches.specs.Batches.{batch_of}
+use Rattle.machine_batches.proofs.JoinLaws.{ends-in}
 use Rattle.workers_core.specs.declared.job.Job.{Job}
 use Rattle.workers_core.specs.declared.core_parts.CoreParts.{CoreParts}
 use Rattle.workers_core.specs.declared.monitor.Monitor.{Monitor}

@@ -17,12 +17,12 @@ use Rattle.std.proofs.Common.{
 }
 use Rattle.std.proofs.lemmas.List.{take_more, append-nil}
 use Rattle.std.proofs.lemmas.Grind.{flat_map-append}
-use Rattle.bytecode.specs.Values.{ProgramData}
+use Rattle.bytecode_programs.specs.Values.{ProgramData}
 use Rattle.vcd_reader.specs.Variables.{Declared}
 use Rattle.cycle_window.specs.declared.fault.WindowFault.{WindowFault}
 use Rattle.cycle_window.specs.declared.fault.WindowFault.TheVariants as windows
 use Rattle.cycle_window.specs.Bound.{Wanted, IsClockFault}
-use Rattle.machine_decisions.specs.Reported.{wanted_slot}
+use Rattle.machine_batches.specs.Reported.{wanted_slot}
 use Rattle.workers_core.specs.Faults.{window_fault}
 use Rattle.workers_core.specs.Wanted.{wanted_in, WhyNoJob}
 

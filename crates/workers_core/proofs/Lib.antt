@@ -10,3 +10,10 @@ pub mod OnceLaws
 pub mod StartLaws
 pub mod CoreLaws
 pub mod FollowLaws
+pub mod RoundRunLaws
+pub mod RoundLaws
+pub mod CoreRoundLaws
+pub mod TurnLaws
+pub mod LineLaws
+pub mod TakenLaws
+mod StreakLaws

@@ -22,7 +22,7 @@ use Rattle.std.proofs.Common.{
 use Rattle.std.specs.Prelude.{Some, slice_get}
 use Rattle.std.specs.List.{range_with_len}
 use Rattle.std.proofs.lemmas.List.{take_more, map-append}
-use Rattle.bytecode.specs.Values.{ProgramData}
+use Rattle.bytecode_programs.specs.Values.{ProgramData}
 use Rattle.workers_core.specs.States.{MonitorState}
 use Rattle.workers_core.specs.Opening.{MonitorPart, part_at, parts_from, opened_monitor}
 

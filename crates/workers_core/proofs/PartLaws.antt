@@ -27,7 +27,7 @@ use Rattle.std.proofs.Common.{
 }
 use Rattle.std.specs.Prelude.{slice_get, slice_range}
 use Rattle.std.proofs.lemmas.List.{length-drop}
-use Rattle.bytecode.specs.Values.{SlotData, ProgramData}
+use Rattle.bytecode_programs.specs.Values.{SlotData, ProgramData}
 use Rattle.vcd_reader.specs.Variables.{Declared, variable_named}
 use Rattle.cycle_window.specs.Bound.{
   Wanted,
@@ -38,7 +38,7 @@ use Rattle.cycle_window.specs.Bound.{
   first_refused,
   places_of,
 }
-use Rattle.machine_decisions.specs.Reported.{wanted_slot}
+use Rattle.machine_batches.specs.Reported.{wanted_slot}
 use Rattle.workers_core.specs.Opening.{MonitorPart, part_at, parts_from}
 use Rattle.workers_core.specs.Wanted.{wanted_in}
 

@@ -33,11 +33,11 @@ use Rattle.machine.specs.Running.{Running, IsOneClock}
 use Rattle.machine.specs.Told.{verdict_at}
 use Rattle.machine.specs.Later.{attempt_later, verdict_later, decided_later}
 use Rattle.machine.specs.Again.{AreAgain, told_from}
-use Rattle.machine_decisions.proofs.CountLaws.{CountsAll, clock-counts}
+use Rattle.machine_batches.proofs.CountLaws.{CountsAll, clock-counts}
 use Rattle.signals.specs.declared.verdict.Verdict.{Verdict}
 use Rattle.signals.specs.declared.verdict.Verdict.TheVariants.{Holds, Vacuous, Fails, Disabled, Open}
 use Rattle.signals.specs.declared.verdict.Decided.{Decided}
-use Rattle.bytecode.specs.Values.{ProgramData}
+use Rattle.bytecode_programs.specs.Values.{ProgramData}
 use Rattle.vcd_reader.specs.Dump.{Contents}
 use Rattle.cycle_window.specs.declared.window.Window.{Window}
 use Rattle.cycle_window.specs.Ticks.{ticks_of, row_of}
@@ -52,24 +52,24 @@ use Rattle.cycle_window.specs.Held.{
   AreColumnsOf,
 }
 use Rattle.cycle_window.specs.declared.columns.Columns.{Columns}
-use Rattle.machine_decisions.specs.declared.batch.Batch.{Batch}
+use Rattle.machine_batches.specs.declared.batch.Batch.{Batch}
 use Rattle.workers_core.specs.Parts.{IsRight}
-use Rattle.machine_definition.specs.Outcomes.{Ran, done, and_then}
-use Rattle.machine_definition.specs.Machine.{State, Outcome}
-use Rattle.machine_definition.specs.Runs.{run_from}
-use Rattle.machine_decisions.proofs.BatchLaws.{joined, later}
-use Rattle.machine_decisions.proofs.CutLaws.{cuts}
-use Rattle.machine_decisions.specs.Ages.{nth, verdict_moved, deciding_clock}
-use Rattle.machine_decisions.specs.Streaks.{Attempts}
-use Rattle.machine_decisions.specs.Batches.{rows_between, batch_of, HasCome}
+use Rattle.machine_checked.specs.Outcomes.{Ran, done, and_then}
+use Rattle.machine_checked.specs.Machine.{State, Outcome}
+use Rattle.machine_checked.specs.Runs.{run_from}
+use Rattle.machine_batches.proofs.BatchLaws.{joined, later}
+use Rattle.machine_batches.proofs.CutLaws.{cuts}
+use Rattle.machine_batches.specs.Ages.{nth, verdict_moved, deciding_clock}
+use Rattle.machine_batches.specs.Streaks.{Attempts}
+use Rattle.machine_batches.specs.Batches.{rows_between, batch_of, HasCome}
 use Rattle.verifier.specs.Programs.{IsAccepted, least_attempts, least_obligations}
-use Rattle.machine_definition.specs.Outcomes.{Meets}
-use Rattle.machine_definition.proofs.Machine.{never-count}
+use Rattle.machine_checked.specs.Outcomes.{Meets}
+use Rattle.machine_checked.proofs.Machine.{never-count}
 use Rattle.std.proofs.Math.Logic.{∥∥₁_elim, ∥∥₁_map}
 use Rattle.std.proofs.Math.Bridge.{le_prop}
 use Rattle.std.proofs.Math.Path.{fun_ext}
 use Rattle.std.proofs.Math.ListN.{length-map}
-use Rattle.machine_decisions.proofs.JoinLaws.{between-joins, come-on, ends-in}
+use Rattle.machine_batches.proofs.JoinLaws.{between-joins, come-on, ends-in}
 use Rattle.workers_core.specs.declared.monitor.Monitor.{Monitor}
 use Rattle.workers_core.specs.States.{MonitorState, monitor_moved}
 use Rattle.workers_core.specs.Standing.{

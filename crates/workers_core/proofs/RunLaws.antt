@@ -1,13 +1,13 @@
 -- Runs from the first clock on.
 use Rattle.std.proofs.Common.{◌≡◌, ℕ, ◌≤◌, List, [], ◌∷◌, ◌++◌, take, refl, sym, ap, ◌∙◌, arith}
 use Rattle.signals.specs.declared.verdict.Decided.{Decided}
-use Rattle.bytecode.specs.Values.{ProgramData}
-use Rattle.machine_definition.specs.Outcomes.{Ran, done, trapped, and_then}
-use Rattle.machine_definition.specs.Machine.{State, Outcome, opening, clock, clocks}
-use Rattle.machine_definition.specs.Runs.{outcome_behind, run_from}
-use Rattle.machine_decisions.proofs.CutLaws.{ends-as}
-use Rattle.machine_decisions.specs.Batches.{rows_between, decided_in, batch_of, HasCome}
-use Rattle.machine_decisions.proofs.JoinLaws.{came, split-at, joins}
+use Rattle.bytecode_programs.specs.Values.{ProgramData}
+use Rattle.machine_checked.specs.Outcomes.{Ran, done, trapped, and_then}
+use Rattle.machine_checked.specs.Machine.{State, Outcome, opening, clock, clocks}
+use Rattle.machine_checked.specs.Runs.{outcome_behind, run_from}
+use Rattle.machine_batches.proofs.CutLaws.{ends-as}
+use Rattle.machine_batches.specs.Batches.{rows_between, decided_in, batch_of, HasCome}
+use Rattle.machine_batches.proofs.JoinLaws.{came, split-at, joins}
 
 -- where it comes to a value, nothing is left of it
 LeavesNone : Ran Outcome → Type 0

@@ -21,7 +21,7 @@ use Rattle.std.specs.List.{range_with_len}
 use Rattle.std.proofs.Math.Logic.{∥∥₁_map}
 use Rattle.std.proofs.lemmas.List.{length-map}
 use Rattle.signals.specs.declared.verdict.Decided.{Decided}
-use Rattle.bytecode.specs.Values.{SlotData}
+use Rattle.bytecode_programs.specs.Values.{SlotData}
 use Rattle.vcd_reader.specs.Variables.{Declared, size_of}
 use Rattle.vcd_reader.specs.declared.dump.Dump.{Dump}
 use Rattle.vcd_reader.specs.Dump.{Contents}
@@ -34,12 +34,12 @@ use Rattle.cycle_window.specs.declared.window.Window.{Window}
 use Rattle.cycle_window.specs.Bound.{Wanted, first_refused, places_of}
 use Rattle.cycle_window.specs.Held.{columns_in, dump_in, places_in, clock_in, code_in, size_in, first_in, end_in}
 use Rattle.cycle_window.specs.Held.{AreColumnsOf, AreClocksOf, IsWindowOf}
-use Rattle.machine_definition.specs.Machine.{State, opening}
-use Rattle.machine_decisions.specs.Reported.{wanted_slot}
-use Rattle.machine_decisions.proofs.BoundLaws.{bound}
-use Rattle.machine_decisions.specs.declared.batch.Batch.{Batch}
-use Rattle.machine_decisions.specs.Batches.{HasCome}
-use Rattle.machine_decisions.proofs.JoinLaws.{come-first}
+use Rattle.machine_checked.specs.Machine.{State, opening}
+use Rattle.machine_batches.specs.Reported.{wanted_slot}
+use Rattle.machine_batches.proofs.BoundLaws.{bound}
+use Rattle.machine_batches.specs.declared.batch.Batch.{Batch}
+use Rattle.machine_batches.specs.Batches.{HasCome}
+use Rattle.machine_batches.proofs.JoinLaws.{come-first}
 use Rattle.workers_core.specs.declared.job.Job.{Job}
 use Rattle.workers_core.specs.declared.core_parts.CoreParts.{CoreParts}
 use Rattle.workers_core.specs.declared.monitor.Monitor.{Monitor}

@@ -7,15 +7,15 @@ use Rattle.std.proofs.lemmas.Bool.{eq-eqb, ne_eqb}
 use Rattle.std.proofs.lemmas.Grind.{flat_map-append}
 use Rattle.std.proofs.lemmas.List.{map-append, append-nil}
 use Rattle.signals.specs.declared.verdict.Decided.{Decided}
-use Rattle.bytecode.specs.Values.{ProgramData}
+use Rattle.bytecode_programs.specs.Values.{ProgramData}
 use Rattle.vcd_reader.specs.Dump.{Contents}
 use Rattle.cycle_window.specs.declared.window.Window.{Window}
 use Rattle.cycle_window.specs.Ticks.{ticks_of, row_of}
 use Rattle.cycle_window.specs.Held.{columns_in, places_in, clock_in}
 use Rattle.machine.specs.Running.{Running}
-use Rattle.machine_decisions.specs.declared.batch.Batch.{Batch}
-use Rattle.machine_decisions.specs.Batches.{batch_of, decided_in}
-use Rattle.machine_decisions.proofs.JoinLaws.{come-first}
+use Rattle.machine_batches.specs.declared.batch.Batch.{Batch}
+use Rattle.machine_batches.specs.Batches.{batch_of, decided_in}
+use Rattle.machine_batches.proofs.JoinLaws.{come-first}
 use Rattle.workers_core.specs.declared.monitor.Monitor.{Monitor}
 use Rattle.workers_core.specs.States.{BatchState, batch, published_by}
 use Rattle.workers_core.specs.Standing.{monitor_state, seen, IsSame, MonitorStands, IsCleared}

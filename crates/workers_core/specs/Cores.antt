@@ -1,7 +1,7 @@
 -- What is true of a core at all times, and how it begins.
 use Rattle.std.specs.Prelude.{◌≡◌, ℕ, List, [], Some, None, length, map, replicate}
 use Rattle.std.specs.List.{range_with_len}
-use Rattle.bytecode.specs.Values.{ProgramData}
+use Rattle.bytecode_programs.specs.Values.{ProgramData}
 use Rattle.vcd_reader.specs.Held.{variables_of}
 use Rattle.cycle_window.specs.declared.window.Window.{Window}
 use Rattle.cycle_window.specs.Bound.{places_of, first_refused}

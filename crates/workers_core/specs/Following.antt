@@ -1,12 +1,12 @@
 -- What every core has, whatever its steps were.
 use Rattle.std.specs.Prelude.{◌≡◌, ℕ, ◌≤◌, ◌++◌, Some, length, map, take, slice_get}
-use Rattle.bytecode.specs.Values.{ProgramData}
+use Rattle.bytecode_programs.specs.Values.{ProgramData}
 use Rattle.verifier.specs.Programs.{IsAccepted}
 use Rattle.vcd_reader.specs.Dump.{Contents}
 use Rattle.cycle_window.specs.Ticks.{ticks_of}
-use Rattle.machine_definition.specs.Outcomes.{done}
-use Rattle.machine_definition.specs.Machine.{opening, clocks}
-use Rattle.machine_decisions.specs.Batches.{batch_of}
+use Rattle.machine_checked.specs.Outcomes.{done}
+use Rattle.machine_checked.specs.Machine.{opening, clocks}
+use Rattle.machine_batches.specs.Batches.{batch_of}
 use Rattle.workers_core.specs.States.{MonitorState, BatchState, EachStandsOnce, monitor_clock}
 use Rattle.workers_core.specs.States.{published_by}
 use Rattle.workers_core.specs.Values.{JobValue, CoreValue, rows_over}

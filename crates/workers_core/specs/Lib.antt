@@ -8,3 +8,7 @@ pub mod Jobs
 pub mod Cores
 pub mod Values
 pub mod Following
+pub mod Growing
+pub mod Lines
+pub mod Rounds
+pub mod Taken

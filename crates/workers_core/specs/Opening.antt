@@ -1,7 +1,7 @@
 -- Monitors before their first clock.
 use Rattle.std.specs.Prelude.{◌≡◌, ℕ, ◌+◌, ◌≤◌, List, [], ◌∷◌, length}
-use Rattle.bytecode.specs.Values.{ProgramData}
-use Rattle.machine_definition.specs.Machine.{opening}
+use Rattle.bytecode_programs.specs.Values.{ProgramData}
+use Rattle.machine_checked.specs.Machine.{opening}
 use Rattle.verifier.specs.Programs.{IsAccepted}
 use Rattle.workers_core.specs.declared.monitor.Monitor.{Monitor}
 use Rattle.workers_core.specs.States.{MonitorState}

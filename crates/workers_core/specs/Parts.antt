@@ -4,8 +4,8 @@ use Rattle.vcd_reader.specs.Dump.{Contents}
 use Rattle.cycle_window.specs.declared.window.Window.{Window}
 use Rattle.cycle_window.specs.Held.{first_in, end_in, columns_in, size_in, IsOver}
 use Rattle.signals.specs.declared.verdict.Decided.{Decided}
-use Rattle.machine_decisions.specs.declared.batch.Batch.{Batch}
-use Rattle.machine_decisions.specs.Batches.{batch_of}
+use Rattle.machine_batches.specs.declared.batch.Batch.{Batch}
+use Rattle.machine_batches.specs.Batches.{batch_of}
 use Rattle.workers_core.specs.declared.monitor.Monitor.{Monitor}
 use Rattle.workers_core.specs.declared.worker.Worker.{Worker}
 use Rattle.workers_core.specs.declared.core_parts.CoreParts.{CoreParts}

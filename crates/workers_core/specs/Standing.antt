@@ -1,17 +1,17 @@
 -- Where a monitor stands in a window.
 use Rattle.std.specs.Prelude.{◌≡◌, ℕ, ◌+◌, ◌≤◌, List, [], ◌++◌, length, map, replicate, slice_range}
 use Rattle.signals.specs.declared.verdict.Decided.{Decided}
-use Rattle.bytecode.specs.Values.{ProgramData}
+use Rattle.bytecode_programs.specs.Values.{ProgramData}
 use Rattle.vcd_reader.specs.Variables.{size_of}
 use Rattle.vcd_reader.specs.Dump.{Contents}
 use Rattle.cycle_window.specs.declared.window.Window.{Window}
 use Rattle.cycle_window.specs.Ticks.{ticks_of, row_of}
 use Rattle.cycle_window.specs.Held.{places_in, clock_in, columns_in, first_in, end_in, IsOver}
-use Rattle.machine_definition.specs.Outcomes.{done}
-use Rattle.machine_definition.specs.Machine.{clock}
-use Rattle.machine_definition.specs.Runs.{run_from}
+use Rattle.machine_checked.specs.Outcomes.{done}
+use Rattle.machine_checked.specs.Machine.{clock}
+use Rattle.machine_checked.specs.Runs.{run_from}
 use Rattle.verifier.specs.Programs.{IsAccepted}
-use Rattle.machine_decisions.specs.Batches.{HasCome}
+use Rattle.machine_batches.specs.Batches.{HasCome}
 use Rattle.workers_core.specs.declared.monitor.Monitor.{Monitor}
 use Rattle.workers_core.specs.States.{MonitorState}
 

@@ -5,11 +5,11 @@ use Rattle.std.specs.Prelude.{◌<◌, ◌≤◌, length, count_by, slice_get, s
 use Rattle.std.specs.List.{list_all, flat_map}
 use Rattle.std.specs.Option.{option_to_list}
 use Rattle.signals.specs.declared.verdict.Decided.{Decided}
-use Rattle.bytecode.specs.Values.{ProgramData}
-use Rattle.machine_definition.specs.Outcomes.{Ran, done, trapped}
-use Rattle.machine_definition.specs.Machine.{State, Outcome}
-use Rattle.machine_definition.specs.Runs.{run_from}
-use Rattle.machine_decisions.specs.Batches.{rows_between}
+use Rattle.bytecode_programs.specs.Values.{ProgramData}
+use Rattle.machine_checked.specs.Outcomes.{Ran, done, trapped}
+use Rattle.machine_checked.specs.Machine.{State, Outcome}
+use Rattle.machine_checked.specs.Runs.{run_from}
+use Rattle.machine_batches.specs.Batches.{rows_between}
 use Rattle.workers_core.specs.declared.step.Step.{Step}
 use Rattle.workers_core.specs.declared.step.Step.TheVariants as steps
 use Rattle.workers_core.specs.declared.step.Reply.{Reply}

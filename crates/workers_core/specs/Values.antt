@@ -1,6 +1,6 @@
 -- What a core is to its users.
 use Rattle.std.specs.Prelude.{◌≡◌, ℕ, ◌≤◌, ◌<◌, ◌⊎◌, List, length, map}
-use Rattle.bytecode.specs.Values.{ProgramData}
+use Rattle.bytecode_programs.specs.Values.{ProgramData}
 use Rattle.vcd_reader.specs.Variables.{Declared}
 use Rattle.vcd_reader.specs.Stored.{StoredStep, stored_step, kept_step}
 use Rattle.vcd_reader.specs.Dump.{Contents}

@@ -2,12 +2,12 @@
 use Rattle.std.specs.Prelude.{◌≡◌, ℕ, ◌≤◌, ◌<◌, ◌⊎◌, List, length, map, Some}
 use Rattle.std.specs.Prelude.{string_bytes}
 use Rattle.std.specs.List.{flat_map}
-use Rattle.bytecode.specs.Values.{ProgramData}
+use Rattle.bytecode_programs.specs.Values.{ProgramData}
 use Rattle.vcd_reader.specs.Variables.{Declared, variable_named}
 use Rattle.cycle_window.specs.declared.fault.WindowFault.TheVariants as windows
 use Rattle.cycle_window.specs.Bound.{Wanted, Missing, OtherWidth, At}
 use Rattle.cycle_window.specs.Bound.{misfit, first_refused, HasClock}
-use Rattle.machine_decisions.specs.Reported.{wanted_slot}
+use Rattle.machine_batches.specs.Reported.{wanted_slot}
 use Rattle.workers_core.specs.declared.job_fault.JobFault.{JobFault}
 use Rattle.workers_core.specs.declared.job_fault.JobFault.TheVariants as faults
 

@@ -19,7 +19,7 @@ use crate::team_size::TeamSize;
 use crate::worker::{Worker, put_down};
 use arrayvec::ArrayVec;
 use cycle_window::{Clocks, Window, WindowSize};
-use machine_decisions::Batch;
+use machine_batches::Batch;
 use std::alloc::{AllocError, Global};
 use std::collections::VecDeque;
 use vcd_reader::Dump;

@@ -2,7 +2,7 @@
 
 ghost use Rattle.std.specs.Prelude.{◌≡◌, ◌<◌, ◌≤◌, Some, IfOk, IfErr, length, map, slice_get};
 ghost use Rattle.vcd_reader.specs.Dump.{Contents};
-ghost use Rattle.machine_definition.specs.Runs.{open_ones};
+ghost use Rattle.machine_checked.specs.Runs.{open_ones};
 ghost use Rattle.workers_core.specs.States.{Replies, next};
 
 use crate::core_parts::CoreParts;
@@ -12,7 +12,7 @@ use crate::step::{Reply, Step};
 use crate::team_size::TeamSize;
 use arrayvec::ArrayVec;
 use cycle_window::WindowSize;
-use machine_decisions::Batch;
+use machine_batches::Batch;
 use signals::Decided;
 use std::alloc::{AllocError, Global};
 use std::marker::Model;

@@ -27,7 +27,7 @@ pub struct Job {
 }
 
 impl Job {
-    ghost use Rattle.machine_decisions.specs.Reported.{wanted_slot};
+    ghost use Rattle.machine_batches.specs.Reported.{wanted_slot};
     ghost use Rattle.workers_core.specs.Jobs.{IsJobOf};
     ghost use Rattle.workers_core.specs.Wanted.{wanted_in, IsBadCount, WhyNoJob, WhyUnfit};
     ghost use Rattle.workers_core.specs.Values.{job_value};

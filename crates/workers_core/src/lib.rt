@@ -1,4 +1,4 @@
-//! The core: monitors at work, step by step.
+//! The core: monitors at work, step by step; and the lines of a job, by a core of one worker.
 //!
 //! A job has verified programs, the dump that they run over, and the ticks of one clock. A core has
 //! a window over the trace, a monitor for each program, the list of those that wait, each worker's
@@ -16,6 +16,7 @@
 //! core.step(alloc, Step::Advance(0, 10));   // Done, or Refused where fewer clocks are left
 //! core.step(alloc, Step::Publish(0));       // Done at the window's end
 //! core.step(alloc, Step::Gather);           // Done once nothing waits and all hands are empty
+//! let lines = job_lines(alloc, &job, size)?;    // by rounds: a line for each program
 //! ```
 //!
 //! The definitions: `specs/Jobs.antt` and `specs/Wanted.antt` (what a job holds, and why there is
@@ -23,8 +24,9 @@
 //! to its users, and why there is none), `specs/Cores.antt` (how it begins), and
 //! `specs/Following.antt` (what every core has: each monitor in the checked machine's state over
 //! the trace's first rows, and each batch that of its monitor for its clocks). Below them are
-//! `specs/Standing.antt` and `specs/Parts.antt`. Batches are those of `machine_decisions`, the
-//! checked machine that of `machine_definition`.
+//! `specs/Standing.antt` and `specs/Parts.antt`. The lines of a job stand in `specs/Lines.antt`, a
+//! core between two rounds in `specs/Rounds.antt`. Batches, and the line of a program, are those of
+//! `machine_batches`, the checked machine that of `machine_checked`.
 //!
 //! Not promised: that any monitor is ever claimed, or that a foreign program means anything.
 #![tactic(auto)]
@@ -32,14 +34,18 @@
 mod bad_job;
 mod conditions;
 mod core_parts;
+mod core_rounds;
 mod cores;
+mod growing_line;
 mod job;
 mod job_check;
 mod job_fault;
+mod lines;
 mod monitor;
 mod opening;
 mod order;
 mod program_signals;
+mod published_lines;
 mod run_fault;
 mod step;
 mod team_size;
@@ -47,8 +53,10 @@ mod worker;
 
 pub use bad_job::BadJob;
 pub use cores::Core;
+pub use growing_line::GrowingLine;
 pub use job::Job;
 pub use job_fault::JobFault;
+pub use lines::job_lines;
 pub use monitor::Monitor;
 pub use opening::{monitors_of, window_of};
 pub use run_fault::RunFault;

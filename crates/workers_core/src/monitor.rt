@@ -6,13 +6,13 @@ ghost use Rattle.std.specs.Prelude.{vec_capacity};
 ghost use Rattle.vcd_reader.specs.Dump.{Contents};
 ghost use Rattle.cycle_window.specs.Held.{end_in, IsOver};
 ghost use Rattle.workers_core.specs.States.{advanced};
-ghost use Rattle.machine_decisions.specs.Batches.{rows_between};
-ghost use Rattle.machine_definition.specs.Runs.{open_ones};
+ghost use Rattle.machine_batches.specs.Batches.{rows_between};
+ghost use Rattle.machine_checked.specs.Runs.{open_ones};
 
 use arrayvec::ArrayVec;
 use cycle_window::Window;
 use machine::Machine;
-use machine_decisions::{Batch, Streak, Streaks};
+use machine_batches::{Batch, Streak, Streaks};
 use signals::Decided;
 use std::alloc::{AllocError, Global};
 use std::mem;

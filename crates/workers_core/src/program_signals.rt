@@ -1,15 +1,15 @@
 //! The signals of programs, and whether a dump has them.
 
 ghost use Rattle.std.specs.Prelude.{◌≡◌, ◌++◌, None, IfOk, IfErr, OnOk, map};
-ghost use Rattle.bytecode.specs.Views.{slot_data};
+ghost use Rattle.bytecode_programs.specs.Views.{slot_data};
 ghost use Rattle.vcd_reader.specs.Variables.{variable_named};
 ghost use Rattle.vcd_reader.specs.Held.{variables_of};
 ghost use Rattle.cycle_window.specs.Bound.{misfit, first_refused, IsMisfit, IsSignalFault};
 ghost use Rattle.cycle_window.specs.Signals.{wanted_of};
-ghost use Rattle.machine_decisions.specs.Reported.{wanted_slot};
+ghost use Rattle.machine_batches.specs.Reported.{wanted_slot};
 ghost use Rattle.workers_core.specs.Wanted.{wanted_in};
 
-use bytecode::Slot;
+use bytecode_programs::Slot;
 use cycle_window::{WatchedSignal, WindowFault};
 use std::alloc::{AllocError, Global};
 use vcd_reader::Dump;

@@ -3,7 +3,7 @@ use Rattle.std.specs.List.{AllByRecursion}
 use Rattle.std.specs.Cmp.Lexicographic.{same_text, other_text}
 use Rattle.std.proofs.lemmas.List.{take_all}
 use Rattle.assertions.specs.declared.assertion.Assertion.{Assertion}
-use Rattle.compiled_reports.proofs.ListLaws.{at-place, up-to, program-pushed}
+use Rattle.report_programs.proofs.ListLaws.{at-place, up-to, program-pushed}
 use Rattle.cli.proofs.build.assertion_named.Goals as goal
 
 pub loop-assertion-init : goal.loop-assertion-init

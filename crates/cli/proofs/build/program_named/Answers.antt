@@ -1,7 +1,7 @@
 use Rattle.std.proofs.Common.{◌≡◌, subst}
 use Rattle.std.specs.Prelude.{IsTrue}
-use Rattle.bytecode.specs.Values.{ProgramData, fits_program}
-use Rattle.bytecode_files.specs.Spelling.{spelling}
+use Rattle.bytecode_programs.specs.Values.{ProgramData, fits_program}
+use Rattle.bytecode.specs.Spelling.{spelling}
 use Rattle.compiler.specs.Conditions.{FitsSuite}
 use Rattle.compiler.proofs.ListLaws.{all-at}
 use Rattle.cli_faults.specs.Faults.{compile_fault}

@@ -1,4 +1,4 @@
-use Rattle.verdicts.specs.Shown.{data_of}
+use Rattle.report_lines.specs.Shown.{data_of}
 use Rattle.cli_faults.specs.Runs.{run_of}
 use Rattle.cli.proofs.WrittenLaws.{answered, cut_check}
 use Rattle.cli.proofs.checked.check_through.Goals as goal

@@ -1,7 +1,7 @@
 use Rattle.std.proofs.Common.{sym, subst}
 use Rattle.cycle_window.specs.Held.{code_in}
-use Rattle.verdicts.specs.Shown.{data_of}
-use Rattle.compiled_reports.specs.Lines.{rows_at}
+use Rattle.report_lines.specs.Shown.{data_of}
+use Rattle.report_programs.specs.Lines.{rows_at}
 use Rattle.cli.specs.Outcomes.{WhyNoneByPrograms}
 use Rattle.cli.proofs.ProgramLaws.{team_rows}
 use Rattle.cli.proofs.CheckedLaws.{has_report, no_report}

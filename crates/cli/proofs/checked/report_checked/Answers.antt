@@ -1,6 +1,6 @@
 use Rattle.std.proofs.Common.{sym, subst}
 use Rattle.cycle_window.specs.Held.{code_in}
-use Rattle.verdicts.specs.Shown.{data_of}
+use Rattle.report_lines.specs.Shown.{data_of}
 use Rattle.cli.specs.Outcomes.{WhyNoneByPrograms}
 use Rattle.cli.proofs.CheckedLaws.{has_report, no_report}
 use Rattle.cli.proofs.checked.report_checked.Goals as goal

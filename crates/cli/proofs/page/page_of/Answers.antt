@@ -1,10 +1,10 @@
 use Rattle.std.proofs.Common.{ℕ, List, subst}
 use Rattle.std.specs.List.{AllZip}
-use Rattle.verdicts.specs.declared.line.Line.{Line}
-use Rattle.verdicts.specs.Shown.{data_of}
-use Rattle.explained_reports.specs.declared.explanation.Explanation.{Explanation}
-use Rattle.explained_reports.specs.declared.failed_attempt.FailedAttempt.{FailedAttempt}
-use Rattle.explained_reports.specs.Told.{IsToldOf}
+use Rattle.report_lines.specs.declared.line.Line.{Line}
+use Rattle.report_lines.specs.Shown.{data_of}
+use Rattle.report_explained.specs.declared.explanation.Explanation.{Explanation}
+use Rattle.report_explained.specs.declared.failed_attempt.FailedAttempt.{FailedAttempt}
+use Rattle.report_explained.specs.Told.{IsToldOf}
 use Rattle.report_page.specs.PageForm.{IsPage}
 use Rattle.cli.specs.Explained.{IsToldIn, from_paths}
 use Rattle.cli.proofs.page.page_of.Goals as goal

@@ -1,4 +1,4 @@
-use Rattle.verdicts.specs.Shown.{data_of}
+use Rattle.report_lines.specs.Shown.{data_of}
 use Rattle.cli.specs.Explained.{first_ones}
 use Rattle.cli.proofs.ExplainedLaws.{paged}
 use Rattle.cli.proofs.TraceLaws.{traced_report}

@@ -1,7 +1,7 @@
 use Rattle.std.proofs.Common.{map}
 use Rattle.cycle_window.specs.Held.{ticks_in, code_in}
-use Rattle.verdicts.specs.Lines.{line}
-use Rattle.verdicts.specs.Shown.{data_of}
+use Rattle.report_lines.specs.Lines.{line}
+use Rattle.report_lines.specs.Shown.{data_of}
 use Rattle.cli.proofs.ProgramLaws.{over_rows}
 use Rattle.cli.proofs.programs.report_by_programs.Goals as goal
 

@@ -5,8 +5,8 @@ use Rattle.vcd_reader.specs.Held.{steps_in}
 use Rattle.vcd_reader.specs.Variables.{Declared}
 use Rattle.cycle_window.specs.Bound.{IsClock}
 use Rattle.cycle_window.specs.Held.{code_in, ticks_in}
-use Rattle.verdicts.specs.Shown.{data_of}
-use Rattle.compiled_reports.specs.Lines.{rows_at}
+use Rattle.report_lines.specs.Shown.{data_of}
+use Rattle.report_programs.specs.Lines.{rows_at}
 use Rattle.cli.specs.Outcomes.{WhyNoneByPrograms}
 use Rattle.cli.specs.Timed.{AreTimesIn}
 use Rattle.cli.proofs.TimeLaws.{timed}

@@ -2,8 +2,8 @@ use Rattle.std.proofs.Common.{◌≡◌, ◌∙◌, ℕ, List, Some, map, string
 use Rattle.vcd_reader.specs.Held.{variables_of, steps_in}
 use Rattle.vcd_reader.specs.Variables.{Declared, variable_named}
 use Rattle.cycle_window.specs.Held.{code_in, ticks_in}
-use Rattle.verdicts.specs.Shown.{data_of}
-use Rattle.compiled_reports.specs.Lines.{AreVariables, rows_at}
+use Rattle.report_lines.specs.Shown.{data_of}
+use Rattle.report_programs.specs.Lines.{AreVariables, rows_at}
 use Rattle.cli.specs.Outcomes.{WhyNoneByPrograms}
 use Rattle.cli.specs.Explained.{IsTraced}
 use Rattle.cli.proofs.ProgramLaws.{team_rows}

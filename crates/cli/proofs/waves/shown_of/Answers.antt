@@ -1,9 +1,9 @@
 use Rattle.std.proofs.Common.{◌∙◌, refl, List, length, sym, ap, subst}
 use Rattle.std.specs.List.{AllZip}
 use Rattle.std.proofs.lemmas.Slice.Zip.{AllZip-long}
-use Rattle.verdicts.specs.declared.line.Line.{Line}
-use Rattle.explained_reports.specs.declared.explanation.Explanation.{Explanation}
-use Rattle.explained_reports.specs.Told.{IsToldOf}
+use Rattle.report_lines.specs.declared.line.Line.{Line}
+use Rattle.report_explained.specs.declared.explanation.Explanation.{Explanation}
+use Rattle.report_explained.specs.Told.{IsToldOf}
 use Rattle.cli.specs.Explained.{IsToldIn}
 use Rattle.cli.proofs.WaveLaws.{shown_told}
 use Rattle.cli.proofs.waves.shown_of.Goals as goal

@@ -1,5 +1,5 @@
 use Rattle.cli_bytecode.specs.Limits.{limits_text}
-use Rattle.verdicts.proofs.Pieces.{and_then, from_empty}
+use Rattle.report_lines.proofs.Pieces.{and_then, from_empty}
 use Rattle.cli_bytecode.proofs.limits_text.text_of.Goals as goal
 
 pub returns : goal.returns

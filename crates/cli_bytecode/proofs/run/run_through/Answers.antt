@@ -1,5 +1,5 @@
 use Rattle.std.proofs.Common.{refl}
-use Rattle.verdicts.specs.Shown.{data_of}
+use Rattle.report_lines.specs.Shown.{data_of}
 use Rattle.cli_faults.specs.Runs.{run_of}
 use Rattle.cli_faults.proofs.FaultLaws.{err_is}
 use Rattle.cli_bytecode.specs.Outcomes.{WhyRunFails}

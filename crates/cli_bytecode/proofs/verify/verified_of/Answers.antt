@@ -1,4 +1,4 @@
-use Rattle.bytecode.specs.Programs.{data_of}
+use Rattle.bytecode_programs.specs.Programs.{data_of}
 use Rattle.cli_faults.specs.Faults.{code_fault, refusal_fault}
 use Rattle.cli_faults.specs.Codes.{SpellsProgram, WhyNotAccepted}
 use Rattle.cli_faults.proofs.FaultLaws.{err_is}

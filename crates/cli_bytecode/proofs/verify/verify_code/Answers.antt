@@ -1,6 +1,6 @@
 use Rattle.std.proofs.Common.{subst}
-use Rattle.bytecode.specs.declared.limits.Limits.{Limits}
-use Rattle.verdicts.specs.Written.{WhyUnwritten}
+use Rattle.bytecode_programs.specs.declared.limits.Limits.{Limits}
+use Rattle.report_lines.specs.Written.{WhyUnwritten}
 use Rattle.cli_bytecode.specs.Limits.{limits_text}
 use Rattle.cli_faults.specs.Faults.{report_fault}
 use Rattle.cli_bytecode.specs.Verifications.{WhyNotTold, verification_of}

@@ -1,6 +1,6 @@
 use Rattle.std.proofs.Common.{◌≡◌, refl, sym, subst}
-use Rattle.bytecode.specs.Values.{ProgramData}
-use Rattle.bytecode.specs.Programs.{data_of}
+use Rattle.bytecode_programs.specs.Values.{ProgramData}
+use Rattle.bytecode_programs.specs.Programs.{data_of}
 use Rattle.verifier.specs.Programs.{least_limits}
 use Rattle.compiler.specs.Programs.{IsProgramOf}
 use Rattle.compiler.specs.Parts.{declared_from}

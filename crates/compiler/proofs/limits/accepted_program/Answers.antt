@@ -1,5 +1,5 @@
 use Rattle.std.proofs.Common.{ap, sym, subst, ◌∙◌}
-use Rattle.bytecode.specs.Programs.{data_of}
+use Rattle.bytecode_programs.specs.Programs.{data_of}
 use Rattle.verifier.specs.Programs.{IsAccepted}
 use Rattle.compiler.specs.Parts.{with_limits, declared_from}
 use Rattle.compiler.proofs.Refusals.{not-refused}

@@ -1,4 +1,4 @@
-use Rattle.bytecode.specs.Programs.{data_of}
+use Rattle.bytecode_programs.specs.Programs.{data_of}
 use Rattle.verifier.proofs.ProgramLaws.{faultless}
 use Rattle.compiler.proofs.Refusals.{none-first}
 use Rattle.compiler.proofs.limits.least_of.Goals as goal

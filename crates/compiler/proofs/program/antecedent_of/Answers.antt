@@ -1,8 +1,8 @@
 use Rattle.std.proofs.Common.{ap, arith}
-use Rattle.bytecode.specs.Values.{SectionData}
-use Rattle.bytecode.specs.Views.{section_data}
+use Rattle.bytecode_programs.specs.Values.{SectionData}
+use Rattle.bytecode_programs.specs.Views.{section_data}
 use Rattle.verifier.specs.Sections.{instructions_in}
-use Rattle.compiler_sequences.proofs.Firsts.{law-as_long}
+use Rattle.positions.proofs.Firsts.{law-as_long}
 use Rattle.compiler.proofs.program.antecedent_of.Goals as goal
 
 pub returns-in_ok-accepting_first-clause-short : goal.returns-in_ok-accepting_first-clause-short

@@ -1,5 +1,5 @@
 use Rattle.std.proofs.Common.{◌<◌, Err, length, inl, ap, subst, ◌∙◌}
-use Rattle.compiler_expressions.specs.Slots.{slots_in}
+use Rattle.compiler.specs.Slots.{slots_in}
 use Rattle.compiler.proofs.Counts.{near-code, code-same, slots-same}
 use Rattle.compiler.proofs.program.code_of.Goals as goal
 

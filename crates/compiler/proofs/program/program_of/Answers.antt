@@ -1,6 +1,6 @@
 use Rattle.std.proofs.Common.{length, map, arith, ap, ◌∙◌}
 use Rattle.assertions.specs.Shapes.{written_form}
-use Rattle.bytecode.specs.Views.{data_from}
+use Rattle.bytecode_programs.specs.Views.{data_from}
 use Rattle.compiler.specs.Parts.{slot_at, width_at}
 use Rattle.compiler.proofs.Counts.{marked-count, listed-more}
 use Rattle.compiler.proofs.Fits.{program-fits}

@@ -1,6 +1,6 @@
 use Rattle.std.proofs.Common.{[], ◌∷◌, map, ap, ◌∙◌}
 use Rattle.std.proofs.lemmas.List.{map-append}
-use Rattle.bytecode.specs.Views.{slot_data}
+use Rattle.bytecode_programs.specs.Views.{slot_data}
 use Rattle.compiler.specs.Parts.{slot_at}
 use Rattle.compiler.proofs.Loops.{made-more, made-all}
 use Rattle.compiler.proofs.slots.signal_slots.Goals as goal

@@ -1,5 +1,5 @@
 use Rattle.std.proofs.Common.{◌≡◌, map, take}
-use Rattle.bytecode.specs.Views.{slot_data}
+use Rattle.bytecode_programs.specs.Views.{slot_data}
 use Rattle.compiler.specs.Parts.{slot_at}
 use Rattle.compiler.proofs.slots.signal_slots.Given as goal
 

@@ -1,8 +1,8 @@
 use Rattle.vcd_reader.specs.Held.{variables_of}
 use Rattle.parser_grammar.specs.Views.{items_of}
 use Rattle.types_names.specs.Columns.{columns_of}
-use Rattle.lint_dump_suite.specs.Dumps.{width_named}
-use Rattle.lint_dump_suite.specs.Suites.{scope_over}
+use Rattle.suite_over_dump.specs.Dumps.{width_named}
+use Rattle.suite_over_dump.specs.Suites.{scope_over}
 use Rattle.lint_dump_notes.proofs.WatchLaws.{watched_all}
 use Rattle.lint_dump_notes.proofs.notes.notes_of_file.Goals as goal
 

@@ -1,7 +1,7 @@
 use Rattle.std.proofs.Common.{◌∙◌, List, ℕ, sym, ap}
 use Rattle.vcd_reader.specs.Held.{variables_of}
 use Rattle.parser_grammar.specs.Views.{items_of}
-use Rattle.lint_dump_suite.specs.Dumps.{width_named}
+use Rattle.suite_over_dump.specs.Dumps.{width_named}
 use Rattle.lint_refusals.specs.Alone.{clockless}
 use Rattle.lint_refusals.specs.Refused.{is_one_bit}
 use Rattle.lint_refusals.proofs.alone.spelled.Goals as goal

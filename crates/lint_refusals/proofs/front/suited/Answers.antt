@@ -3,8 +3,8 @@ use Rattle.std.specs.List.{AllByRecursion}
 use Rattle.vcd_reader.specs.Held.{variables_of}
 use Rattle.parser_grammar.specs.Views.{items_of}
 use Rattle.diagnostics.specs.declared.front.Refusal.{Refusal}
-use Rattle.compiled_reports.specs.Faults.{HasAcceptedProgram}
-use Rattle.lint_dump_suite.specs.Dumps.{width_named}
+use Rattle.report_programs.specs.Faults.{HasAcceptedProgram}
+use Rattle.suite_over_dump.specs.Dumps.{width_named}
 use Rattle.lint_refusals.specs.Refused.{unclocked, unprogrammed, is_one_bit, IsAccepted, IsRefused, IsUnprogrammed}
 use Rattle.lint_refusals.proofs.FrontLaws.{other_known}
 use Rattle.lint_refusals.proofs.front.suited.Goals as goal

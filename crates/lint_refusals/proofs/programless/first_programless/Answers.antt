@@ -1,6 +1,6 @@
 use Rattle.std.proofs.Common.{◌≡◌, ◌+◌, ℕ, Some, take, slice_get, ap, sym, subst}
-use Rattle.compiled_reports.specs.Faults.{HasAcceptedProgram}
-use Rattle.compiled_reports.proofs.ListLaws.{at-place, up-to, program-pushed}
+use Rattle.report_programs.specs.Faults.{HasAcceptedProgram}
+use Rattle.report_programs.proofs.ListLaws.{at-place, up-to, program-pushed}
 use Rattle.lint_refusals.proofs.programless.first_programless.Goals as goal
 
 pub loop-assertion-preserved : goal.loop-assertion-preserved

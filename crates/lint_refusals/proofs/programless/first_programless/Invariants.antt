@@ -1,6 +1,6 @@
 use Rattle.std.proofs.Common.{◌≡◌, take}
 use Rattle.std.specs.List.{AllByRecursion}
-use Rattle.compiled_reports.specs.Faults.{HasAcceptedProgram}
+use Rattle.report_programs.specs.Faults.{HasAcceptedProgram}
 use Rattle.lint_refusals.proofs.programless.first_programless.Given as goal
 
 -- the assertions so far have programs

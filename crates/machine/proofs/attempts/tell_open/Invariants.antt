@@ -1,4 +1,4 @@
-use Rattle.machine_memory.specs.Walk.{left_at}
+use Rattle.attempt_pool.specs.Walk.{left_at}
 use Rattle.machine.proofs.SettleLaws.{Telling}
 use Rattle.machine.proofs.attempts.tell_open.Given as goal
 

@@ -1,6 +1,6 @@
 use Rattle.std.proofs.Common.{◌-◌, ◌||◌, refl, arith}
-use Rattle.bytecode.specs.Programs.{data_of}
-use Rattle.machine_attempts.specs.Records.{made_by}
+use Rattle.bytecode_programs.specs.Programs.{data_of}
+use Rattle.machine.specs.Records.{made_by}
 use Rattle.machine.proofs.PoolSteps as steps
 use Rattle.machine.proofs.AttemptLaws as laws
 use Rattle.machine.proofs.Needs as needs

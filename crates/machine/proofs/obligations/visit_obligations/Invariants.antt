@@ -1,5 +1,5 @@
-use Rattle.bytecode.specs.Programs.{data_of}
-use Rattle.machine_memory.specs.Walk.{left_at}
+use Rattle.bytecode_programs.specs.Programs.{data_of}
+use Rattle.attempt_pool.specs.Walk.{left_at}
 use Rattle.machine.proofs.ObligationLaws.{Visiting}
 use Rattle.machine.proofs.obligations.visit_obligations.Given as goal
 

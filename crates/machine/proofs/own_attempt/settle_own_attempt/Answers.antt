@@ -1,9 +1,9 @@
 use Rattle.std.proofs.Common.{ℕ, List, [], ◌∷◌, ◌++◌, ◌-◌, Some, None, sym, ap, ◌∙◌}
-use Rattle.machine_definition.specs.Outcomes.{done}
-use Rattle.machine_definition.specs.Clocks.{Attempt}
-use Rattle.machine_memory.specs.Pooled.{Pooled}
-use Rattle.machine_attempts.specs.declared.attempt.AttemptRecord.{AttemptRecord}
-use Rattle.machine_attempts.specs.Records.{attempt_of}
+use Rattle.machine_checked.specs.Outcomes.{done}
+use Rattle.machine_checked.specs.Clocks.{Attempt}
+use Rattle.attempt_pool.specs.Pooled.{Pooled}
+use Rattle.machine.specs.declared.attempt.AttemptRecord.{AttemptRecord}
+use Rattle.machine.specs.Records.{attempt_of}
 use Rattle.machine.specs.Live.{attempts_in}
 use Rattle.machine.proofs.OwnLaws as laws
 use Rattle.machine.proofs.own_attempt.settle_own_attempt.Goals as goal

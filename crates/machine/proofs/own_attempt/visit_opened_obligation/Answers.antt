@@ -1,8 +1,8 @@
 use Rattle.std.proofs.Common.{ℕ, List, [], ◌∷◌, ◌++◌, ◌-◌, sym, ap, ◌∙◌, arith}
-use Rattle.bytecode.specs.Programs.{data_of}
-use Rattle.machine_definition.specs.Clocks.{Obligation}
-use Rattle.machine_memory.specs.Pooled.{Pooled}
-use Rattle.machine_attempts.specs.declared.obligation.ObligationRecord.{ObligationRecord}
+use Rattle.bytecode_programs.specs.Programs.{data_of}
+use Rattle.machine_checked.specs.Clocks.{Obligation}
+use Rattle.attempt_pool.specs.Pooled.{Pooled}
+use Rattle.machine.specs.declared.obligation.ObligationRecord.{ObligationRecord}
 use Rattle.machine.specs.Live.{obligations_in}
 use Rattle.machine.proofs.Needs as needs
 use Rattle.machine.proofs.OwnLaws as laws

@@ -1,5 +1,5 @@
 use Rattle.std.proofs.Common.{◌-◌, arith}
-use Rattle.bytecode.specs.Programs.{data_of}
+use Rattle.bytecode_programs.specs.Programs.{data_of}
 use Rattle.machine.proofs.Needs as needs
 use Rattle.machine.proofs.OwnLaws as laws
 use Rattle.machine.proofs.own_attempt.visit_own_attempt.Goals as goal

@@ -1,7 +1,7 @@
 use Rattle.std.proofs.Common.{List, subst}
 use Rattle.std.specs.List.{Contains}
 use Rattle.lexer.specs.declared.token.Token.{Token}
-use Rattle.parser.proofs.ByteLaws.{contains-behind}
+use Rattle.parser.proofs.FaultLaws.{contains-behind}
 use Rattle.parser.proofs.fault.token_at.Goals as goal
 
 pub behind-preserved : goal.behind-preserved

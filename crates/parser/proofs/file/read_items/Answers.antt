@@ -3,9 +3,9 @@ use Rattle.lexer.specs.declared.token.Token.{Token}
 use Rattle.parser_grammar.specs.ReadFiles.{asserts, is_more, item}
 use Rattle.parser_grammar.specs.declared.item.ItemTree.{ItemTree}
 use Rattle.parser_grammar.specs.Views.{item_of}
-use Rattle.parser_expressions.proofs.LoopLaws.{Turns, turns-init, turns-stop, turns-fail, turns-next, map-push}
+use Rattle.parser.proofs.LoopLaws.{Turns, turns-init, turns-stop, turns-fail, turns-next, map-push}
 use Rattle.parser.proofs.FileLaws.{refuses, at-item-fails, at-item, items-are, items-fail, asserts-more}
-use Rattle.parser.proofs.ByteLaws.{placed-drop}
+use Rattle.parser.proofs.FaultLaws.{placed-drop}
 use Rattle.std.proofs.lemmas.List.{length-drop}
 use Rattle.parser.proofs.file.read_items.Goals as goal
 

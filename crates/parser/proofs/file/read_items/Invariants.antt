@@ -1,7 +1,7 @@
 use Rattle.std.proofs.Common.{◌≡◌, ◌∷◌, ◌≤◌, map, length}
 use Rattle.parser_grammar.specs.ReadFiles.{asserts, is_more, item}
 use Rattle.parser_grammar.specs.Views.{item_of}
-use Rattle.parser_expressions.proofs.LoopLaws.{Turns}
+use Rattle.parser.proofs.LoopLaws.{Turns}
 use Rattle.parser.proofs.file.read_items.Given as goal
 
 abbrev pub invariant-items : goal.invariant-items

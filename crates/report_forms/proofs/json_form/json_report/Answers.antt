@@ -3,7 +3,7 @@ use Rattle.json.specs.Json.{document}
 use Rattle.json.specs.Print.{print}
 use Rattle.json.specs.Token.{Token}
 use Rattle.json.specs.Tree.{json_tokens}
-use Rattle.verdicts.specs.Shown.{data_of}
+use Rattle.report_lines.specs.Shown.{data_of}
 use Rattle.report_forms.specs.JsonForm.{report_json}
 use Rattle.report_forms.specs.Provenances.{provenance_of}
 use Rattle.report_forms.specs.Refusals.{refused_of}

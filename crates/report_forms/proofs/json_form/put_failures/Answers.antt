@@ -2,7 +2,7 @@ use Rattle.std.proofs.Common.{◌≡◌, ◌∷◌, [], length, arith}
 use Rattle.json.specs.Json.{Json}
 use Rattle.json.specs.Token.{begin_array}
 use Rattle.json.specs.Tree.{json_tokens}
-use Rattle.verdicts.specs.declared.line.Failure.{Failure}
+use Rattle.report_lines.specs.declared.line.Failure.{Failure}
 use Rattle.report_forms.specs.JsonForm.{failure_json}
 use Rattle.report_forms.specs.Provenances.{provenance_of}
 use Rattle.report_forms.proofs.PieceLaws.{wrote, adds_then, adds_none, adds_more, adds_all, adds_same, list_tokens}

@@ -2,7 +2,7 @@ use Rattle.std.proofs.Common.{◌∷◌, ◌++◌, [], take}
 use Rattle.std.specs.Prelude.{flat_map}
 use Rattle.json.specs.Token.{begin_array}
 use Rattle.json.specs.Tree.{json_tokens}
-use Rattle.verdicts.specs.declared.line.Failure.{Failure}
+use Rattle.report_lines.specs.declared.line.Failure.{Failure}
 use Rattle.report_forms.specs.Grown.{Adds}
 use Rattle.report_forms.specs.JsonForm.{failure_json}
 use Rattle.report_forms.specs.Provenances.{provenance_of}

@@ -2,8 +2,8 @@ use Rattle.std.proofs.Common.{◌≡◌, ◌∷◌, ◌∙◌, [], length, subst
 use Rattle.json.specs.Json.{Json}
 use Rattle.json.specs.Token.{begin_array}
 use Rattle.json.specs.Tree.{json_tokens}
-use Rattle.verdicts.specs.declared.line.Line.{Line}
-use Rattle.verdicts.specs.Lines.{line}
+use Rattle.report_lines.specs.declared.line.Line.{Line}
+use Rattle.report_lines.specs.Lines.{line}
 use Rattle.report_forms.specs.Grown.{Adds}
 use Rattle.report_forms.specs.JsonForm.{line_json, list_of}
 use Rattle.report_forms.specs.Provenances.{provenance_of}

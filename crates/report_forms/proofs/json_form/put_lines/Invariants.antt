@@ -2,8 +2,8 @@ use Rattle.std.proofs.Common.{◌∷◌, ◌++◌, [], take}
 use Rattle.std.specs.Prelude.{flat_map}
 use Rattle.json.specs.Token.{begin_array}
 use Rattle.json.specs.Tree.{json_tokens}
-use Rattle.verdicts.specs.declared.line.Line.{Line}
-use Rattle.verdicts.specs.Lines.{line}
+use Rattle.report_lines.specs.declared.line.Line.{Line}
+use Rattle.report_lines.specs.Lines.{line}
 use Rattle.report_forms.specs.Grown.{Adds}
 use Rattle.report_forms.specs.JsonForm.{line_json}
 use Rattle.report_forms.specs.Provenances.{provenance_of}

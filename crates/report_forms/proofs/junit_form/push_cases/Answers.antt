@@ -1,6 +1,6 @@
 use Rattle.std.proofs.Common.{◌≡◌, ◌++◌, ◌∙◌, [], ℕ, List, length, string_bytes, sym, ap, subst, arith, append-nil}
-use Rattle.verdicts.specs.declared.line.Line.{Line}
-use Rattle.verdicts.specs.Lines.{line}
+use Rattle.report_lines.specs.declared.line.Line.{Line}
+use Rattle.report_lines.specs.Lines.{line}
 use Rattle.report_forms.specs.Grown.{Grows}
 use Rattle.report_forms.specs.JunitForm.{case_text}
 use Rattle.report_forms.specs.Provenances.{provenance_of}

@@ -1,7 +1,7 @@
 use Rattle.std.proofs.Common.{string_bytes, take}
 use Rattle.std.specs.Prelude.{flat_map}
-use Rattle.verdicts.specs.declared.line.Line.{Line}
-use Rattle.verdicts.specs.Lines.{line}
+use Rattle.report_lines.specs.declared.line.Line.{Line}
+use Rattle.report_lines.specs.Lines.{line}
 use Rattle.report_forms.specs.Grown.{Grows}
 use Rattle.report_forms.specs.JunitForm.{case_text}
 use Rattle.report_forms.specs.Provenances.{provenance_of}

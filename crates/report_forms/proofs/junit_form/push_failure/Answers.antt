@@ -1,6 +1,6 @@
 use Rattle.std.proofs.Common.{◌≡◌, ◌++◌, ◌∙◌, ℕ, List, length, string_bytes, take, subst, ap, arith}
 use Rattle.std.specs.Prelude.{codes, flat_map}
-use Rattle.verdicts.specs.declared.line.Failure.{Failure}
+use Rattle.report_lines.specs.declared.line.Failure.{Failure}
 use Rattle.report_forms.specs.Grown.{Grows}
 use Rattle.report_forms.specs.JunitForm.{number_text, attempt_text, failure_text}
 use Rattle.report_forms.specs.Provenances.{provenance_of}

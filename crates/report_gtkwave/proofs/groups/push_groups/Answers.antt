@@ -1,7 +1,7 @@
 use Rattle.std.proofs.Common.{◌≡◌, ◌++◌, ◌∙◌, [], ℕ, suc, List, drop, map, sym, ap, subst, arith, append_assoc}
 use Rattle.std.proofs.Common.{append-nil, add-one}
 use Rattle.std.proofs.Math.ListN.{drop_of_length-le}
-use Rattle.explained_reports.specs.declared.failed_attempt.FailedAttempt.{FailedAttempt}
+use Rattle.report_explained.specs.declared.failed_attempt.FailedAttempt.{FailedAttempt}
 use Rattle.report_forms.specs.Grown.{Grows}
 use Rattle.report_forms.specs.Provenances.{provenance_of}
 use Rattle.report_gtkwave.specs.Views.{wave_data}

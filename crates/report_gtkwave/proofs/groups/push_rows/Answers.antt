@@ -1,5 +1,5 @@
 use Rattle.std.proofs.Common.{◌≡◌, [], ℕ, List, length, map, sym, subst, arith, append-nil}
-use Rattle.explaining.specs.declared.sheet.SheetRow.{SheetRow}
+use Rattle.report_explained.specs.declared.sheet.SheetRow.{SheetRow}
 use Rattle.report_forms.specs.Grown.{Grows}
 use Rattle.report_forms.proofs.PieceLaws.{piece_more, pieces_all}
 use Rattle.report_gtkwave.specs.Views.{wave_data}

@@ -1,6 +1,6 @@
 use Rattle.std.proofs.Common.{ℕ, List, subst}
 use Rattle.std.specs.Prelude.{flat_map}
-use Rattle.explained_reports.specs.declared.failed_attempt.FailedAttempt.{FailedAttempt}
+use Rattle.report_explained.specs.declared.failed_attempt.FailedAttempt.{FailedAttempt}
 use Rattle.report_forms.specs.Grown.{Grows}
 use Rattle.report_forms.specs.Provenances.{provenance_of}
 use Rattle.report_forms.proofs.PieceLaws.{and_then}

@@ -1,5 +1,5 @@
 use Rattle.std.proofs.Common.{◌≡◌, [], ℕ, List, length, sym, subst, arith, append-nil}
-use Rattle.explained_reports.specs.declared.failed_attempt.FailedAttempt.{FailedAttempt}
+use Rattle.report_explained.specs.declared.failed_attempt.FailedAttempt.{FailedAttempt}
 use Rattle.report_forms.specs.Grown.{Grows}
 use Rattle.report_forms.specs.Provenances.{provenance_of}
 use Rattle.report_forms.proofs.PieceLaws.{piece_more, pieces_all}

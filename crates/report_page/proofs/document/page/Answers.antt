@@ -1,8 +1,8 @@
 use Rattle.std.proofs.Common.{ℕ, List, String, Vec, Global, string_bytes, ap, subst}
 use Rattle.std.specs.Prelude.{flat_map, map}
-use Rattle.verdicts.specs.declared.line.Line.{Line}
-use Rattle.verdicts.specs.Lines.{line}
-use Rattle.verdicts.specs.Shown.{data_of}
+use Rattle.report_lines.specs.declared.line.Line.{Line}
+use Rattle.report_lines.specs.Lines.{line}
+use Rattle.report_lines.specs.Shown.{data_of}
 use Rattle.report_forms.specs.Grown.{Grows}
 use Rattle.report_forms.specs.Provenances.{provenance_of}
 use Rattle.report_forms.proofs.PieceLaws.{and_then, from_empty}

@@ -1,8 +1,8 @@
 use Rattle.std.proofs.Common.{subst}
 use Rattle.report_forms.specs.Provenances.{provenance_of}
-use Rattle.explained_reports.specs.declared.failed_attempt.FailedAttempt.{FailedAttempt}
+use Rattle.report_explained.specs.declared.failed_attempt.FailedAttempt.{FailedAttempt}
 use Rattle.report_page.specs.PageForm.{IsSectionOf}
-use Rattle.explaining.proofs.ZipLaws.{zip_more}
+use Rattle.report_explained.proofs.ZipLaws.{zip_more}
 use Rattle.report_page.proofs.document.sections_of.Goals as goal
 
 pub loop-picture-preserved : goal.loop-picture-preserved

@@ -2,11 +2,11 @@
 use Rattle.std.proofs.Common.{◌≡◌, ◌-◌, ◌∷◌, ◌++◌, List, [], ℕ, length, take, drop, refl, sym, ap, ◌∙◌, subst}
 use Rattle.std.proofs.Common.{append-nil, arith}
 use Rattle.std.proofs.lemmas.List.{take_all, length-drop}
-use Rattle.bytecode.specs.Programs.{data_of}
-use Rattle.bytecode.specs.Instructions.{frame_of}
-use Rattle.machine_definition.specs.Values.{AreValues}
-use Rattle.machine_expressions.specs.Memory.{AreRows}
-use Rattle.machine_expressions.proofs.DecodedRowLaws.{read-rows, read-newest}
+use Rattle.bytecode_programs.specs.Programs.{data_of}
+use Rattle.bytecode_programs.specs.Instructions.{frame_of}
+use Rattle.machine_checked.specs.Values.{AreValues}
+use Rattle.machine_sample_code.specs.Memory.{AreRows}
+use Rattle.machine_sample_code.proofs.DecodedRowLaws.{read-rows, read-newest}
 use Rattle.tests_machine.proofs.outcome.left_by_steps.Goals as goal
 
 -- what is after the constant

@@ -1,10 +1,10 @@
 use Rattle.std.proofs.Common.{◌≡◌, length, ap, ◌∙◌, sym, subst}
 use Rattle.std.proofs.lemmas.Result.{IfOk-weaker}
-use Rattle.bytecode.specs.Instructions.{frame_of}
-use Rattle.bytecode.specs.Programs.{data_of}
-use Rattle.machine_memory.specs.History.{History, cleared}
-use Rattle.machine_expressions.specs.Memory.{AreRows}
-use Rattle.machine_expressions.proofs.RowLaws.{AreRows-cleared}
+use Rattle.bytecode_programs.specs.Instructions.{frame_of}
+use Rattle.bytecode_programs.specs.Programs.{data_of}
+use Rattle.history_ring.specs.History.{History, cleared}
+use Rattle.machine_sample_code.specs.Memory.{AreRows}
+use Rattle.machine_sample_code.proofs.RowLaws.{AreRows-cleared}
 use Rattle.tests_machine.proofs.outcome.new_ring.Goals as goal
 
 pub returns : goal.returns

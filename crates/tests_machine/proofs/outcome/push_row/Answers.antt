@@ -1,8 +1,8 @@
 use Rattle.std.proofs.Common.{sym, subst}
-use Rattle.bytecode.specs.Programs.{data_of}
-use Rattle.machine_memory.specs.History.{History}
-use Rattle.machine_expressions.specs.Memory.{AreRows}
-use Rattle.machine_expressions.proofs.RowLaws.{AreRows-pushed}
+use Rattle.bytecode_programs.specs.Programs.{data_of}
+use Rattle.history_ring.specs.History.{History}
+use Rattle.machine_sample_code.specs.Memory.{AreRows}
+use Rattle.machine_sample_code.proofs.RowLaws.{AreRows-pushed}
 use Rattle.tests_machine.proofs.outcome.push_row.Goals as goal
 
 pub returns-then-fit-clause-rows : goal.returns-then-fit-clause-rows

@@ -1,5 +1,5 @@
-use Rattle.bytecode.specs.Programs.{data_of}
-use Rattle.machine_expressions.specs.Memory.{AreRows}
+use Rattle.bytecode_programs.specs.Programs.{data_of}
+use Rattle.machine_sample_code.specs.Memory.{AreRows}
 use Rattle.tests_machine.proofs.outcome.run_over_rows.Given as goal
 
 abbrev pub invariant-loop-row : goal.invariant-loop-row

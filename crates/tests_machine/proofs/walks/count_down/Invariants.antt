@@ -1,4 +1,4 @@
-use Rattle.machine_memory.specs.Walk.{left_at}
+use Rattle.attempt_pool.specs.Walk.{left_at}
 use Rattle.tests_machine.proofs.CountLaws.{Counting}
 use Rattle.tests_machine.proofs.walks.count_down.Given as goal
 

@@ -1,11 +1,11 @@
 use Rattle.std.proofs.Common.{◌≡◌, ℕ, ◌+◌, List, [], ◌∷◌, ◌++◌, length, length-append, refl, ap, arith}
 use Rattle.crossbeam_queue.specs.Passes.{Pass, view}
-use Rattle.workers_shared.specs.declared.numbered.Numbered.{Numbered}
-use Rattle.workers_shared.specs.declared.passes.Hand.{Hand}
-use Rattle.workers_shared.specs.Hands.{total}
-use Rattle.workers_shared.specs.Passes.{pass_parts, TakesNone}
-use Rattle.workers_shared.specs.Benches.{IsPassOfBench, round_at}
-use Rattle.workers_shared.proofs.Keeps.{total_push, all_popped}
+use Rattle.workers_bench.specs.declared.numbered.Numbered.{Numbered}
+use Rattle.workers_bench.specs.declared.passes.Hand.{Hand}
+use Rattle.workers_bench.specs.Hands.{total}
+use Rattle.workers_bench.specs.Passes.{pass_parts, TakesNone}
+use Rattle.workers_bench.specs.Benches.{IsPassOfBench, round_at}
+use Rattle.workers_bench.proofs.Keeps.{total_push, all_popped}
 use Rattle.tests_workers.proofs.claims.round_alone.Goals as goal
 
 -- before the one item of a list there is nothing to add up

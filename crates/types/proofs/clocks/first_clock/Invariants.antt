@@ -1,6 +1,6 @@
 use Rattle.std.proofs.Common.{◌≡◌, map, drop}
 use Rattle.parser_grammar.specs.Views.{item_of}
-use Rattle.types_suites.specs.Texts.{assertions_of, suite_clock}
+use Rattle.types.specs.Texts.{assertions_of, suite_clock}
 use Rattle.types.proofs.clocks.first_clock.Given as goal
 
 abbrev pub invariant-loop-item : goal.invariant-loop-item

@@ -1,7 +1,7 @@
 use Rattle.std.proofs.Common.{◌≡◌, ℕ, map, length, sym, ◌∙◌, subst, arith, refl}
 use Rattle.std.proofs.lemmas.Bool.{false≢true}
-use Rattle.types_sequences.specs.Views.{draft_of}
-use Rattle.types.specs.Cycles.{IsFirstCycle}
+use Rattle.types.specs.Views.{draft_of}
+use Rattle.types.specs.CycleStages.{IsFirstCycle}
 use Rattle.types.proofs.CycleLaws.{cycle_none, cycle_above, cycle_found}
 use Rattle.types.proofs.cycles.first_cycle.Goals as goal
 

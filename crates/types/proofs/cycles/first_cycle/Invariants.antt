@@ -1,6 +1,6 @@
 use Rattle.std.proofs.Common.{map}
-use Rattle.types_sequences.specs.Views.{draft_of}
-use Rattle.types.specs.Cycles.{IsFirstCycle}
+use Rattle.types.specs.Views.{draft_of}
+use Rattle.types.specs.CycleStages.{IsFirstCycle}
 use Rattle.types.proofs.cycles.first_cycle.Given as goal
 
 abbrev pub invariant-loop-place : goal.invariant-loop-place

@@ -1,5 +1,5 @@
 use Rattle.std.proofs.Common.{◌≡◌, ◌<◌, ℕ, true}
-use Rattle.types_sequences.specs.Entries.{has_entry}
+use Rattle.types.specs.Entries.{has_entry}
 use Rattle.types.proofs.cycles.has_all.Given as goal
 
 abbrev pub invariant-loop-entry : goal.invariant-loop-entry

@@ -3,7 +3,7 @@ use Rattle.parser_grammar.specs.Trees as trees
 use Rattle.parser_grammar.specs.Views.{item_of}
 use Rattle.types_names.specs.Faults.{earlier, least}
 use Rattle.types_names.proofs.Lists.{at}
-use Rattle.types_suites.specs.Texts.{name_made, assertions_after, names_from, repeated_names}
+use Rattle.types.specs.Texts.{name_made, assertions_after, names_from, repeated_names}
 use Rattle.types.proofs.NameLaws.{not_is, known_step, new_step, after_most}
 use Rattle.types.proofs.names.first_duplicate.Goals as goal
 

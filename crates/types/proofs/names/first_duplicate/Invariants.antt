@@ -1,7 +1,7 @@
 use Rattle.std.proofs.Common.{◌≡◌, ◌≤◌, map, drop}
 use Rattle.parser_grammar.specs.Views.{item_of}
 use Rattle.types_names.specs.Faults.{earlier, least}
-use Rattle.types_suites.specs.Texts.{names_from, repeated_names, duplicates}
+use Rattle.types.specs.Texts.{names_from, repeated_names, duplicates}
 use Rattle.types.proofs.NameLaws.{texts_of}
 use Rattle.types.proofs.names.first_duplicate.Given as goal
 

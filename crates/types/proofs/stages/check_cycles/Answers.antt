@@ -1,7 +1,7 @@
 use Rattle.std.proofs.Common.{◌<◌, ℕ, map, length, sym, arith, subst}
-use Rattle.types_sequences.specs.Views.{draft_of}
-use Rattle.types_sequences.proofs.CyclicLaws.{some_cyclic}
-use Rattle.types.specs.Cycles.{IsLowest}
+use Rattle.types.specs.Views.{draft_of}
+use Rattle.types.proofs.CyclicLaws.{some_cyclic}
+use Rattle.types.specs.CycleStages.{IsLowest}
 use Rattle.types.proofs.StageLaws.{refused_memory}
 use Rattle.types.proofs.CycleStage.{entry_acyclic, clear_6, first_6}
 use Rattle.types.proofs.stages.check_cycles.Goals as goal

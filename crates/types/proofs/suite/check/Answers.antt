@@ -4,9 +4,9 @@ use Rattle.parser_grammar.specs.Views.{item_of, items_of}
 use Rattle.types_names.specs.Scopes.{Scope, sequence_named}
 use Rattle.types_names.specs.Asked.{scope_for}
 use Rattle.types_names.specs.Views.{scope_of}
-use Rattle.types_suites.specs.Faults.{IsFaultless, IsTypeFault}
-use Rattle.types_suites.specs.Suites.{IsSuite}
-use Rattle.types_suites.proofs.OutlineLaws.{named_below}
+use Rattle.types.specs.Faults.{IsFaultless, IsTypeFault}
+use Rattle.types.specs.Suites.{IsSuite}
+use Rattle.types.proofs.OutlineLaws.{named_below}
 use Rattle.types.proofs.StageLaws.{refused_memory}
 use Rattle.types.proofs.suite.check.Goals as goal
 

@@ -2,12 +2,12 @@ use Rattle.std.proofs.Common.{length, map, sym, ap, ◌∙◌}
 use Rattle.std.proofs.lemmas.List.{length-map}
 use Rattle.parser_grammar.specs.Trees.{DeclarationForm}
 use Rattle.parser_grammar.specs.Views.{item_of}
-use Rattle.types_sequences.specs.Views.{draft_of}
+use Rattle.types.specs.Views.{draft_of}
 use Rattle.types_names.specs.Views.{scope_of, columns_in}
-use Rattle.types_suites.specs.Texts.{declarations_of}
-use Rattle.types.specs.Cycles.{AreOutlined}
-use Rattle.types_suites.proofs.BodyLaws.{bodies_in, outlined, body_count}
-use Rattle.types_suites.proofs.OutlineLaws.{all_declared}
+use Rattle.types.specs.Texts.{declarations_of}
+use Rattle.types.specs.CycleStages.{AreOutlined}
+use Rattle.types.proofs.BodyLaws.{bodies_in, outlined, body_count}
+use Rattle.types.proofs.OutlineLaws.{all_declared}
 use Rattle.types.proofs.StageLaws.{refused_memory, refused_same}
 use Rattle.types.proofs.suite.entries_of.Goals as goal
 

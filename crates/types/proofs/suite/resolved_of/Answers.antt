@@ -4,10 +4,10 @@ use Rattle.types_names.specs.Views.{scope_of, columns_in}
 use Rattle.types_names.proofs.ColumnLaws.{columns-all}
 use Rattle.types.specs.Sides.{sides_in, consequents_in}
 use Rattle.types.specs.Sides.{AreWeighed}
-use Rattle.types_suites.specs.Readings.{outlines_of}
-use Rattle.types_suites.specs.Faults.{sides_of, consequents_of}
-use Rattle.types_suites.specs.Texts.{declarations_of, assertions_of}
-use Rattle.types_suites.proofs.BodyLaws.{outlined, bodies_stay}
+use Rattle.types.specs.Readings.{outlines_of}
+use Rattle.types.specs.Faults.{sides_of, consequents_of}
+use Rattle.types.specs.Texts.{declarations_of, assertions_of}
+use Rattle.types.proofs.BodyLaws.{outlined, bodies_stay}
 use Rattle.types.proofs.WeighLaws.{sides_weighed, consequents_weighed, sides_fit, sides_known}
 use Rattle.types.proofs.StageLaws.{clear_sound, refused_memory, refused_same}
 use Rattle.types.proofs.suite.resolved_of.Goals as goal

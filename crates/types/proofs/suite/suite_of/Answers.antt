@@ -2,12 +2,12 @@ use Rattle.std.proofs.Common.{ℕ, List, map, subst}
 use Rattle.parser_grammar.specs.Views.{item_of}
 use Rattle.types_names.specs.Views.{scope_of, columns_in}
 use Rattle.types_names.proofs.ColumnLaws.{columns-all}
-use Rattle.types_suites.specs.Readings.{AllRead}
-use Rattle.types_suites.specs.Resolved.{AreResolved}
-use Rattle.types_suites.specs.Suites.{AreSignals, AreCounters, AreAssertions}
-use Rattle.types_suites.specs.Texts.{declarations_of, assertions_of, counters_of}
-use Rattle.types_suites.proofs.BodyLaws.{bodies_in}
-use Rattle.types_suites.proofs.SignalLaws.{columns_known}
+use Rattle.types.specs.Readings.{AllRead}
+use Rattle.types.specs.Resolved.{AreResolved}
+use Rattle.types.specs.Suites.{AreSignals, AreCounters, AreAssertions}
+use Rattle.types.specs.Texts.{declarations_of, assertions_of, counters_of}
+use Rattle.types.proofs.BodyLaws.{bodies_in}
+use Rattle.types.proofs.SignalLaws.{columns_known}
 use Rattle.types.proofs.StageLaws.{clear_sound, refused_memory}
 use Rattle.types.proofs.suite.suite_of.Goals as goal
 

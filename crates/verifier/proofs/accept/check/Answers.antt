@@ -1,6 +1,6 @@
 use Rattle.std.proofs.Common.{inr, sym, ◌∙◌}
 use Rattle.std.proofs.lemmas.Result.{err_from_is_err_and}
-use Rattle.bytecode.specs.Programs.{data_of}
+use Rattle.bytecode_programs.specs.Programs.{data_of}
 use Rattle.verifier.proofs.VerifyLaws.{before_limits}
 use Rattle.verifier.proofs.LimitFaultLaws.{refused_by, acceptable_by}
 use Rattle.verifier.proofs.ShortLaws.{accepted, never_accepted}

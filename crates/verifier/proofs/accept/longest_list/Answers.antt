@@ -5,7 +5,7 @@ use Rattle.verifier.specs.declared.fault.Fault.{Fault}
 use Rattle.verifier.specs.Sections.{section_faults}
 use Rattle.verifier.specs.Scans.{IsFirstOf}
 use Rattle.verifier.specs.Marks.{found_in}
-use Rattle.bytecode.specs.Programs.{data_of}
+use Rattle.bytecode_programs.specs.Programs.{data_of}
 use Rattle.verifier.proofs.VerifyLaws.{refused_header, room, refused_sample, refused_antecedent}
 use Rattle.verifier.proofs.VerifyLaws.{refused_consequent, no_part}
 use Rattle.verifier.proofs.accept.longest_list.Goals as goal

@@ -1,7 +1,7 @@
 use Rattle.std.proofs.Common.{◌≡◌, ◌⊎◌, List, [], IfOk, OnOk, IfErr, subst}
-use Rattle.bytecode.specs.declared.sample_instr.SampleInstr.{SampleInstr}
-use Rattle.bytecode.specs.Instructions.{FrameData}
-use Rattle.bytecode.specs.Programs.{data_of}
+use Rattle.bytecode_programs.specs.declared.sample_instr.SampleInstr.{SampleInstr}
+use Rattle.bytecode_programs.specs.Instructions.{FrameData}
+use Rattle.bytecode_programs.specs.Programs.{data_of}
 use Rattle.verifier.specs.declared.refusal.Refusal.TheVariants.{Memory}
 use Rattle.verifier.specs.Rules.{sample_rules}
 use Rattle.verifier.specs.Inference.{code_faults}

@@ -3,7 +3,7 @@ use Rattle.std.proofs.lemmas.List.{length-map}
 use Rattle.verifier.specs.declared.field.Field.TheVariants as fields
 use Rattle.verifier.specs.Order.{first_refusal}
 use Rattle.verifier.specs.Programs.{over}
-use Rattle.bytecode.specs.Programs.{data_of}
+use Rattle.bytecode_programs.specs.Programs.{data_of}
 use Rattle.verifier.proofs.HeaderLaws.{front_0, front_1, front_2, front_3, front_4, front_5}
 use Rattle.verifier.proofs.HeaderLaws.{front_6, front_7, front_8, front_9, front_10, front_11}
 use Rattle.verifier.proofs.header.header_fault.Goals as goal

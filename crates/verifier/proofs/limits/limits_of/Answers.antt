@@ -1,6 +1,6 @@
 use Rattle.std.proofs.Common.{◌≡◌, ◌+◌, ◌*◌, ◌-◌, ℕ, ap, ◌∙◌, map}
-use Rattle.bytecode.specs.Instructions.{sample_flow}
-use Rattle.bytecode.specs.Programs.{data_of}
+use Rattle.bytecode_programs.specs.Instructions.{sample_flow}
+use Rattle.bytecode_programs.specs.Programs.{data_of}
 use Rattle.verifier.specs.declared.least.LeastLimits.{LeastLimits}
 use Rattle.verifier.specs.Limits.{farthest, longest_path, path_sum, start_life}
 use Rattle.verifier.specs.Programs.{least_stack, least_attempts, least_obligations, least_budget}

@@ -1,7 +1,7 @@
 use Rattle.std.proofs.Common.{◌≡◌, ◌+◌, ◌-◌, ◌<◌, ◌≤◌, ℕ, List, ◌∷◌, length, drop, ap, sym, ◌∙◌}
 use Rattle.std.proofs.Common.{arith}
 use Rattle.std.proofs.lemmas.List.{length-set}
-use Rattle.bytecode.specs.declared.block_instr.BlockInstr.{BlockInstr}
+use Rattle.bytecode_programs.specs.declared.block_instr.BlockInstr.{BlockInstr}
 use Rattle.verifier.specs.Views.{blocks_of}
 use Rattle.verifier.proofs.SectionLaws.{blocks_at}
 use Rattle.verifier.proofs.LimitLaws.{lives_step, few_step}

@@ -1,6 +1,6 @@
 use Rattle.std.proofs.Common.{ap, arith, drop}
 use Rattle.std.proofs.lemmas.List.{drop_more}
-use Rattle.bytecode.specs.declared.block_instr.BlockInstr.TheVariants.{Unless}
+use Rattle.bytecode_programs.specs.declared.block_instr.BlockInstr.TheVariants.{Unless}
 use Rattle.verifier.specs.Limits.{longest_entered}
 use Rattle.verifier.proofs.lives.longest_entered.Goals as goal
 

@@ -1,5 +1,5 @@
 use Rattle.std.proofs.Common.{◌≡◌, map, take}
-use Rattle.bytecode.specs.Instructions.{block_flow}
+use Rattle.bytecode_programs.specs.Instructions.{block_flow}
 use Rattle.verifier.proofs.paths.block_flows.Given as goal
 
 abbrev pub invariant-block : goal.invariant-block

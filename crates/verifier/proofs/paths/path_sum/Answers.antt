@@ -1,5 +1,5 @@
 use Rattle.std.proofs.Common.{◌≡◌, ◌+◌, List, ◌∷◌, drop, ap, sym, ◌∙◌, arith}
-use Rattle.bytecode.specs.declared.block_instr.BlockInstr.{BlockInstr}
+use Rattle.bytecode_programs.specs.declared.block_instr.BlockInstr.{BlockInstr}
 use Rattle.verifier.specs.Sections.{instructions_in}
 use Rattle.verifier.specs.Limits.{path_sum}
 use Rattle.verifier.specs.Views.{blocks_of}

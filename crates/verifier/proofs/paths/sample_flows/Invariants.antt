@@ -1,5 +1,5 @@
 use Rattle.std.proofs.Common.{◌≡◌, map, take}
-use Rattle.bytecode.specs.Instructions.{sample_flow}
+use Rattle.bytecode_programs.specs.Instructions.{sample_flow}
 use Rattle.verifier.proofs.paths.sample_flows.Given as goal
 
 abbrev pub invariant-code : goal.invariant-code

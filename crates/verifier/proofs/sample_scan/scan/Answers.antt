@@ -1,7 +1,7 @@
 use Rattle.std.proofs.Common.{◌+◌, refl, sym, subst, arith, length, reverse}
 use Rattle.std.proofs.lemmas.Result.{err_from_is_err_and}
-use Rattle.bytecode.specs.declared.flow.Flow.{Flow}
-use Rattle.bytecode.specs.declared.sample_instr.SampleInstr.TheVariants.{Push}
+use Rattle.bytecode_programs.specs.declared.flow.Flow.{Flow}
+use Rattle.bytecode_programs.specs.declared.sample_instr.SampleInstr.TheVariants.{Push}
 use Rattle.verifier.specs.Rules.{sample_rules}
 use Rattle.verifier.specs.Views.{frame_data}
 use Rattle.verifier.specs.Inference.{sends}

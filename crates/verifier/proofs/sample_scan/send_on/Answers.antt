@@ -1,5 +1,5 @@
 use Rattle.std.proofs.Common.{◌≡◌, ℕ, List, ◌+◌, ◌∙◌, [], ◌∷◌, length, reverse, sym, subst, arith}
-use Rattle.bytecode.specs.declared.flow.Flow.{Flow}
+use Rattle.bytecode_programs.specs.declared.flow.Flow.{Flow}
 use Rattle.verifier.specs.Inference.{sends, jump_faults}
 use Rattle.verifier.specs.Arrivals.{HoldsFrom}
 use Rattle.verifier.proofs.TypingLaws.{target_clear}

@@ -1,5 +1,5 @@
 use Rattle.std.proofs.Common.{◌≡◌, ◌+◌, ◌-◌, [], ◌∷◌, set, length, true, sym, subst, arith}
-use Rattle.bytecode.specs.declared.flow.Flow.{Flow}
+use Rattle.bytecode_programs.specs.declared.flow.Flow.{Flow}
 use Rattle.verifier.specs.Inference.{sends, jump_faults}
 use Rattle.verifier.specs.Marks.{MarksReached}
 use Rattle.verifier.proofs.MarkLaws.{marked_set}

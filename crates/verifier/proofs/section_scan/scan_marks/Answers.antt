@@ -1,7 +1,7 @@
 use Rattle.std.proofs.Common.{◌≡◌, ◌+◌, ℕ, [], false, length, refl, sym, ◌∙◌, subst, arith}
 use Rattle.std.proofs.lemmas.Option.{slice_get-get_or}
-use Rattle.bytecode.specs.declared.flow.Flow.{Flow}
-use Rattle.bytecode.specs.declared.block_instr.BlockInstr.TheVariants.{Unless}
+use Rattle.bytecode_programs.specs.declared.flow.Flow.{Flow}
+use Rattle.bytecode_programs.specs.declared.block_instr.BlockInstr.TheVariants.{Unless}
 use Rattle.verifier.specs.Inference.{sends, jump_faults, end_faults}
 use Rattle.verifier.specs.Marks.{MarksReached}
 use Rattle.verifier.proofs.BlockLaws.{block_start, block_refused, block_step, block_parts}

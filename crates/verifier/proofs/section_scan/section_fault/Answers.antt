@@ -1,12 +1,12 @@
 use Rattle.std.proofs.Common.{◌≡◌, ◌<◌, ◌+◌, ℕ, List, ◌∷◌, drop, ap, sym, subst, ◌∙◌, arith, length}
 use Rattle.std.proofs.lemmas.List.{length-map}
-use Rattle.bytecode.specs.declared.block_instr.BlockInstr.{BlockInstr}
+use Rattle.bytecode_programs.specs.declared.block_instr.BlockInstr.{BlockInstr}
 use Rattle.verifier.specs.Rules.{block_rules, section_of_side}
 use Rattle.verifier.specs.Inference.{code_faults}
 use Rattle.verifier.specs.Scans.{IsFirstOf}
 use Rattle.verifier.specs.Sections.{instructions_in}
 use Rattle.verifier.specs.Marks.{found_in}
-use Rattle.bytecode.specs.Views.{section_data}
+use Rattle.bytecode_programs.specs.Views.{section_data}
 use Rattle.verifier.proofs.SectionLaws.{blocks_at, see_start, see_block}
 use Rattle.verifier.proofs.section_scan.section_fault.Goals as goal
 

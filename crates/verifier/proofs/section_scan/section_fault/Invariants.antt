@@ -2,7 +2,7 @@ use Rattle.std.proofs.Common.{◌+◌, ◌≤◌, drop}
 use Rattle.verifier.specs.Rules.{section_of_side}
 use Rattle.verifier.specs.Sections.{instructions_in}
 use Rattle.verifier.specs.Marks.{found_in}
-use Rattle.bytecode.specs.Views.{section_data}
+use Rattle.bytecode_programs.specs.Views.{section_data}
 use Rattle.verifier.specs.Views.{blocks_of}
 use Rattle.verifier.proofs.SectionLaws.{HasSeen}
 use Rattle.verifier.proofs.section_scan.section_fault.Given as goal

@@ -3,17 +3,17 @@ use Rattle.std.proofs.Common.{arith}
 use Rattle.std.specs.Prelude.{slice_get, slice_index_or}
 use Rattle.std.proofs.lemmas.List.{length-set}
 use Rattle.std.proofs.lemmas.List.Elements.{All-push, All-same}
-use Rattle.bytecode.specs.Values.{ProgramData}
-use Rattle.verdicts.specs.declared.line.Line.{Line}
-use Rattle.verdicts.specs.Lines.{LineData, line}
-use Rattle.machine_decisions.specs.Lines.{IsLineOver, attempts_of}
+use Rattle.bytecode_programs.specs.Values.{ProgramData}
+use Rattle.report_lines.specs.declared.line.Line.{Line}
+use Rattle.report_lines.specs.Lines.{LineData, line}
+use Rattle.machine_batches.specs.Lines.{IsLineOver, attempts_of}
 use Rattle.workers_core.specs.Values.{job_value, rows_over}
 use Rattle.workers_core.proofs.CorePartLaws.{get-some}
-use Rattle.workers_single.specs.declared.growing_line.GrowingLine.{GrowingLine}
-use Rattle.workers_single.proofs.LineLaws.{line-more}
-use Rattle.workers_single.proofs.TakenLaws.{each-but}
-use Rattle.workers_shared.specs.declared.numbered.Numbered.{Numbered}
-use Rattle.workers_shared.specs.Monitors.{IsMonitorAt}
+use Rattle.workers_core.specs.declared.growing_line.GrowingLine.{GrowingLine}
+use Rattle.workers_core.proofs.LineLaws.{line-more}
+use Rattle.workers_core.proofs.TakenLaws.{each-but}
+use Rattle.workers_bench.specs.declared.numbered.Numbered.{Numbered}
+use Rattle.workers_bench.specs.Monitors.{IsMonitorAt}
 use Rattle.workers.specs.Between.{IsTold, clocks_of}
 use Rattle.workers.specs.Tallied.{told_by}
 use Rattle.workers.proofs.Telling.{all-at, get-other}

@@ -1,13 +1,13 @@
 use Rattle.std.proofs.Common.{◌≡◌, ◌≤◌, ℕ, All, Some, length, map, take}
 use Rattle.std.specs.Prelude.{slice_get}
 use Rattle.std.specs.List.{AllZip}
-use Rattle.bytecode.specs.Values.{ProgramData}
+use Rattle.bytecode_programs.specs.Values.{ProgramData}
 use Rattle.vcd_reader.specs.Dump.{Contents}
-use Rattle.verdicts.specs.declared.line.Line.{Line}
-use Rattle.verdicts.specs.Lines.{LineData, line}
-use Rattle.machine_decisions.specs.Lines.{IsLineOver, attempts_of}
+use Rattle.report_lines.specs.declared.line.Line.{Line}
+use Rattle.report_lines.specs.Lines.{LineData, line}
+use Rattle.machine_batches.specs.Lines.{IsLineOver, attempts_of}
 use Rattle.workers_core.specs.Values.{Says, job_value, rows_over}
-use Rattle.workers_single.specs.declared.growing_line.GrowingLine.{GrowingLine}
+use Rattle.workers_core.specs.declared.growing_line.GrowingLine.{GrowingLine}
 use Rattle.workers.specs.Between.{IsTold, clocks_of}
 use Rattle.workers.specs.Tallied.{told_by, lines_said}
 use Rattle.workers.proofs.lines.lines_of.Given as goal

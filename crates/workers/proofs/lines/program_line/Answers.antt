@@ -1,13 +1,13 @@
 use Rattle.std.proofs.Common.{◌≤◌, ◌++◌, List, length, ap, ◌∙◌, sym, subst, arith}
 use Rattle.signals.specs.declared.verdict.Decided.{Decided}
-use Rattle.bytecode.specs.Values.{ProgramData}
-use Rattle.machine_definition.specs.Runs.{open_ones}
+use Rattle.bytecode_programs.specs.Values.{ProgramData}
+use Rattle.machine_checked.specs.Runs.{open_ones}
 use Rattle.cycle_window.specs.declared.clocks.Clocks.{Clocks}
 use Rattle.cycle_window.specs.Held.{ticks_in}
-use Rattle.machine_decisions.specs.Batches.{batch_of}
-use Rattle.machine_decisions.specs.Lines.{line_over, attempts_of}
+use Rattle.machine_batches.specs.Batches.{batch_of}
+use Rattle.machine_batches.specs.Lines.{line_over, attempts_of}
 use Rattle.workers_core.specs.Values.{job_value, rows_over}
-use Rattle.workers_single.specs.Taken.{TookIn}
+use Rattle.workers_core.specs.Taken.{TookIn}
 use Rattle.workers_core.specs.declared.monitor.Monitor.{Monitor}
 use Rattle.workers.specs.Between.{clocks_of}
 use Rattle.workers.specs.Tallied.{count_in}

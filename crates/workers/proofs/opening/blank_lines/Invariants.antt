@@ -1,7 +1,7 @@
 use Rattle.std.proofs.Common.{◌≡◌, ℕ, [], Some, length}
 use Rattle.std.specs.Prelude.{slice_get}
-use Rattle.workers_single.specs.declared.growing_line.GrowingLine.{GrowingLine}
-use Rattle.workers_single.specs.Taken.{TookIn}
+use Rattle.workers_core.specs.declared.growing_line.GrowingLine.{GrowingLine}
+use Rattle.workers_core.specs.Taken.{TookIn}
 use Rattle.workers.proofs.opening.blank_lines.Given as goal
 
 -- the lines so far are blank

@@ -1,11 +1,11 @@
 use Rattle.std.proofs.Common.{subst, All, rules, arith}
 use Rattle.std.specs.Vec.Iter.{into_iter_items}
 use Rattle.std.proofs.lemmas.List.Elements.{All-head, All-tail}
-use Rattle.workers_shared.specs.Shares.{IsFresh}
-use Rattle.workers_shared.proofs.Keeps.{all_pushed, total_push}
-use Rattle.workers_rounds.specs.declared.round.Member.{Member}
-use Rattle.workers_rounds.specs.Adding.{amount_of}
-use Rattle.workers_rounds.specs.Runs.{IsMember}
+use Rattle.verdicts.specs.Shares.{IsFresh}
+use Rattle.workers_bench.proofs.Keeps.{all_pushed, total_push}
+use Rattle.workers.specs.declared.round.Member.{Member}
+use Rattle.workers.specs.Adding.{amount_of}
+use Rattle.workers.specs.Runs.{IsMember}
 use Rattle.workers.proofs.Shares.{fresh-amount}
 use Rattle.workers.proofs.opening.members_of.Goals as goal
 

@@ -1,8 +1,8 @@
 use Rattle.std.proofs.Common.{◌≡◌, ◌≤◌, ◌+◌, ℕ, All, vec_len, vec_capacity}
 use Rattle.std.specs.Vec.Iter.{into_iter_items, into_iter_len}
-use Rattle.workers_shared.specs.Shares.{IsFresh}
-use Rattle.workers_rounds.specs.Adding.{added_by}
-use Rattle.workers_rounds.specs.Runs.{IsMember}
+use Rattle.verdicts.specs.Shares.{IsFresh}
+use Rattle.workers.specs.Adding.{added_by}
+use Rattle.workers.specs.Runs.{IsMember}
 use Rattle.workers.proofs.opening.members_of.Given as goal
 
 -- those left are fresh, and those that are there added nothing

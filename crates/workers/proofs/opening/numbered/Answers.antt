@@ -2,8 +2,8 @@ use Rattle.std.proofs.Common.{◌≡◌, ◌++◌, ◌∷◌, [], ap, ◌∙◌,
 use Rattle.std.proofs.lemmas.List.{map-append}
 use Rattle.std.specs.Vec.Iter.{into_iter_items}
 use Rattle.workers_core.specs.declared.monitor.Monitor.{Monitor}
-use Rattle.workers_rounds.specs.Runs.{upto}
-use Rattle.workers_rounds.proofs.Orders.{next_number}
+use Rattle.workers.specs.Runs.{upto}
+use Rattle.workers.proofs.Orders.{next_number}
 use Rattle.workers.specs.Taking.{monitor_of}
 use Rattle.workers.proofs.opening.numbered.Goals as goal
 

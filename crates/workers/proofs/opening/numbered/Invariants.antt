@@ -1,7 +1,7 @@
 use Rattle.std.proofs.Common.{◌≡◌, ◌≤◌, ◌+◌, ◌++◌, map, vec_len, vec_capacity}
 use Rattle.std.specs.Vec.Iter.{into_iter_items, into_iter_len}
-use Rattle.workers_shared.specs.Hands.{numbers}
-use Rattle.workers_rounds.specs.Runs.{upto}
+use Rattle.workers_bench.specs.Hands.{numbers}
+use Rattle.workers.specs.Runs.{upto}
 use Rattle.workers.specs.Taking.{monitor_of}
 use Rattle.workers.proofs.opening.numbered.Given as goal
 

@@ -1,7 +1,7 @@
 use Rattle.std.proofs.Common.{refl, ap, length, arith}
 use Rattle.cycle_window.specs.declared.clocks.Clocks.{Clocks}
 use Rattle.cycle_window.specs.Held.{ticks_in}
-use Rattle.verdicts.specs.Shown.{data_of}
+use Rattle.report_lines.specs.Shown.{data_of}
 use Rattle.workers.proofs.ReportLaws.{reports, counted}
 use Rattle.workers.proofs.report.report_run.Goals as goal
 

@@ -1,7 +1,7 @@
 use Rattle.std.proofs.Common.{◌++◌, ◌∷◌, [], ap, ◌∙◌, sym, map, List, append_assoc, rules}
 use Rattle.std.specs.Vec.Iter.{into_iter_items}
-use Rattle.workers_shared.specs.declared.numbered.Numbered.{Numbered}
-use Rattle.workers_rounds.specs.declared.work.Published.{Published}
+use Rattle.workers_bench.specs.declared.numbered.Numbered.{Numbered}
+use Rattle.workers.specs.declared.worker.Published.{Published}
 use Rattle.workers.specs.Taking.{numbered_of}
 use Rattle.workers.proofs.round_batches.monitors_back.Goals as goal
 

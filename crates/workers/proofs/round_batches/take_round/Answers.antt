@@ -4,11 +4,11 @@ use Rattle.std.specs.Prelude.{slice_get}
 use Rattle.std.proofs.lemmas.List.{length-set}
 use Rattle.std.proofs.lemmas.Option.{slice_get_within}
 use Rattle.workers_core.proofs.CorePartLaws.{get-some}
-use Rattle.workers_shared.specs.Receipts.{shown_by}
-use Rattle.workers_single.specs.declared.growing_line.GrowingLine.{GrowingLine}
-use Rattle.workers_single.specs.Taken.{TookIn}
-use Rattle.workers_single.proofs.TakenLaws.{each-but}
-use Rattle.workers_rounds.specs.declared.work.Published.{Published}
+use Rattle.verdicts.specs.Receipts.{shown_by}
+use Rattle.workers_core.specs.declared.growing_line.GrowingLine.{GrowingLine}
+use Rattle.workers_core.specs.Taken.{TookIn}
+use Rattle.workers_core.proofs.TakenLaws.{each-but}
+use Rattle.workers.specs.declared.worker.Published.{Published}
 use Rattle.workers.specs.Taking.{Takes}
 use Rattle.workers.proofs.Telling.{get-other, some-is}
 use Rattle.workers.proofs.round_batches.take_round.Goals as goal

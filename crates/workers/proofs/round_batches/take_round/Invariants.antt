@@ -1,8 +1,8 @@
 use Rattle.std.proofs.Common.{◌≡◌, ◌≤◌, ◌<◌, ℕ, Some, length}
 use Rattle.std.specs.Prelude.{slice_get}
-use Rattle.workers_shared.specs.Receipts.{shown_by}
-use Rattle.workers_single.specs.declared.growing_line.GrowingLine.{GrowingLine}
-use Rattle.workers_rounds.specs.declared.work.Published.{Published}
+use Rattle.verdicts.specs.Receipts.{shown_by}
+use Rattle.workers_core.specs.declared.growing_line.GrowingLine.{GrowingLine}
+use Rattle.workers.specs.declared.worker.Published.{Published}
 use Rattle.workers.specs.Taking.{Takes}
 use Rattle.workers.proofs.round_batches.take_round.Given as goal
 

@@ -3,9 +3,9 @@ use Rattle.std.specs.Prelude.{slice_get}
 use Rattle.cycle_window.specs.declared.clocks.Clocks.{Clocks}
 use Rattle.cycle_window.specs.Held.{ticks_in, end_in}
 use Rattle.workers.specs.Between.{IsFilledFrom}
-use Rattle.workers_rounds.specs.declared.work.Published.{Published}
-use Rattle.workers_rounds.specs.Runs.{upto}
-use Rattle.workers_rounds.specs.Works.{HasLine}
+use Rattle.workers.specs.declared.worker.Published.{Published}
+use Rattle.workers.specs.Runs.{upto}
+use Rattle.workers.specs.Works.{HasLine}
 use Rattle.workers.proofs.Rounding as laws
 use Rattle.workers.proofs.rounds_run.run_round.Goals as goal
 

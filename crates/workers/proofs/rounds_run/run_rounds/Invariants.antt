@@ -1,6 +1,6 @@
 use Rattle.std.proofs.Common.{◌≡◌, ◌-◌, ◌<◌, All, vec_len}
 use Rattle.cycle_window.specs.Held.{end_in}
-use Rattle.workers_rounds.specs.Runs.{IsMember}
+use Rattle.workers.specs.Runs.{IsMember}
 use Rattle.workers.specs.Between.{IsBetween, IsNext, clocks_of}
 use Rattle.workers.specs.Tallied.{AreTallied}
 use Rattle.workers.proofs.rounds_run.run_rounds.Given as goal

@@ -1,17 +1,17 @@
 use Rattle.std.proofs.Common.{◌≡◌, ℕ, List, All, length, ap, ◌∙◌, sym, subst, arith}
 use Rattle.std.specs.Prelude.{slice_get}
 use Rattle.cycle_window.specs.Held.{end_in}
-use Rattle.workers_shared.specs.declared.numbered.Numbered.{Numbered}
-use Rattle.workers_shared.specs.Monitors.{IsMonitorAt}
+use Rattle.workers_bench.specs.declared.numbered.Numbered.{Numbered}
+use Rattle.workers_bench.specs.Monitors.{IsMonitorAt}
 use Rattle.workers.specs.Between.{IsTold, IsBetween, clocks_of}
 use Rattle.workers.proofs.Telling.{placed-monitor, none-told}
 use Rattle.workers.proofs.Adding.{none-told-by, all-counts, four-held}
 use Rattle.cycle_window.specs.declared.clocks.Clocks.{Clocks}
 use Rattle.cycle_window.specs.Held.{ticks_in}
-use Rattle.verdicts.specs.Lines.{LineData, ReportData, report_of}
-use Rattle.verdicts.specs.Shown.{data_of}
+use Rattle.report_lines.specs.Lines.{LineData, ReportData, report_of}
+use Rattle.report_lines.specs.Shown.{data_of}
 use Rattle.workers_core.specs.Values.{job_value}
-use Rattle.workers_single.specs.Lines.{AreLinesOf}
+use Rattle.workers_core.specs.Lines.{AreLinesOf}
 use Rattle.workers.specs.Tallied.{shared_by, lines_said}
 use Rattle.workers.proofs.runs.run_in.Goals as goal
 

@@ -1,6 +1,6 @@
 use Rattle.std.proofs.Common.{◌≡◌, ◌∙◌, ℕ, List, sym, ap, map}
 use Rattle.std.specs.List.{slice_index, sum_by}
-use Rattle.verdicts.specs.Lines.{LineData, ReportData, line, held_count}
+use Rattle.report_lines.specs.Lines.{LineData, ReportData, line, held_count}
 use Rattle.workers.specs.Tallied.{count_in, lines_said}
 use Rattle.workers.proofs.Adding.{said-line, with-total}
 use Rattle.workers.proofs.totals.report_with.Goals as goal

@@ -3,11 +3,11 @@ use Rattle.std.specs.Vec.Iter.{into_iter_items}
 use Rattle.std.specs.List.{sum_by}
 use Rattle.std.proofs.lemmas.List.Elements.{All-head, All-tail}
 use Rattle.std.proofs.lemmas.List.Sums.{sum_by_push}
-use Rattle.workers_shared.specs.declared.tally.Share.{Share}
-use Rattle.workers_shared.specs.Shares.{parts}
-use Rattle.workers_rounds.specs.declared.round.Member.{Member}
-use Rattle.workers_rounds.specs.Adding.{added_by, amount_of}
-use Rattle.workers_rounds.specs.Runs.{IsMember}
+use Rattle.verdicts.specs.declared.tally.Share.{Share}
+use Rattle.verdicts.specs.Shares.{parts}
+use Rattle.workers.specs.declared.round.Member.{Member}
+use Rattle.workers.specs.Adding.{added_by, amount_of}
+use Rattle.workers.specs.Runs.{IsMember}
 use Rattle.workers.specs.Tallied.{shared_by}
 use Rattle.workers.proofs.totals.shares_of.Goals as goal
 

@@ -1,9 +1,9 @@
 use Rattle.std.proofs.Common.{◌≡◌, ◌≤◌, ◌+◌, ℕ, All, vec_len, vec_capacity}
 use Rattle.std.specs.List.{sum_by}
 use Rattle.std.specs.Vec.Iter.{into_iter_items, into_iter_len}
-use Rattle.workers_shared.specs.Shares.{parts}
-use Rattle.workers_rounds.specs.Adding.{added_by}
-use Rattle.workers_rounds.specs.Runs.{IsMember}
+use Rattle.verdicts.specs.Shares.{parts}
+use Rattle.workers.specs.Adding.{added_by}
+use Rattle.workers.specs.Runs.{IsMember}
 use Rattle.workers.specs.Tallied.{shared_by}
 use Rattle.workers.proofs.totals.shares_of.Given as goal
 

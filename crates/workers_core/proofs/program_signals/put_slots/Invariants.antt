@@ -1,7 +1,7 @@
 use Rattle.std.proofs.Common.{◌≡◌, ◌++◌, map, take}
-use Rattle.bytecode.specs.Views.{slot_data}
+use Rattle.bytecode_programs.specs.Views.{slot_data}
 use Rattle.cycle_window.specs.Signals.{wanted_of}
-use Rattle.machine_decisions.specs.Reported.{wanted_slot}
+use Rattle.machine_batches.specs.Reported.{wanted_slot}
 use Rattle.workers_core.proofs.program_signals.put_slots.Given as goal
 
 -- the signals so far

@@ -1,16 +1,16 @@
 use Rattle.std.proofs.Common.{◌≡◌, ℕ, ◌+◌, ◌*◌, ◌≤◌, Bool, List, map, length, refl, sym, ap, ◌∙◌, subst, arith}
 use Rattle.std.proofs.Math.ListN.{length-map}
-use Rattle.bytecode.specs.Programs.{data_of}
-use Rattle.bytecode.specs.Values.{ProgramData}
+use Rattle.bytecode_programs.specs.Programs.{data_of}
+use Rattle.bytecode_programs.specs.Values.{ProgramData}
 use Rattle.verifier.specs.Limits.{path_sum}
-use Rattle.machine_definition.specs.Outcomes.{Ran, done}
-use Rattle.machine_definition.specs.Clocks.{Attempt, Obligation, Visits, visit_attempts, visit_obligations, disable_all}
-use Rattle.machine_definition.specs.Bounds.{RisesBetween, began, since, IsRunning, IsOwed}
+use Rattle.machine_checked.specs.Outcomes.{Ran, done}
+use Rattle.machine_checked.specs.Clocks.{Attempt, Obligation, Visits, visit_attempts, visit_obligations, disable_all}
+use Rattle.machine_checked.specs.Bounds.{RisesBetween, began, since, IsRunning, IsOwed}
 use Rattle.machine.specs.Live.{attempts_in, obligations_in, standing_of, OpenedLately}
-use Rattle.machine_memory.specs.Pooled.{Pooled}
-use Rattle.machine_attempts.specs.declared.attempt.AttemptRecord.{AttemptRecord}
-use Rattle.machine_attempts.specs.declared.obligation.ObligationRecord.{ObligationRecord}
-use Rattle.machine_attempts.specs.Records.{attempt_of, obligation_of}
+use Rattle.attempt_pool.specs.Pooled.{Pooled}
+use Rattle.machine.specs.declared.attempt.AttemptRecord.{AttemptRecord}
+use Rattle.machine.specs.declared.obligation.ObligationRecord.{ObligationRecord}
+use Rattle.machine.specs.Records.{attempt_of, obligation_of}
 use Rattle.machine.proofs.LessLaws.{visit_attempts-less, visit_obligations-less, settle_all-less, disable_all-less}
 use Rattle.machine.proofs.ClockLaws as laws
 use Rattle.machine.proofs.live.Live.full_clock.Goals as goal

@@ -1,5 +1,5 @@
 use Rattle.std.proofs.Common.{◌∙◌, ap}
-use Rattle.bytecode.specs.Programs.{data_of}
+use Rattle.bytecode_programs.specs.Programs.{data_of}
 use Rattle.machine.specs.Live.{attempts_in, obligations_in, standing_of}
 use Rattle.machine.proofs.OwnLaws.{none-stands}
 use Rattle.machine.proofs.ToldLaws.{told-of}

@@ -1,8 +1,8 @@
 use Rattle.std.proofs.Common.{◌≡◌, ◌+◌, List, [], ◌∷◌, refl, sym, ap, ◌∙◌, arith}
-use Rattle.bytecode.specs.Programs.{data_of}
-use Rattle.machine_definition.specs.Outcomes.{done}
-use Rattle.machine_definition.specs.Clocks.{Attempt, Obligation, Standing, visited, settle_all, clock_after}
-use Rattle.machine_attempts.specs.Records.{attempt_of, made_by}
+use Rattle.bytecode_programs.specs.Programs.{data_of}
+use Rattle.machine_checked.specs.Outcomes.{done}
+use Rattle.machine_checked.specs.Clocks.{Attempt, Obligation, Standing, visited, settle_all, clock_after}
+use Rattle.machine.specs.Records.{attempt_of, made_by}
 use Rattle.machine.specs.Live.{attempts_in, standing_of, new_attempt, with_new}
 use Rattle.machine.specs.Own.{own_visits}
 use Rattle.machine.specs.Told.{nothing_at}

@@ -1,10 +1,10 @@
 use Rattle.std.proofs.Common.{◌≡◌, ◌+◌, ◌∷◌, ◌++◌, List, ℕ, length, drop, sym, ap, ◌∙◌, subst, arith}
 use Rattle.std.proofs.Common.{append-nil, length-append}
 use Rattle.std.proofs.lemmas.List.{drop_all}
-use Rattle.bytecode.specs.Programs.{data_of}
-use Rattle.machine_memory.specs.History.{pushed}
-use Rattle.machine_expressions.specs.Memory.{AreRows}
-use Rattle.machine_expressions.proofs.RowLaws.{AreRows-pushed}
+use Rattle.bytecode_programs.specs.Programs.{data_of}
+use Rattle.history_ring.specs.History.{pushed}
+use Rattle.machine_sample_code.specs.Memory.{AreRows}
+use Rattle.machine_sample_code.proofs.RowLaws.{AreRows-pushed}
 use Rattle.machine.proofs.VecLaws.{refilled}
 use Rattle.machine.proofs.stacked.Stacked.run.Goals as goal
 

@@ -1,8 +1,8 @@
 use Rattle.std.proofs.Common.{◌≡◌, ℕ, List, ◌∷◌, ◌++◌, map, take, ap, sym, ◌∙◌, arith}
 use Rattle.std.proofs.lemmas.Simd.{map-map}
 use Rattle.std.proofs.lemmas.List.{take_all}
-use Rattle.bytecode.specs.Instructions.{FrameData}
-use Rattle.bytecode.specs.Views.{slot_data}
+use Rattle.bytecode_programs.specs.Instructions.{FrameData}
+use Rattle.bytecode_programs.specs.Views.{slot_data}
 use Rattle.verifier.proofs.frame.Frame.of.Goals as goal
 
 pub returns : goal.returns

@@ -24,7 +24,7 @@ use Rattle.std.specs.Prelude.{slice_get, slice_set}
 use Rattle.std.specs.Option.{is_some}
 use Rattle.std.proofs.lemmas.List.{map-append}
 use Rattle.cycle_window.specs.Held.{end_in}
-use Rattle.machine_decisions.specs.declared.batch.Batch.{Batch}
+use Rattle.machine_batches.specs.declared.batch.Batch.{Batch}
 use Rattle.workers_core.specs.declared.worker.Worker.{Worker}
 use Rattle.workers_core.specs.States.{WorkerState, BatchState, held, done_of}
 use Rattle.workers_core.specs.Standing.{monitor_state}

@@ -14,7 +14,7 @@ use Rattle.std.proofs.Common.{
 }
 use Rattle.std.proofs.lemmas.List.{length-map}
 use Rattle.signals.specs.declared.verdict.Decided.{Decided}
-use Rattle.machine_definition.specs.Runs.{open_ones}
+use Rattle.machine_checked.specs.Runs.{open_ones}
 use Rattle.workers_core.specs.States.{MonitorState}
 use Rattle.workers_core.specs.Standing.{monitor_state}
 use Rattle.workers_core.specs.Values.{CoreValue}

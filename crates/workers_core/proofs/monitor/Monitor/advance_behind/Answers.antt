@@ -1,10 +1,10 @@
 use Rattle.std.proofs.Common.{◌≡◌, ◌+◌, ◌-◌, ℕ, List, refl, sym, ap, ◌∙◌, subst, arith}
 use Rattle.cycle_window.specs.Ticks.{ticks_of, row_of}
 use Rattle.cycle_window.specs.Held.{columns_in, clock_in}
-use Rattle.machine_decisions.specs.Batches.{rows_between}
+use Rattle.machine_batches.specs.Batches.{rows_between}
 use Rattle.cycle_window.proofs.HeldLaws.{over-end}
 use Rattle.workers_core.specs.declared.monitor.Monitor.{Monitor}
-use Rattle.machine_definition.specs.Outcomes.{done}
+use Rattle.machine_checked.specs.Outcomes.{done}
 use Rattle.workers_core.specs.States.{MonitorState}
 use Rattle.workers_core.specs.Standing.{monitor_state, variables_in, seen}
 use Rattle.workers_core.specs.Standing.{IsSame, HasGone}

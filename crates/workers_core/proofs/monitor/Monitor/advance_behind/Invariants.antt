@@ -1,7 +1,7 @@
 use Rattle.std.proofs.Common.{◌≡◌, ◌+◌, ◌-◌, ◌≤◌, length}
 use Rattle.vcd_reader.specs.Dump.{Contents}
 use Rattle.cycle_window.specs.Held.{IsOver}
-use Rattle.machine_decisions.specs.Batches.{rows_between}
+use Rattle.machine_batches.specs.Batches.{rows_between}
 use Rattle.workers_core.specs.Standing.{seen, IsSame, HasGone}
 use Rattle.workers_core.proofs.monitor.Monitor.advance_behind.Given as goal
 

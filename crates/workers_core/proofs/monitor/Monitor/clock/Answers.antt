@@ -3,9 +3,9 @@ use Rattle.std.proofs.Common.{ℕ, map, subst}
 use Rattle.std.proofs.Math.Logic.{∥∥₁_elim}
 use Rattle.std.specs.Prelude.{◌+◌, ◌≤◌}
 use Rattle.signals.specs.declared.verdict.Decided.{Decided}
-use Rattle.bytecode.specs.Values.{SlotData}
+use Rattle.bytecode_programs.specs.Values.{SlotData}
 use Rattle.machine.specs.Running.{IsOneClock}
-use Rattle.machine_decisions.proofs.RowLaws.{row-values, values-prop}
+use Rattle.machine_batches.proofs.RowLaws.{row-values, values-prop}
 use Rattle.workers_core.proofs.PlaceLaws as laws
 use Rattle.workers_core.proofs.monitor.Monitor.clock.Goals as goal
 

@@ -1,10 +1,10 @@
 use Rattle.std.proofs.Common.{◌≡◌, ◌∙◌, ◌+◌, ◌++◌, ℕ, List, map, refl, ap, subst, arith}
 use Rattle.std.proofs.Math.Logic.{∥∥₁_elim}
 use Rattle.signals.specs.declared.verdict.Decided.{Decided}
-use Rattle.bytecode.specs.Values.{SlotData}
+use Rattle.bytecode_programs.specs.Values.{SlotData}
 use Rattle.machine.specs.Running.{Running}
 use Rattle.machine.specs.Again.{AreAgain}
-use Rattle.machine_decisions.proofs.RowLaws.{row-values, values-prop}
+use Rattle.machine_batches.proofs.RowLaws.{row-values, values-prop}
 use Rattle.workers_core.proofs.PlaceLaws as laws
 use Rattle.workers_core.proofs.monitor.Monitor.repeat.Goals as goal
 

@@ -1,6 +1,6 @@
 use Rattle.std.proofs.Common.{◌≡◌, ◌∙◌, ◌+◌, ◌-◌, ◌≤◌, ℕ, Vec, refl, sym, subst, arith}
 use Rattle.std.specs.Global.{Global}
-use Rattle.bytecode.specs.Values.{ProgramData}
+use Rattle.bytecode_programs.specs.Values.{ProgramData}
 use Rattle.workers_core.specs.Standing.{AreSampled, AreMore}
 use Rattle.workers_core.proofs.PlaceLaws as laws
 use Rattle.workers_core.proofs.monitor.Monitor.run.Goals as goal

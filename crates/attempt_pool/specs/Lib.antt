@@ -1,0 +1,4 @@
+pub mod Lists
+pub mod Nodes
+pub mod Pooled
+pub mod Walk

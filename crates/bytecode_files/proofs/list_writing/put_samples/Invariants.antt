@@ -1,8 +1,0 @@
-use Rattle.std.proofs.Common.{◌≡◌, ◌++◌, length, take}
-use Rattle.std.specs.List.{flat_map}
-use Rattle.bytecode_files.specs.Spelling.{two, sample_spelling}
-use Rattle.bytecode_files.proofs.list_writing.put_samples.Given as goal
-
-abbrev pub invariant-loop-instr : goal.invariant-loop-instr
-invariant-loop-instr l =
-    l.out.items ≡ l.fn.out.items ++ (two (length l.sample) ++ flat_map sample_spelling (take l.instr-index l.sample))

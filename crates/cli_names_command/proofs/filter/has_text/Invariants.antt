@@ -1,6 +1,0 @@
-use Rattle.std.proofs.Common.{◌≡◌, drop}
-use Rattle.cli_names_command.specs.Filters.{has_text}
-use Rattle.cli_names_command.proofs.filter.has_text.Given as goal
-
-abbrev pub invariant-loop-start : goal.invariant-loop-start
-invariant-loop-start l = has_text l.text l.path ≡ has_text l.text (drop l.start l.path)

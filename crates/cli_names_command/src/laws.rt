@@ -1,8 +1,0 @@
-//! Laws of the definitions.
-
-ghost use Rattle.cli_names_command.specs.Rows.{AreNoted};
-
-/// A variable has no note exactly where a rule can name it.
-pub fn note_law()
-    ensures { AreNoted }
-{}

@@ -1,6 +1,0 @@
-use Rattle.compiler_expressions.proofs.WrittenLaws.{writes-then, on-ok}
-use Rattle.compiler_expressions.proofs.program.store_code.Goals as goal
-
-pub returns : goal.returns
-returns c =
-    on-ok c.put.result c.put.ensures (λ last. writes-then c.in_ok-counter_code.ensures last)

@@ -1,0 +1,7 @@
+pub mod ProgramLaws
+pub mod LineLaws
+pub mod SuiteLaws
+pub mod WrittenOut
+pub mod Small
+pub mod TextTrees
+pub mod Depths

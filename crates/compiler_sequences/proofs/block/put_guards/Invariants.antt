@@ -1,7 +1,0 @@
-use Rattle.std.proofs.Common.{◌≡◌, ◌++◌, map, take}
-use Rattle.bytecode.specs.declared.block_instr.BlockInstr.TheVariants.{Unless}
-use Rattle.compiler_sequences.proofs.block.put_guards.Given as goal
-
-abbrev pub invariant-loop-atom : goal.invariant-loop-atom
-invariant-loop-atom l =
-    l.block.items ≡ l.fn.block.items ++ map (λ n. Unless n l.end) (take l.atom-index l.atoms)

@@ -1,9 +1,0 @@
-use Rattle.std.proofs.Common.{◌≡◌, map, take}
-use Rattle.compiler_sequences.specs.Rows.{with_edges, joined_data}
-use Rattle.compiler_sequences.specs.Views.{edge_data}
-use Rattle.compiler_sequences.proofs.lead.put_joined.Given as goal
-
-abbrev pub invariant-loop-other : goal.invariant-loop-other
-invariant-loop-other l =
-    l.draft
-    ≡ with_edges l.fn.draft (map (joined_data l.by (edge_data l.edge)) (map edge_data (take l.other-index l.row)))

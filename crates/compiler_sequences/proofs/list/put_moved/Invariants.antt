@@ -1,6 +1,0 @@
-use Rattle.std.proofs.Common.{◌≡◌, ◌++◌, take}
-use Rattle.compiler_sequences.specs.Tables.{shift}
-use Rattle.compiler_sequences.proofs.list.put_moved.Given as goal
-
-abbrev pub invariant-loop-position : goal.invariant-loop-position
-invariant-loop-position l = l.list.items ≡ l.fn.list.items ++ shift l.by (take l.position-index l.more)

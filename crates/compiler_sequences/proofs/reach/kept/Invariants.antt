@@ -1,5 +1,0 @@
-use Rattle.compiler_sequences.proofs.SiftLaws.{AreMarked}
-use Rattle.compiler_sequences.proofs.reach.kept.Given as goal
-
-abbrev pub invariant-loop-place : goal.invariant-loop-place
-invariant-loop-place l = AreMarked l.table l.place l.marks.items

@@ -1,3 +1,0 @@
-pub mod AllLaws
-pub mod ChosenLaws
-pub mod FailedLaws

@@ -1,6 +1,0 @@
-pub mod Arrows
-pub mod Chosen
-pub mod Explained
-pub mod Failed
-pub mod Told
-pub mod ExplainedText

@@ -1,7 +1,0 @@
-use Rattle.std.proofs.Common.{◌≡◌, ◌++◌, drop, map}
-use Rattle.explaining.specs.declared.cells.RowSource.TheVariants.{Counter}
-use Rattle.explaining.proofs.sheet.push_counters.Given as goal
-
-abbrev pub invariant-loop-place : goal.invariant-loop-place
-invariant-loop-place l =
-    l.sources.items ++ map Counter (drop l.place-index l.places) ≡ l.fn.sources.items ++ map Counter l.places

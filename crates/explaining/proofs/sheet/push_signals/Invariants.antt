@@ -1,7 +1,0 @@
-use Rattle.std.proofs.Common.{◌≡◌, ◌++◌, drop, map}
-use Rattle.explaining.specs.declared.cells.RowSource.TheVariants.{Signal}
-use Rattle.explaining.proofs.sheet.push_signals.Given as goal
-
-abbrev pub invariant-loop-place : goal.invariant-loop-place
-invariant-loop-place l =
-    l.sources.items ++ map Signal (drop l.place-index l.places) ≡ l.fn.sources.items ++ map Signal l.places

@@ -1,9 +1,0 @@
-use Rattle.std.proofs.Common.{take}
-use Rattle.explaining.specs.Shown.{ShowsRows}
-use Rattle.explaining.proofs.sheet.rows_of.Given as goal
-
--- the rows so far
-abbrev pub invariant-loop-source : goal.invariant-loop-source
-invariant-loop-source l =
-    let read = l.read in
-    ShowsRows read.suite.now read.assertion.now read.rows.now l.clocks (take l.source-index l.sources) l.rows.items

@@ -1,4 +1,0 @@
-use Rattle.import_terms.proofs.terms.Terms.+is_signed.Given as goal
-
-abbrev pub decreases-is_signed : goal.decreases-is_signed
-decreases-is_signed l = l.depth

@@ -1,4 +1,0 @@
-use Rattle.import_terms.proofs.terms.Terms.+term.Given as goal
-
-abbrev pub decreases-term : goal.decreases-term
-decreases-term l = l.depth

@@ -1,9 +1,0 @@
-use Rattle.std.proofs.Common.{◌≡◌, map, take}
-use Rattle.cycle_window.specs.Signals.{wanted_of}
-use Rattle.judged_reports.specs.Named.{wanted_in_suite}
-use Rattle.judged_reports.proofs.report.signals_of.Given as goal
-
--- the signals so far
-abbrev pub invariant-loop-name : goal.invariant-loop-name
-invariant-loop-name l =
-    map wanted_of l.signals.items ≡ map wanted_in_suite (take l.name-index l.names)

@@ -1,6 +1,0 @@
-use Rattle.std.proofs.Common.{◌∙◌}
-use Rattle.judged_reports.proofs.rows.suite_rows.Goals as goal
-
-pub returns-clause-rows : goal.returns-clause-rows
-returns-clause-rows c = λ k signals holds named.
-    c.in_ok-count.ensures.signals ∙ c.in_ok-signals.ensures k signals holds named

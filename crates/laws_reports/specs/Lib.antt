@@ -1,5 +1,0 @@
-pub mod Laws
-pub mod ReadInText
-pub mod Causes
-pub mod Same
-pub mod Suites

@@ -1,5 +1,0 @@
-pub mod Laws
-pub mod WrittenOut
-pub mod Small
-pub mod TextTrees
-pub mod Depths

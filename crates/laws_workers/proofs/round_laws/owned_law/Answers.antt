@@ -1,5 +1,0 @@
-use Rattle.laws_workers.proofs.OwnedLaws.{owners-are-dealt}
-use Rattle.laws_workers.proofs.round_laws.owned_law.Goals as goal
-
-pub returns : goal.returns
-returns c = owners-are-dealt

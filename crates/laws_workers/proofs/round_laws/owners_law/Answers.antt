@@ -1,5 +1,0 @@
-use Rattle.laws_workers.proofs.OwnedLaws.{dealt-have-owners}
-use Rattle.laws_workers.proofs.round_laws.owners_law.Goals as goal
-
-pub returns : goal.returns
-returns c = dealt-have-owners

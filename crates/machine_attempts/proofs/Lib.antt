@@ -1,4 +1,0 @@
-pub mod RunLaws
-pub mod SetLaws
-pub mod BitLaws
-pub mod MarkLaws

@@ -1,5 +1,0 @@
-pub mod Bases
-pub mod Records
-pub mod Marks
-pub mod Finishes
-pub mod Steps

@@ -1,9 +1,0 @@
-use Rattle.machine_memory.proofs.FilledLaws.{readable, next_shown}
-use Rattle.machine_memory.proofs.nodes.Nodes.next.Goals as goal
-
-pub get-requires : goal.get-requires
-get-requires g c = readable _ _ c.self.invariant.0 _ c.self.view_is _ c.requires
-
-pub returns : goal.returns
-returns g c =
-    next_shown _ _ c.self.invariant.0 _ c.self.view_is _ c.requires _ c.get.ensures

@@ -1,9 +1,0 @@
-use denote.RattleType.{RattleType}
-use denote.Param.Send.{IsSend, Frees}
-use Rattle.core.specs.declared.alloc.Allocator.{Ghosts}
-use Rattle.machine_memory.proofs.Crosses.{lease_send}
-use Rattle.machine_memory.specs.contracts.places.Lease.{the_row}
-
-pub send : (R A : RattleType) (g : Ghosts A.Denot) → IsSend A → Frees g g.dealloc_token
-    → IsSend (the_row R A g)
-send R A g s = lease_send R A g

@@ -1,5 +1,0 @@
-use Rattle.machine_memory.proofs.TurnedLaws.{history_of-zeros}
-use Rattle.machine_memory.proofs.ring.Ring.new.Goals as goal
-
-pub returns : goal.returns
-returns c = rw c.in_ok-store.ensures (history_of-zeros c.args.depth c.args.slots)

@@ -1,8 +1,0 @@
-use Rattle.parser_expressions.proofs.NameSteps.{lead-name-yes, lead-name-no}
-use Rattle.parser_expressions.proofs.read.accept_name.Goals as goal
-
-pub returns-then-is_name-clause-token : goal.returns-then-is_name-clause-token
-returns-then-is_name-clause-token c = lead-name-yes _ _ _ c.in-Some.ensures c.if-is_name.ensures
-
-pub returns-clause-token : goal.returns-clause-token
-returns-clause-token c = lead-name-no _ _ _ c.in-Some.ensures c.if-is_name.ensures

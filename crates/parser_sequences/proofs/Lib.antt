@@ -1,3 +1,0 @@
-pub mod TreeLaws
-pub mod BodyLaws
-pub mod Steps

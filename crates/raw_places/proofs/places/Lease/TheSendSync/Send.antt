@@ -1,0 +1,9 @@
+use denote.RattleType.{RattleType}
+use denote.Param.Send.{IsSend, Frees}
+use Rattle.core.specs.declared.alloc.Allocator.{Ghosts}
+use Rattle.raw_places.proofs.Crosses.{lease_send}
+use Rattle.raw_places.specs.contracts.places.Lease.{the_row}
+
+pub send : (R A : RattleType) (g : Ghosts A.Denot) → IsSend A → Frees g g.dealloc_token
+    → IsSend (the_row R A g)
+send R A g s = lease_send R A g

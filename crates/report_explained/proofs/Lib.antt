@@ -1,0 +1,4 @@
+pub mod AllLaws
+pub mod ChosenLaws
+pub mod FailedLaws
+pub mod ZipLaws

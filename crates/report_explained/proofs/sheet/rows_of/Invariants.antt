@@ -1,0 +1,9 @@
+use Rattle.std.proofs.Common.{take}
+use Rattle.report_explained.specs.Shown.{ShowsRows}
+use Rattle.report_explained.proofs.sheet.rows_of.Given as goal
+
+-- the rows so far
+abbrev pub invariant-loop-source : goal.invariant-loop-source
+invariant-loop-source l =
+    let read = l.read in
+    ShowsRows read.suite.now read.assertion.now read.rows.now l.clocks (take l.source-index l.sources) l.rows.items

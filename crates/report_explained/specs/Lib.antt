@@ -1,0 +1,7 @@
+pub mod Arrows
+pub mod Chosen
+pub mod Explained
+pub mod Failed
+pub mod Told
+pub mod ExplainedText
+pub mod Shown

@@ -1,0 +1,97 @@
+-- What the rows of a sheet show.
+use Rattle.std.specs.Prelude.{◌≡◌, ℕ, zero, suc, Bool, true, false, List, [], ◌∷◌, ◌++◌, length}
+use Rattle.std.specs.Prelude.{Option, Some, None, map, slice_get}
+use Rattle.std.specs.List.{AllZip}
+use Rattle.expressions.specs.declared.name.Name.{Name}
+use Rattle.expressions.specs.declared.name.Origin.{Origin}
+use Rattle.expressions.specs.declared.name.Origin.TheVariants.{Signal as FromSignal}
+use Rattle.expressions.specs.declared.name.Origin.TheVariants.{Counter as FromCounter}
+use Rattle.assertions.specs.Marks.{AreMarks, places_from}
+use Rattle.assertions.specs.Reads.{AreRead}
+use Rattle.report_explained.specs.declared.sheet.Sheet.{Sheet}
+use Rattle.report_explained.specs.declared.sheet.SheetRow.{SheetRow}
+use Rattle.expressions.specs.declared.rows.Rows.{Rows}
+use Rattle.expressions.specs.Rows.{samples_of}
+use Rattle.expressions.specs.Tables.{column}
+use Rattle.assertions.specs.declared.assertion.Assertion.{Assertion}
+use Rattle.assertions.specs.declared.suite.Suite.{Suite}
+use Rattle.assertions.specs.Shapes.{expression_at, is_true_at}
+use Rattle.report_explained.specs.declared.cells.RowSource.{RowSource}
+use Rattle.report_explained.specs.declared.cells.RowSource.TheVariants.{Signal, Counter, Listed}
+
+-- a boolean as a number
+abbrev pub bit_number : Bool → ℕ
+bit_number true = 1
+bit_number false = 0
+
+-- the value that a row shows at a clock: that of a signal, of a counter, or of a boolean of the
+-- assertion's list
+abbrev pub value_of_row : Suite → Assertion → Rows → RowSource → ℕ → ℕ
+value_of_row suite a rows (Signal place) clock = column rows.signals place clock
+value_of_row suite a rows (Counter place) clock = column rows.counters place clock
+value_of_row suite a rows (Listed place) clock =
+    bit_number
+    (is_true_at (samples_of rows)
+    (expression_at suite.booleans.items (slice_get a.booleans.items place)) clock)
+
+-- signals and counters are shown at each clock
+abbrev pub is_always_shown : RowSource → Bool
+is_always_shown (Signal place) = true
+is_always_shown (Counter place) = true
+is_always_shown (Listed place) = false
+
+-- what a cell says of a value
+abbrev pub CellSays : Bool → Option ℕ → ℕ → Type 0
+CellSays always None value = always ≡ false
+CellSays always (Some shown) value = shown ≡ value
+
+-- There is a cell for each clock. It has the value at the clock, or none where that need not be
+-- shown.
+abbrev pub ShowsValues : (ℕ → ℕ) → Bool → List ℕ → List (Option ℕ) → Type 0
+ShowsValues value always = AllZip (λ clock cell. CellSays always cell (value clock))
+
+-- the cells of a row of an assertion
+abbrev pub ShowsSource : Suite → Assertion → Rows → List ℕ → RowSource → List (Option ℕ) → Type 0
+ShowsSource suite a rows clocks source cells =
+    ShowsValues (value_of_row suite a rows source) (is_always_shown source) clocks cells
+
+-- A row shows the values of its source.
+pub record IsShownRow (suite : Suite) (a : Assertion) (rows : Rows) (clocks : List ℕ)
+    (source : RowSource) (row : SheetRow) : Type 0 where
+  pub source_is : row.source ≡ source
+  pub shows : ShowsSource suite a rows clocks source row.cells.items
+
+-- There is a row for each source.
+abbrev pub ShowsRows :
+    Suite → Assertion → Rows → List ℕ → List RowSource → List SheetRow → Type 0
+ShowsRows suite a rows clocks = AllZip (IsShownRow suite a rows clocks)
+
+-- the booleans of so many places
+abbrev pub listed_below : ℕ → List RowSource
+listed_below zero = []
+listed_below (suc count) = listed_below count ++ Listed count ∷ []
+
+-- in rising order, the places of an origin that are among some names
+pub record ArePlaces (origin : Origin) (names : List Name) (count : ℕ) (places : List ℕ) :
+    Type 0 where
+  pub marks : List Bool
+  pub marks_are : AreMarks origin names count marks
+  pub places_are : places ≡ places_from 0 marks
+
+-- Where the rows of an assertion come from: the signals that it reads, in the suite's order, the
+-- counters that it reads, and its booleans.
+pub record AreSources (suite : Suite) (a : Assertion) (sources : List RowSource) : Type 0 where
+  pub names : List Name
+  pub read : AreRead suite a names
+  pub signals : List ℕ
+  pub signals_are : ArePlaces FromSignal names (length suite.names.items) signals
+  pub counters : List ℕ
+  pub counters_are : ArePlaces FromCounter names (length suite.counters.items) counters
+  pub are : sources
+      ≡ (map Signal signals ++ map Counter counters) ++ listed_below (length a.booleans.items)
+
+-- A sheet shows what an assertion reads.
+pub record IsSheet (suite : Suite) (a : Assertion) (rows : Rows) (sheet : Sheet) : Type 0 where
+  pub sources : List RowSource
+  pub read : AreSources suite a sources
+  pub shows : ShowsRows suite a rows sheet.clocks.items sources sheet.rows.items

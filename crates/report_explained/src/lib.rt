@@ -1,0 +1,53 @@
+//! The failed attempts of a report, explained: which are asked for, why each failed, and sheets of
+//! the values that it read, as text.
+//!
+//! ```text
+//! let wanted = Wanted { only: Some("granted"), start: None, most: 1 };
+//! let judged = Judged { suite: &suite, rows: &rows, counters: &counter_names };
+//! let explanations = explain(alloc, &judged, report.lines.as_slice(), &wanted)?;
+//! let told = told_of(alloc, lines, explanations.as_slice(), &standings)?;
+//! let text = explained_text(alloc, &from, told.as_slice())?;
+//! ```
+//!
+//! The lines are those of a report on the suite over these rows. Of each assertion that is asked
+//! for, the failed attempts are taken in the report's order: those that began at a clock, or all,
+//! and at most so many. Each has its cause, which is why it failed by the definition of a failure,
+//! and its sheet. A sheet has the clocks from as many before the attempt's first as the booleans
+//! look back up to that of the decision, a row for each signal and counter that the assertion
+//! reads, and one for each of its booleans, with a cell for each clock.
+//!
+//! The definitions: which attempts are asked for, in `specs/Chosen.antt`; what an explanation says,
+//! in `specs/Explained.antt`; where the values of a sheet come from, in `specs/Shown.antt`; what
+//! stands between an assertion's sides, in `specs/Arrows.antt`; what is told of it, in
+//! `specs/Told.antt`; and as text, in `specs/ExplainedText.antt`. Lines are those of
+//! `report_suites`, causes those of `judging`, values those of `expressions`.
+//!
+//! Not promised: that memory suffices, at which clocks a sheet shows a boolean, how a sheet is laid
+//! out, and which brackets the text of an expression has.
+#![tactic(auto)]
+
+mod arrow;
+mod asked;
+mod cells;
+mod choices;
+mod columns;
+mod explanation;
+mod expression_text;
+mod failed_attempt;
+mod interval;
+mod reach;
+mod selection;
+mod sheet;
+mod sheet_text;
+mod text;
+mod value_text;
+
+pub use arrow::Arrow;
+pub use cells::RowSource;
+pub use choices::Choice;
+pub use explanation::{Explanation, Judged, Reason, explain};
+pub use failed_attempt::{FailedAttempt, Standing, told_of};
+pub use selection::Wanted;
+pub use sheet::{Sheet, SheetRow};
+pub use text::explained_text;
+pub use value_text::push_value;

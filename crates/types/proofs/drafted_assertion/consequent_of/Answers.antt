@@ -1,0 +1,27 @@
+use Rattle.parser_grammar.specs.Views.{sequence_of}
+use Rattle.types_names.specs.Views.{scope_of, columns_in}
+use Rattle.types_names.specs.Faults.{sequence_faults}
+use Rattle.types_names.specs.Columns.{sequence_signals}
+use Rattle.types_names.proofs.FaultLaws.{no_faults-parts}
+use Rattle.types_names.proofs.ColumnLaws.{listed-parts}
+use Rattle.types.proofs.drafted_assertion.consequent_of.Goals as goal
+
+pub draft_of-requires-clause-sound : goal.draft_of-requires-clause-sound
+draft_of-requires-clause-sound c = λ k. rw c.deref.ensures (rw c.in-Plain.is at (c.requires.sound k))
+
+pub draft_of-requires-in-Implication-clause-sound : goal.draft_of-requires-in-Implication-clause-sound
+draft_of-requires-in-Implication-clause-sound c = λ k.
+    let s = scope_of c.args.scope.now in
+    let whole = rw c.in-Implication.is at (c.requires.sound k) in
+    rw c.deref-in-Implication.ensures
+    (no_faults-parts (sequence_faults s k (sequence_of c.in-Implication.field-1.value))
+    (sequence_faults s k (sequence_of c.in-Implication.consequent.value)) whole).1
+
+pub draft_of-requires-in-Implication-clause-listed : goal.draft_of-requires-in-Implication-clause-listed
+draft_of-requires-in-Implication-clause-listed c =
+    let s = scope_of c.args.scope.now in
+    let whole = rw c.in-Implication.is at c.requires.listed in
+    rw c.deref-in-Implication.ensures
+    (listed-parts (columns_in c.args.columns.now)
+    (sequence_signals s (sequence_of c.in-Implication.field-1.value))
+    (sequence_signals s (sequence_of c.in-Implication.consequent.value)) whole).1

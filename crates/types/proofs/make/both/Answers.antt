@@ -1,0 +1,10 @@
+use Rattle.assertions.specs.Shapes.{written_form}
+use Rattle.types.proofs.SameLaws.{says_and}
+use Rattle.types.proofs.make.both.Goals as goal
+
+pub returns : goal.returns
+returns c = λ v w a b.
+    let first = written_form c.in-Some.first.value in
+    let second = written_form c.in-Some-second.second.value in
+    rw c.in_ok-new.ensures.ok
+    (says_and v w first second (rw c.in-Some.is at a) (rw c.in-Some-second.is at b))

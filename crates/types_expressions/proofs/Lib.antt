@@ -1,3 +1,0 @@
-pub mod MeaningLaws
-pub mod TypedLaws
-pub mod OneMeaning

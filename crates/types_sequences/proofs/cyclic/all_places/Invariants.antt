@@ -1,6 +1,0 @@
-use Rattle.std.proofs.Common.{◌<◌, ℕ}
-use Rattle.types_sequences.specs.Drafts.{IsNumberIn}
-use Rattle.types_sequences.proofs.cyclic.all_places.Given as goal
-
-abbrev pub invariant-loop-place : goal.invariant-loop-place
-invariant-loop-place l = (p : ℕ) → p < l.place → IsNumberIn p l.places.items

@@ -1,9 +1,0 @@
-pub mod ReadingLaws
-pub mod DraftedLaws
-pub mod OutlineLaws
-pub mod CounterLaws
-pub mod SeenLaws
-pub mod BodyLaws
-pub mod ResolvedLaws
-pub mod SignalLaws
-pub mod MadeLaws

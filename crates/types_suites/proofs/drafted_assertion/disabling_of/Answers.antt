@@ -1,4 +1,0 @@
-use Rattle.types_suites.proofs.drafted_assertion.disabling_of.Goals as goal
-
-pub atom-requires-clause-sound : goal.atom-requires-clause-sound
-atom-requires-clause-sound c = λ k. rw c.deref.ensures (rw c.in-Some.is at (c.requires.sound k))

@@ -1,9 +1,0 @@
-pub mod Options
-pub mod Readings
-pub mod Texts
-pub mod Suites
-pub mod Drafted
-pub mod Resolved
-pub mod Signals
-pub mod Made
-pub mod Faults

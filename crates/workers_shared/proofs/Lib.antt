@@ -1,3 +1,0 @@
-pub mod Keeps
-pub mod Sums
-mod StreakCounts

@@ -1,9 +1,0 @@
-pub mod Monitors
-pub mod Windows
-pub mod Hands
-pub mod Passes
-pub mod Benches
-pub mod Receipts
-pub mod Counts
-pub mod Blanks
-pub mod Shares

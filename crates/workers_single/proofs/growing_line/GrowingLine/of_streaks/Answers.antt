@@ -1,5 +1,0 @@
-use Rattle.std.proofs.Common.{[]}
-use Rattle.workers_single.proofs.growing_line.GrowingLine.of_streaks.Goals as goal
-
-pub returns : goal.returns
-returns c = c.in_ok-take_streaks.ensures.took [] c.new-line.ensures

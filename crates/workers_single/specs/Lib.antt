@@ -1,4 +1,0 @@
-pub mod Growing
-pub mod Lines
-pub mod Rounds
-pub mod Taken
