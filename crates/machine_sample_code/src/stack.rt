@@ -2,30 +2,52 @@
 
 ghost use Rattle.std.specs.Prelude.{◌≡◌, ◌<◌, [], ◌∷◌, length, IfOk};
 
+use arrayvec::ArrayVec;
 use signals::Bits;
 use std::alloc::{AllocError, Global};
 use std::marker::Model;
 
-/// The most operands.
-const MOST: usize = 1024;
+/// A place for an operand. Unlike `Bits` it has a default, which an unused place holds.
+#[derive(Clone, Copy)]
+struct Place {
+    operand: Bits,
+}
+
+impl Model for Place {
+    ghost use Rattle.signals.specs.declared.bits.Bits.{Bits};
+
+    ghost Value = { Bits };
+
+    ghost view = { λ p. p.operand };
+
+    ghost inverse = { λ b. record { operand = b } };
+}
+
+impl Default for Place {
+    #[inline]
+    fn default() -> Place {
+        Place {
+            operand: Bits { width: 1, value: 0 },
+        }
+    }
+}
 
 /// A stack of at most 1,024 operands: to its users the list of them, the top first. Its places lie
 /// in a block of their own, so that a machine is small and cheap to move.
 #[derive(Drop)]
 pub struct Stack {
-    places: Vec<Bits>,
-    depth: usize,
+    places: Box<ArrayVec<Place, 1024>>,
 }
 
 impl Model for Stack {
-    ghost use Rattle.std.specs.Prelude.{◌≡◌, ◌≤◌, List, length, reverse, take};
+    ghost use Rattle.std.specs.Prelude.{◌≤◌, List, length, reverse};
     ghost use Rattle.signals.specs.declared.bits.Bits.{Bits};
 
     ghost Value = { List Bits };
 
-    ghost view = { λ s. reverse (take s.depth s.places.items) };
+    ghost view = { λ s. reverse s.places.value.items };
 
-    ghost invariant = { λ s. (s.depth ≤ 1024) × (length s.places.items ≡ 1024) };
+    ghost invariant = { λ s. length s.places.value.items ≤ 1024 };
 }
 
 impl Stack {
@@ -33,8 +55,8 @@ impl Stack {
     pub fn new(alloc: Global) -> Result<Stack, AllocError>
         ensures { IfOk result (λ stack. stack ≡ []) }
     {
-        let places = Vec::from_elem(alloc, Bits { width: 1, value: 0 }, MOST)?;
-        Ok(Stack { places, depth: 0 })
+        let places = Box::new(alloc, ArrayVec::new())?;
+        Ok(Stack { places })
     }
 
     /// Takes all operands off.
@@ -42,7 +64,7 @@ impl Stack {
     pub(crate) fn clear(&mut self)
         ensures { self.new ≡ [] }
     {
-        self.depth = 0;
+        self.places.clear();
     }
 
     /// Puts an operand on top.
@@ -51,9 +73,7 @@ impl Stack {
         requires { length self.old < 1024 }
         ensures { self.new ≡ operand ∷ self.old }
     {
-        let depth = self.depth;
-        self.places[depth] = operand;
-        self.depth = depth + 1;
+        self.places.push(Place { operand });
     }
 
     /// Takes the top off.
@@ -63,9 +83,7 @@ impl Stack {
         ensures taken { self.old ≡ result ∷ self.new }
         ensures room { length self.new < 1024 }
     {
-        let depth = self.depth - 1;
-        self.depth = depth;
-        self.places[depth]
+        self.places.pop().unwrap().operand
     }
 
     /// Takes two off, of which the right one is on top.
