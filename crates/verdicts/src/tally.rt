@@ -240,7 +240,7 @@ impl<L: Tallying> Totals<L> {
         [holds, vacuous, fails, disabled]
     }
 
-    fn is_within(&mut self, share: &mut Share<L>) -> bool
+    fn audits_within(&mut self, share: &mut Share<L>) -> bool
         requires part { 0 < parts share.old }
         ensures same { amounts share.new ≡ amounts share.old }
         ensures parts { parts share.new ≡ parts share.old }
@@ -331,14 +331,14 @@ impl<L: Tallying> Tally<L> {
         self.totals.lock(rt).add(share, counts)
     }
 
-    /// Whether all totals, and so the share's amounts, are at most 2^55.
-    pub fn is_within(&self, rt: &impl Wait, share: &mut Share<L>) -> bool
+    /// Audits the share: whether all totals, and so its amounts, are at most 2^55.
+    pub fn audits_within(&self, rt: &impl Wait, share: &mut Share<L>) -> bool
         requires part { 0 < parts share.old }
         ensures same { amounts share.new ≡ amounts share.old }
         ensures parts { parts share.new ≡ parts share.old }
         ensures within { result ≡ true → EachAtMost (amounts share.old) (2 ^ 55) }
     {
-        self.totals.lock(rt).is_within(share)
+        self.totals.lock(rt).audits_within(share)
     }
 
     /// The totals, which are what all shares added, held at the largest number.

@@ -85,7 +85,7 @@ fn tasks_of<L: Tallying>(
         let Some(pass) = passes.pop() else {
             unreachable!()
         };
-        if claims > MOST_CLAIMS || !tally.is_within(rt, &mut share) {
+        if claims > MOST_CLAIMS || !tally.audits_within(rt, &mut share) {
             return Err(AllocError);
         }
         tasks.push_reserved(Task {
@@ -190,7 +190,7 @@ fn run_rest<L: Tallying, G: Gate, R: Wait>(
         let Some((receipt, line)) = line_of_batch(alloc, board, receipt) else {
             return Err(AllocError);
         };
-        if !tally.is_within(rt, share) {
+        if !tally.audits_within(rt, share) {
             return Err(AllocError);
         }
         let totals = tally.add(rt, share, board.read(&receipt));

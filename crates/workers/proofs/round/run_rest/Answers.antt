@@ -55,8 +55,8 @@ line_of_batch-requires-clause-few g c =
     IfSome_then c.run_one-monitor.result.1
     (on_board g (goal.at.line_of_batch-requires-clause-few g c).After-run_one-monitor) (λ r done. done.batch.few)
 
-pub is_within-requires : goal.is_within-requires
-is_within-requires g c = let was = c.loop-monitor.invariant in omega (arith, was.3)
+pub audits_within-requires : goal.audits_within-requires
+audits_within-requires g c = let was = c.loop-monitor.invariant in omega (arith, was.3)
 
 pub read-requires : goal.read-requires
 read-requires g c =
@@ -71,7 +71,7 @@ read-requires g c =
 
 pub add-totals-requires-clause-part : goal.add-totals-requires-clause-part
 add-totals-requires-clause-part g c = let was =
-    c.loop-monitor.invariant in omega (arith, was.3, c.is_within.ensures.parts)
+    c.loop-monitor.invariant in omega (arith, was.3, c.audits_within.ensures.parts)
 
 pub add-totals-requires-clause-fits : goal.add-totals-requires-clause-fits
 add-totals-requires-clause-fits g c =
@@ -84,11 +84,11 @@ add-totals-requires-clause-fits g c =
     let same = rw c.in-Some-line_of_batch.is at c.line_of_batch.ensures.same in
     let line = rw c.in-Some-line_of_batch.is at c.line_of_batch.ensures.line in
     let done = on-board-of c.run_one-monitor.result.1 p same (on_board g ran) in
-    let yes : c.is_within.result ≡ true = cc c.if-not-is_within.false in
+    let yes : c.audits_within.result ≡ true = cc c.if-not-audits_within.false in
     subst (λ (b : Batch). EachAtMost
-    (plus (amounts c.is_within.new.share) (counts_of b.decided.items)) 72057594037927936) (sym c.read.ensures)
-    (fits-one c.args.job.now c.args.window.now c.args.board.now (amounts c.is_within.new.share) p
-    (subst (λ l. EachAtMost l (2 ^ 55)) (sym c.is_within.ensures.same) (c.is_within.ensures.within yes))
+    (plus (amounts c.audits_within.new.share) (counts_of b.decided.items)) 72057594037927936) (sym c.read.ensures)
+    (fits-one c.args.job.now c.args.window.now c.args.board.now (amounts c.audits_within.new.share) p
+    (subst (λ l. EachAtMost l (2 ^ 55)) (sym c.audits_within.ensures.same) (c.audits_within.ensures.within yes))
     (record { on = done; line = line }))
 
 pub loop-monitor-preserved : goal.loop-monitor-preserved
@@ -119,15 +119,15 @@ loop-monitor-preserved g c =
           omega (arith, was.1 h)),
       all_pushed (IsPublished c.args.job.now c.args.window.now c.args.board.now) _ _ p pushed was.2
           (record { on = done; line = line }),
-      c.add-totals.ensures.parts ∙ (c.is_within.ensures.parts ∙ was.3),
+      c.add-totals.ensures.parts ∙ (c.audits_within.ensures.parts ∙ was.3),
       (λ k.
-          let one : amount_of k c.is_within.new.share ≡ amount_of k c.loop-monitor.share =
-          same-amount k _ _ c.is_within.ensures.same in
+          let one : amount_of k c.audits_within.new.share ≡ amount_of k c.loop-monitor.share =
+          same-amount k _ _ c.audits_within.ensures.same in
           let grown : amount_of k c.add-totals.new.share
-          ≡ amount_of k c.is_within.new.share + count_of (is_of_kind k) (shown_by p.receipt).decided.items =
-          more-amount k c.is_within.new.share c.add-totals.new.share (shown_by p.receipt).decided.items
+          ≡ amount_of k c.audits_within.new.share + count_of (is_of_kind k) (shown_by p.receipt).decided.items =
+          more-amount k c.audits_within.new.share c.add-totals.new.share (shown_by p.receipt).decided.items
           (c.add-totals.ensures.grown
-          ∙ ap (λ (b : Batch). plus (amounts c.is_within.new.share)
+          ∙ ap (λ (b : Batch). plus (amounts c.audits_within.new.share)
           (counts_of b.decided.items)) c.read.ensures) in
           let more : published_count (is_of_kind k) c.push.new.self.items
           ≡ published_count (is_of_kind k) c.loop-monitor.published.items + count_of (is_of_kind k)

@@ -27,18 +27,19 @@ loop-member-preserved g c =
         of = popped.1.0;
         none = popped.1.1;
         share = (
-          c.is_within.ensures.parts ∙ member,
-          let yes : c.is_within.result ≡ true =
-              cc c.if-not-is_within.false in
-              subst (λ l. EachAtMost l (2 ^ 55)) (sym c.is_within.ensures.same) (c.is_within.ensures.within yes),
+          c.audits_within.ensures.parts ∙ member,
+          let yes : c.audits_within.result ≡ true =
+              cc c.if-not-audits_within.false in
+              subst (λ l. EachAtMost l (2 ^ 55)) (sym c.audits_within.ensures.same)
+              (c.audits_within.ensures.within yes),
         );
         claims = omega (arith, c.if-claims-gt-MOST_CLAIMS.false);
       }),
       (λ k.
-          let one : amount_of k c.is_within.new.share ≡ amount_of k c.in-Some.member.share =
-          same-amount k _ _ c.is_within.ensures.same in
+          let one : amount_of k c.audits_within.new.share ≡ amount_of k c.in-Some.member.share =
+          same-amount k _ _ c.audits_within.ensures.same in
           let more : added_by_tasks k c.push_reserved.new.self.items
-          ≡ added_by_tasks k c.loop-member.tasks.items + amount_of k c.is_within.new.share =
+          ≡ added_by_tasks k c.loop-member.tasks.items + amount_of k c.audits_within.new.share =
           total_push (λ (t : Task g.row.L.Denot). amount_of k t.share) _ _ _ c.push_reserved.ensures.items in
           let left : added_by k (into_iter_items c.loop-member.member-iterator)
           ≡ amount_of k c.in-Some.member.share + added_by k (into_iter_items c.next.new.self) =
