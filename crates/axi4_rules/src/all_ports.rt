@@ -1,6 +1,6 @@
 //! The rules of all ports of a port file.
 
-ghost use Rattle.std.specs.Prelude.{◌≡◌, IfOk, OnOk, map, string_bytes};
+ghost use Rattle.std.specs.Prelude.{◌≡◌, IfErr, IfOk, OnOk, map, string_bytes};
 ghost use Rattle.std.specs.List.{flat_map};
 ghost use Rattle.axi4_rules.specs.Files.{table_of, file_rules, joined};
 ghost use Rattle.axi4_rules.specs.Seen.{Gives, line_data};
@@ -16,16 +16,19 @@ use crate::writing::rules;
 use std::alloc::{AllocError, Global};
 
 /// Adds the rules of a port.
-fn push_port(alloc: Global, text: &mut RuleText, line: &(Port, Mode)) -> Result<(), AllocError>
-    ensures { OnOk result (Adds text.old text.new (table_of (line_data line.now))) }
+fn push_port(alloc: Global, text: &mut RuleText, line: &(Port, Mode)) -> Result<(), PortFault>
+    ensures memory_alone { IfErr result (λ e. e ≡ PortFault.Memory) }
+    ensures added { OnOk result (Adds text.old text.new (table_of (line_data line.now))) }
 {
     let rules = rules(alloc, &line.0, line.1)?;
-    text.push_line(rules)
+    text.push_line(rules)?;
+    Ok(())
 }
 
 /// Adds the rules of each port.
-fn push_ports(alloc: Global, text: &mut RuleText, ports: &[(Port, Mode)]) -> Result<(), AllocError>
-    ensures { OnOk result (Adds text.old text.new (flat_map table_of (map line_data ports.now))) }
+fn push_ports(alloc: Global, text: &mut RuleText, ports: &[(Port, Mode)]) -> Result<(), PortFault>
+    ensures memory_alone { IfErr result (λ e. e ≡ PortFault.Memory) }
+    ensures added { OnOk result (Adds text.old text.new (flat_map table_of (map line_data ports.now))) }
 {
     for line in ports {
         push_port(alloc, text, line)?;

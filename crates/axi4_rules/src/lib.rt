@@ -20,7 +20,8 @@
 //! numbers, IDs and names are right: facts of the type `Port`. `rules` writes a text whose tokens
 //! are those of the table of rules and counters for that port, in its order (`specs/Rules.antt`);
 //! tokens are what stands between white space, comments left out (`specs/Texts.antt`). The text
-//! has a space between any two tokens, but a path is one word of it.
+//! has a space between any two tokens, but a path is one word of it. Its only fault is want of
+//! memory.
 //!
 //! `port_rules` writes the rules of all ports of a file, in its order, or answers the file's fault
 //! (`specs/Files.antt`); `joined_text` is a text, a line feed and those rules, byte for byte.

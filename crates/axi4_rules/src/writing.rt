@@ -1,11 +1,12 @@
 //! The rules of a port.
 
-ghost use Rattle.std.specs.Prelude.{◌≡◌, codes, IfOk, OnOk, string_bytes};
+ghost use Rattle.std.specs.Prelude.{◌≡◌, codes, IfErr, IfOk, OnOk, string_bytes};
 ghost use Rattle.axi4_rules.specs.Rules.{channels, addresses, counting, table};
 ghost use Rattle.axi4_rules.specs.Seen.{port_data};
 ghost use Rattle.axi4_rules.specs.Wholes.{Adds, HasTokens};
 
 use crate::channels::{push_address, push_channel};
+use crate::fault::PortFault;
 use crate::mode::Mode;
 use crate::port::Port;
 use crate::responses::{push_counters, push_responses};
@@ -69,9 +70,11 @@ fn push_counting(
     push_responses(alloc, text, port, mode)
 }
 
-/// The text of a port's counters and rules: a line each, with a comment above each block.
-pub fn rules(alloc: Global, port: &Port, mode: Mode) -> Result<String, AllocError>
-    ensures { IfOk result (λ t. HasTokens t (table (port_data port.now) mode)) }
+/// The text of a port's counters and rules: a line each, with a comment above each block. A port
+/// has no fault, so only memory can be wanting.
+pub fn rules(alloc: Global, port: &Port, mode: Mode) -> Result<String, PortFault>
+    ensures text { IfOk result (λ t. HasTokens t (table (port_data port.now) mode)) }
+    ensures memory_alone { IfErr result (λ e. e ≡ PortFault.Memory) }
 {
     let mut text = RuleText::new(alloc);
     push_channels(alloc, &mut text, port)?;
