@@ -9,7 +9,6 @@ use cli_words::WordsFault;
 use cycle_window::WindowFault;
 use parser::ParseFault;
 use std::alloc::{AllocError, Global};
-use verifier::Refusal;
 
 /// Adds a character of a path: what would end or move the line is escaped, as `\n`.
 fn push_escaped(line: &mut String, character: char) -> Result<(), AllocError> {
@@ -31,12 +30,14 @@ fn path_line(alloc: Global, what: &str, path: &str) -> Result<String, AllocError
     Ok(line)
 }
 
-/// The line of a fault that has a number or nothing behind its name.
+/// The line of a fault: its name, and behind it its word and its number.
 fn words_line(alloc: Global, words: Words) -> Result<String, AllocError> {
-    let Words { name, number } = words;
-    match number {
-        None => format!(in alloc; "svamon: {name}"),
-        Some(number) => format!(in alloc; "svamon: {name} {number}"),
+    let name = words.name;
+    match (words.which, words.number) {
+        (None, None) => format!(in alloc; "svamon: {name}"),
+        (None, Some(number)) => format!(in alloc; "svamon: {name} {number}"),
+        (Some(which), None) => format!(in alloc; "svamon: {name} {which}"),
+        (Some(which), Some(number)) => format!(in alloc; "svamon: {name} {which} {number}"),
     }
 }
 
@@ -66,21 +67,6 @@ fn window_line(alloc: Global, fault: &WindowFault) -> Result<String, AllocError>
     }
 }
 
-/// The line of a refusal of a program.
-fn refusal_line(alloc: Global, refusal: Refusal) -> Result<String, AllocError> {
-    match refusal {
-        Refusal::PoolTooSmall(pool, least) => {
-            let pool = pool.words();
-            format!(in alloc; "svamon: F13 PoolTooSmall {pool} {least}")
-        }
-        Refusal::LimitTooLarge(field) => {
-            let field = field.words();
-            format!(in alloc; "svamon: F15 LimitTooLarge {field}")
-        }
-        other => words_line(alloc, refusal_words(other)),
-    }
-}
-
 /// The line that names a fault, without its line feed; for words it is the text that explains them.
 /// In a path or a name, control characters are escaped, so that it is one line.
 pub fn fault_line(alloc: Global, fault: &Fault) -> Result<String, AllocError> {
@@ -97,7 +83,7 @@ pub fn fault_line(alloc: Global, fault: &Fault) -> Result<String, AllocError> {
         Fault::Port(fault) => words_line(alloc, port_words(*fault)),
         Fault::Report(fault) => words_line(alloc, report_words(*fault)),
         Fault::Code(fault) => words_line(alloc, byte_words(*fault)),
-        Fault::Refused(refusal) => refusal_line(alloc, *refusal),
+        Fault::Refused(refusal) => words_line(alloc, refusal_words(*refusal)),
         Fault::NoAssertion(name) => path_line(alloc, "svamon: N1 NoAssertion ", name.as_str()),
         Fault::NotText(path) => path_line(alloc, "svamon: N2 NotText ", path.as_str()),
         Fault::Words(WordsFault::Words(text)) => {

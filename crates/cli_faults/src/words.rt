@@ -1,4 +1,4 @@
-//! The words of faults that are a code, a name and at most one number.
+//! The words of faults that are a code, a name, at most one word and at most one number.
 
 use axi4_rules::PortFault;
 use bytecode::CodeFault;
@@ -9,23 +9,28 @@ use types::TypeFault;
 use vcd_reader::VcdFault;
 use verifier::Refusal;
 
-/// A fault's code and name, and the number behind them.
+/// A fault's code and name, the word that says which pool or field it is of, and its number.
 #[derive(Clone, Copy)]
 pub(crate) struct Words {
     pub(crate) name: &'static str,
+    pub(crate) which: Option<&'static str>,
     pub(crate) number: Option<u64>,
 }
 
-/// Words without a number.
+/// A name alone.
 fn plain(name: &'static str) -> Words {
-    Words { name, number: None }
-}
-
-/// Words with a number: a line, a byte, an instruction or a least limit.
-fn numbered(name: &'static str, number: usize) -> Words {
     Words {
         name,
+        which: None,
+        number: None,
+    }
+}
+
+/// A name with a number: a line, a byte, an instruction or a least limit.
+fn numbered(name: &'static str, number: usize) -> Words {
+    Words {
         number: Some(number as u64),
+        ..plain(name)
     }
 }
 
@@ -113,7 +118,7 @@ pub(crate) fn byte_words(fault: CodeFault) -> Words {
     }
 }
 
-/// The words of a refusal, but for F13 and F15, which have no number alone.
+/// The words of a refusal of a program.
 pub(crate) fn refusal_words(refusal: Refusal) -> Words {
     match refusal {
         Refusal::Operand(pc) => numbered("F1 Operand", pc),
@@ -128,12 +133,18 @@ pub(crate) fn refusal_words(refusal: Refusal) -> Words {
         Refusal::HistoryTooShort(least) => numbered("F10 HistoryTooShort", least),
         Refusal::StackTooShort(least) => numbered("F11 StackTooShort", least),
         Refusal::Cycle(position) => numbered("F12 Cycle", position),
-        Refusal::PoolTooSmall(_, least) => numbered("F13 PoolTooSmall", least),
-        Refusal::BudgetTooSmall(least) => Words {
-            name: "F14 BudgetTooSmall",
-            number: Some(least),
+        Refusal::PoolTooSmall(pool, least) => Words {
+            which: Some(pool.words()),
+            ..numbered("F13 PoolTooSmall", least)
         },
-        Refusal::LimitTooLarge(_) => plain("F15 LimitTooLarge"),
+        Refusal::BudgetTooSmall(least) => Words {
+            number: Some(least),
+            ..plain("F14 BudgetTooSmall")
+        },
+        Refusal::LimitTooLarge(field) => Words {
+            which: Some(field.words()),
+            ..plain("F15 LimitTooLarge")
+        },
         Refusal::AcceptKind(pc) => numbered("F16 AcceptKind", pc),
         Refusal::Memory => plain("OutOfMemory"),
     }
