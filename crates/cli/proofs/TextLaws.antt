@@ -39,6 +39,7 @@ use Rattle.parser_grammar.specs.Trees.{ItemForm}
 use Rattle.assertions.specs.declared.signal.Signal.{Signal}
 use Rattle.assertions.specs.declared.suite.Suite.{Suite}
 use Rattle.suite_over_dump.specs.Dumps.{width_named}
+use Rattle.suite_over_dump.specs.Suites.{scope_over}
 use Rattle.types_names.specs.Columns.{columns_of, is_listed}
 use Rattle.types_names.specs.Asked.{asked}
 use Rattle.types.specs.declared.fault.TypeFault.{TypeFault}
@@ -77,7 +78,6 @@ use Rattle.cli_faults.specs.declared.fault.Fault.TheVariants.{
   File,
   Memory,
 }
-use Rattle.cli.specs.Named.{scope_over}
 use Rattle.report_suites.specs.Named.{AreNamed}
 use Rattle.cli_faults.specs.Faults.{lex_fault, parse_fault, type_fault, window_fault}
 use Rattle.cli.specs.Programs.{lines_fault}

@@ -1,4 +1,3 @@
-pub mod Named
 pub mod Programs
 pub mod Reported
 pub mod Timed

@@ -35,7 +35,7 @@ use Rattle.cli_faults.specs.declared.fault.Fault.TheVariants.{Memory}
 use Rattle.cli_faults.specs.Runs.{Run, totals_of, IsUnwritten, IsUnread, IsOutOfMemory}
 use Rattle.cli_faults.specs.Runs.{IsOutOfRange, IsUntouched}
 use Rattle.workers_core.specs.Values.{IsBadTeam}
-use Rattle.cli.specs.Named.{scope_over}
+use Rattle.suite_over_dump.specs.Suites.{scope_over}
 use Rattle.cli.specs.Reported.{AreTokens, HasItems, SaysSuite, IsReport}
 
 -- The source gave all its bytes, and the text of the report on them and on the text was written and

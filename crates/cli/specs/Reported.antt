@@ -10,7 +10,7 @@ use Rattle.types.specs.Suites.{IsSuite}
 use Rattle.vcd_reader.specs.Dump.{Contents, dump_of, most_bytes}
 use Rattle.report_lines.specs.Lines.{ReportData}
 use Rattle.report_suites.specs.Reported.{Reports}
-use Rattle.cli.specs.Named.{scope_over}
+use Rattle.suite_over_dump.specs.Suites.{scope_over}
 
 -- the text's tokens
 abbrev pub AreTokens : List ℕ → List Token → Type 0

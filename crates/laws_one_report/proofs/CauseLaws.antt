@@ -26,7 +26,7 @@ use Rattle.compiler.specs.Small.{SmallHaveCode}
 use Rattle.compiler_laws.specs.Small.{KeepsTo, SuitesKeepTo}
 use Rattle.vcd_reader.specs.Dump.{Contents}
 use Rattle.suite_over_dump.specs.Dumps.{width_named}
-use Rattle.cli.specs.Named.{scope_over}
+use Rattle.suite_over_dump.specs.Suites.{scope_over}
 use Rattle.cli.specs.Reported.{SaysSuite}
 use Rattle.laws_one_report.specs.ReadInText.{IsLongText, HasLongName}
 use Rattle.laws_one_report.specs.Causes.{IsCompileCause, HasCause, FaultsHaveCauses, HasNamedCause}

@@ -21,7 +21,7 @@ use Rattle.cli_faults.specs.declared.fault.Fault.TheVariants.{BadSize, BadWorker
 use Rattle.cli_faults.specs.declared.fault.Fault.TheVariants.{Port, Report, Code, Refused}
 use Rattle.cli_faults.specs.declared.fault.Fault.TheVariants.{NoAssertion, NotText, Words, File}
 use Rattle.cli_faults.specs.declared.fault.Fault.TheVariants.{Memory}
-use Rattle.cli.specs.Named.{scope_over}
+use Rattle.suite_over_dump.specs.Suites.{scope_over}
 use Rattle.cli.specs.Reported.{SaysSuite}
 use Rattle.cli.specs.Outcomes.{IsMistyped, HasNoClock, IsNotCompiled, WhyNoneByPrograms}
 

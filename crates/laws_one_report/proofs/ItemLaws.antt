@@ -34,7 +34,7 @@ use Rattle.laws_one_report.proofs.MovedSuites.{owns-moved, columns-moved, suite-
 use Rattle.laws_one_report.proofs.MovedFaults.{stands-moved}
 use Rattle.vcd_reader.specs.Variables.{Declared}
 use Rattle.suite_over_dump.specs.Dumps.{width_named}
-use Rattle.cli.specs.Named.{scope_over}
+use Rattle.suite_over_dump.specs.Suites.{scope_over}
 use Rattle.cli.specs.Reported.{AreTokens, HasItems}
 use Rattle.laws_one_report.proofs.TokenLaws.{lies_in, moved_tokens}
 

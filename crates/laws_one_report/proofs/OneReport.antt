@@ -40,7 +40,7 @@ use Rattle.laws_one_report.proofs.SameLaws.{say_same}
 use Rattle.vcd_reader.specs.Variables.{Declared, variable_named}
 use Rattle.vcd_reader.specs.Dump.{Contents, dump_of}
 use Rattle.report_lines.specs.Lines.{LineData, ReportData, line_data_of, report_of}
-use Rattle.cli.specs.Named.{scope_over}
+use Rattle.suite_over_dump.specs.Suites.{scope_over}
 use Rattle.report_suites.specs.Judged.{AreVerdictsOn, AreLines}
 use Rattle.cli.specs.Reported.{SaysSuite, HasReport, IsReport}
 use Rattle.report_suites.specs.Reported.{IsBound, rows_of, OverRows, Reports}

@@ -10,7 +10,7 @@ use Rattle.compiler.specs.declared.fault.CompileFault.TheVariants.{Memory}
 use Rattle.compiler_laws.specs.Small.{HasManyBooleans, IsSmallText}
 use Rattle.vcd_reader.specs.Dump.{Contents}
 use Rattle.cli_faults.specs.declared.fault.Fault.TheVariants.{Compile}
-use Rattle.cli.specs.Named.{scope_over}
+use Rattle.suite_over_dump.specs.Suites.{scope_over}
 use Rattle.cli.specs.Reported.{HasItems}
 use Rattle.cli.specs.Outcomes.{IsNotCompiled}
 use Rattle.cli.specs.Builds.{SaysNone}
