@@ -1,5 +1,5 @@
 -- Streaks that are taken into a line.
-use Rattle.std.proofs.Common.{◌≡◌, ◌+◌, ◌≤◌, ℕ, zero, suc, List, [], ◌∷◌, ◌++◌, Bool, false, cond}
+use Rattle.std.proofs.Common.{◌≡◌, ◌+◌, ◌^◌, ◌<◌, ◌≤◌, ℕ, zero, suc, List, [], ◌∷◌, ◌++◌, Bool, false, cond}
 use Rattle.std.proofs.Common.{length, take, drop, map, filter_map, refl, sym, ap, ◌∙◌, arith}
 use Rattle.std.proofs.Common.{append_assoc, length-append}
 use Rattle.std.specs.List.{range_with_len, count_by}
@@ -8,20 +8,23 @@ use Rattle.std.proofs.lemmas.List.{take-append-drop}
 use Rattle.std.proofs.lemmas.List.Elements.{filter_map-append}
 use Rattle.std.proofs.lemmas.List.FromFn.{map-range_with_len_more}
 use Rattle.std.proofs.lemmas.List.Sums.{sum_by-append, sum_by-cons}
+use Rattle.std.proofs.Math.Nat.{min-eq_left}
 use Rattle.signals.specs.declared.verdict.Verdict.{Verdict}
 use Rattle.signals.specs.declared.verdict.Verdict.TheVariants as outcome
 use Rattle.signals.specs.declared.verdict.Decided.{Decided}
 use Rattle.report_lines.specs.declared.line.Counts.{Counts}
 use Rattle.report_lines.specs.declared.line.Failure.{Failure}
+use Rattle.report_lines.specs.Lines.{held_count}
+use Rattle.report_lines.specs.Totals.{counts_sum}
 use Rattle.report_lines.specs.Tallies.{tally_of, is_holds, is_vacuous, is_fails, is_disabled, is_open}
 use Rattle.machine_batches.specs.declared.streak.Streak.{Streak}
 use Rattle.machine_batches.specs.Ages.{nth}
-use Rattle.machine_batches.specs.Lines.{failure_of}
+use Rattle.machine_batches.specs.Lines.{failure_of, attempts_of}
 use Rattle.machine_batches.specs.Streaks.{streak_attempts, attempts_in_all}
 use Rattle.machine_batches.proofs.StreakLaws.{streak-count, IsKind}
 use Rattle.machine_batches.proofs.StreakLaws.{kind-holds, kind-vacuous, kind-fails, kind-disabled}
 use Rattle.machine_batches.proofs.StreakLaws.{kind-open}
-use Rattle.workers_core.specs.Growing.{more_of, both_of}
+use Rattle.workers_core.specs.Growing.{more_of}
 
 verdicts-counted : (is : Verdict → Bool) (ds : List Decided) →
     count_by is (map (λ (d : Decided). d.verdict) ds)
@@ -76,6 +79,30 @@ both-kinds is a b =
     let first = verdicts-counted is a in
     let second = verdicts-counted is b in
     omega (arith, all, split, first, second)
+
+-- what two count
+abbrev pub both_of : Counts → Counts → Counts
+both_of c d = record {
+  holds = c.holds + d.holds;
+  vacuous = c.vacuous + d.vacuous;
+  fails = c.fails + d.fails;
+  disabled = c.disabled + d.disabled;
+  still_open = c.still_open + d.still_open;
+}
+
+held-below : (n : ℕ) → n < 2 ^ 64 → held_count n ≡ n
+held-below n below = min-eq_left (omega arith)
+
+-- no sum is held back
+pub sum-below : (c d : Counts) → attempts_of c + attempts_of d < 2 ^ 64 → counts_sum c d ≡ both_of c d
+sum-below c d below =
+    same-counts _ _ _ _ _ _ _ _ _ _ (held-below (c.holds + d.holds) (omega arith))
+    (held-below (c.vacuous + d.vacuous) (omega arith)) (held-below (c.fails + d.fails) (omega arith))
+    (held-below (c.disabled + d.disabled) (omega arith))
+    (held-below (c.still_open + d.still_open) (omega arith))
+
+pub both-attempts : (c d : Counts) → attempts_of (both_of c d) ≡ attempts_of c + attempts_of d
+both-attempts c d = omega arith
 
 -- what two lists count is what they count together
 pub both-tally : (a b : List Decided) (c d : Counts) →

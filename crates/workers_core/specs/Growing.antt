@@ -13,13 +13,3 @@ more_of c v n = record {
   disabled = c.disabled + (if is_disabled v then n else 0);
   still_open = c.still_open + (if is_open v then n else 0);
 }
-
--- what the two count
-abbrev pub both_of : Counts → Counts → Counts
-both_of c d = record {
-  holds = c.holds + d.holds;
-  vacuous = c.vacuous + d.vacuous;
-  fails = c.fails + d.fails;
-  disabled = c.disabled + d.disabled;
-  still_open = c.still_open + d.still_open;
-}

@@ -8,7 +8,7 @@ ghost use Rattle.report_lines.specs.Lines.{line};
 ghost use Rattle.report_lines.specs.Tallies.{is_fails};
 ghost use Rattle.machine_batches.specs.Lines.{failure_of, line_over, attempts_of};
 ghost use Rattle.machine_batches.specs.Streaks.{streak_attempts};
-ghost use Rattle.workers_core.specs.Growing.{more_of, both_of};
+ghost use Rattle.workers_core.specs.Growing.{more_of};
 
 use machine_batches::{Streak, Streaks};
 use report_lines::{Counts, Failure, Line};
@@ -49,21 +49,6 @@ fn counts_with(counts: Counts, verdict: Verdict, many: u64) -> Counts
             still_open: counts.still_open + many,
             ..counts
         },
-    }
-}
-
-/// What two count.
-fn counts_of_both(one: Counts, other: Counts) -> Counts
-    requires { attempts_of one + attempts_of other < 2 ^ 64 }
-    ensures all { attempts_of result ≡ attempts_of one + attempts_of other }
-    ensures both { result ≡ both_of one other }
-{
-    Counts {
-        holds: one.holds + other.holds,
-        vacuous: one.vacuous + other.vacuous,
-        fails: one.fails + other.fails,
-        disabled: one.disabled + other.disabled,
-        still_open: one.still_open + other.still_open,
     }
 }
 
@@ -172,7 +157,7 @@ impl GrowingLine {
             → TookIn other.now after → OnOk result (TookIn self.new (before ++ after)) }
     {
         self.fails.extend_from_slice(&other.fails)?;
-        self.counts = counts_of_both(self.counts, other.counts);
+        self.counts = self.counts.plus(other.counts);
         Ok(())
     }
 
