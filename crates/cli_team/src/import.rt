@@ -1,5 +1,7 @@
 //! The command that writes a team's own files as a text.
 
+ghost use Rattle.std.specs.Prelude.{◌≡◌};
+
 use crate::dump_front::{read_dump_front, sound_header};
 use cli_faults::Fault;
 use cli_shell::{
@@ -7,8 +9,8 @@ use cli_shell::{
 };
 use cli_words::TeamFiles;
 use import_files::{
-    DumpSignal, ImportFault, Imported, Reading, Signals, imported, known_of, messages_of,
-    signals_of, status_of, text_of, unread_line,
+    DumpSignal, Extent, ImportFault, Imported, Reading, Signals, extent_of, imported, known_of,
+    messages_of, signals_of, text_of, unread_line,
 };
 use source_files::Part;
 use std::fs::Files;
@@ -117,11 +119,24 @@ pub(crate) fn import_and_tell<R: StandardError + AllocGlobal>(
     }
 }
 
+/// The status of an import of which so much is written.
+fn status_of(extent: Extent) -> u8
+    ensures whole { extent ≡ Extent.Whole → result ≡ 0 }
+    ensures part { extent ≡ Extent.Part → result ≡ 1 }
+    ensures nothing { extent ≡ Extent.Nothing → result ≡ 2 }
+{
+    match extent {
+        Extent::Whole => 0,
+        Extent::Part => 1,
+        Extent::Nothing => REFUSED_STATUS,
+    }
+}
+
 /// Writes the assertions; the answer is the status.
 fn print_imported<R: Print + AllocGlobal>(rt: &R, all: &Imported) -> Result<u8, Fault<'static>> {
     let text = text_of(rt.alloc(), all)?;
     print_bytes(rt, text.as_slice())?;
-    Ok(status_of(all))
+    Ok(status_of(extent_of(all)))
 }
 
 /// Reads SystemVerilog files and the header of a dump, and writes the assertions as a text; the

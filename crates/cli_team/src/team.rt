@@ -1,11 +1,13 @@
 //! A team's own files in place of a text.
 
+ghost use Rattle.std.specs.Prelude.{◌≡◌, IsTrue, max, not};
+
 use crate::dump_front::{read_dump_front, sound_header};
 use crate::import::import_and_tell;
 use cli_faults::Fault;
 use cli_shell::{REFUSED_STATUS, Sources, StandardError, chosen_sources, open, read_team_sources};
 use cli_words::TeamFiles;
-use import_files::{Imported, placed, signals_of, status_of};
+use import_files::{Extent, Imported, extent_of, placed, signals_of};
 use std::alloc::{AllocError, Global};
 use std::fs::Files;
 use std::io::{Chain, Cursor, Read};
@@ -50,15 +52,16 @@ fn front_of(
     sources: Sources,
     imported: &Imported,
 ) -> Result<Option<TeamFront>, Fault<'static>> {
-    let status = status_of(imported);
-    if status == REFUSED_STATUS {
-        return Ok(None);
-    }
+    let is_whole = match extent_of(imported) {
+        Extent::Nothing => return Ok(None),
+        Extent::Part => false,
+        Extent::Whole => true,
+    };
     let sources = placed_sources(alloc, sources, imported)?;
     Ok(Some(TeamFront {
         head,
         sources,
-        is_whole: status == 0,
+        is_whole,
     }))
 }
 
@@ -109,10 +112,13 @@ pub fn open_team<R: Files + StandardError + AllocGlobal>(
 
 /// The status of a command over what is written of a team's files: 2 where the rest is refused, and
 /// what the command did is no worse than that.
-pub fn status_with(is_whole: bool, status: u8) -> u8 {
-    if is_whole || status > REFUSED_STATUS {
+pub fn status_with(is_whole: bool, status: u8) -> u8
+    ensures whole { IsTrue is_whole → result ≡ status }
+    ensures part { IsTrue (not is_whole) → result ≡ max status 2 }
+{
+    if is_whole {
         status
     } else {
-        REFUSED_STATUS
+        status.max(REFUSED_STATUS)
     }
 }

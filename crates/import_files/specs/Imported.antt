@@ -8,6 +8,8 @@ use Rattle.import_tokens.specs.Readings.{Reads}
 use Rattle.import_scopes.specs.Words.{word_places}
 use Rattle.import_unrolling.specs.Unrolled.{Unrolls}
 use Rattle.import_files.specs.declared.outcome.Outcome.{Outcome}
+use Rattle.import_files.specs.declared.outcome.Extent.{Extent}
+use Rattle.import_files.specs.declared.outcome.Extent.TheVariants as extents
 use Rattle.import_files.specs.declared.outcome.Fate.{Fate}
 use Rattle.import_files.specs.declared.outcome.Fate.TheVariants as fates
 use Rattle.import_files.specs.Written.{FateSays}
@@ -57,9 +59,9 @@ is_refused (fates.Refused cause) = true
 is_refused (fates.Unknown missing) = true
 is_refused (fates.OtherClock clock) = true
 
--- 2 where none is written, else 1 where some are refused, else 0
-abbrev pub status_of : List Outcome → ℕ
-status_of outcomes =
-    if not (list_any (λ one. is_written one.fate) outcomes) then 2
-    else if list_any (λ one. is_refused one.fate) outcomes then 1
-    else 0
+-- nothing where none is written, else a part where some are refused, else the whole
+abbrev pub extent_of : List Outcome → Extent
+extent_of outcomes =
+    if not (list_any (λ one. is_written one.fate) outcomes) then extents.Nothing
+    else if list_any (λ one. is_refused one.fate) outcomes then extents.Part
+    else extents.Whole

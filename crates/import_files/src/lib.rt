@@ -7,7 +7,7 @@
 //! let all = imported(alloc, text, &defines, &reading)?;  // all.outcomes: one for each assertion
 //! let written = text_of(alloc, &all)?;                   // the text for `--sva`
 //! let told = messages_of(alloc, &parts, bound, &all)?;   // a line for each refusal and note
-//! let status = status_of(&all);                          // 0, 1 or 2
+//! let extent = extent_of(&all);                          // Extent::Whole, Part or Nothing
 //! let judged = placed(alloc, text, &all)?;               // the same, at the files' own places
 //! ```
 //!
@@ -23,7 +23,7 @@
 //! so none is lost. Each property is shown to be what was opened means (`import_checks`), and
 //! each text is read back (`import_text`): it says, under the label that is told, the exact
 //! rewriting of that property. Where one is written as two halves, these are together what was
-//! opened means. One of which any of that isn't so is refused. `text_of`, `status_of` and `placed`
+//! opened means. One of which any of that isn't so is refused. `text_of`, `extent_of` and `placed`
 //! say what they are of these outcomes.
 //!
 //! The definitions: `specs/Imported.antt` and `specs/Placed.antt`, and of what is written
@@ -58,8 +58,8 @@ pub use dump_signals::{Bits, Signals, known_of, signals_of};
 pub use fault::ImportFault;
 pub use import_text::DumpSignal;
 pub use messages::{messages_of, unread_line};
-pub use outcome::{Cause, Fate, Half, Imported, Marks, Missing, Outcome, Remark};
+pub use outcome::{Cause, Extent, Fate, Half, Imported, Marks, Missing, Outcome, Remark};
 pub use outcomes::imported;
 pub use placing::{PlacedText, placed};
 pub use reading::Reading;
-pub use text::{status_of, text_of};
+pub use text::{extent_of, text_of};

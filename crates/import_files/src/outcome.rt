@@ -91,6 +91,17 @@ pub struct Remark {
     pub at: usize,
 }
 
+/// How much is written of the assertions of files.
+#[derive(Clone, Copy)]
+pub enum Extent {
+    /// Some are written, and none is refused.
+    Whole,
+    /// Some are written, and some refused.
+    Part,
+    /// None is written.
+    Nothing,
+}
+
 /// All assertions of a text, in their order, and what is told beside them.
 #[derive(Drop)]
 pub struct Imported {

@@ -1,11 +1,11 @@
-//! What is written of the assertions of files, and the status of that.
+//! What is written of the assertions of files, and how much that is.
 
 ghost use Rattle.std.specs.Prelude.{◌≡◌, ◌++◌, IfOk, OnOk, flat_map};
 ghost use Rattle.std.specs.List.{list_any};
-ghost use Rattle.import_files.specs.Imported.{text_in, written_text, status_of};
+ghost use Rattle.import_files.specs.Imported.{text_in, written_text, extent_of};
 ghost use Rattle.import_files.specs.Imported.{is_written, is_refused};
 
-use crate::outcome::{Fate, Imported, Outcome};
+use crate::outcome::{Extent, Fate, Imported, Outcome};
 use std::alloc::{AllocError, Global};
 
 /// Adds what is written of an assertion.
@@ -70,16 +70,15 @@ fn has_refused(outcomes: &[Outcome]) -> bool
     outcomes.iter().any(|one| is_refused(&one.fate))
 }
 
-/// The status of an import: 0 where none is refused, 1 where some are and others are written, 2
-/// where none is written.
-pub fn status_of(imported: &Imported) -> u8
-    ensures { result ≡ status_of imported.now.outcomes.items }
+/// How much is written.
+pub fn extent_of(imported: &Imported) -> Extent
+    ensures { result ≡ extent_of imported.now.outcomes.items }
 {
     if !has_written(imported.outcomes.as_slice()) {
-        return 2;
+        return Extent::Nothing;
     }
     if has_refused(imported.outcomes.as_slice()) {
-        return 1;
+        return Extent::Part;
     }
-    0
+    Extent::Whole
 }
