@@ -5,5 +5,6 @@ pub mod BoundLaws
 pub mod PickLaws
 pub mod SampleLaws
 pub mod WindowLaws
+pub mod ShownLaws
 pub mod StayLaws
 pub mod BetweenLaws

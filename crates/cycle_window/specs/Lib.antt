@@ -8,6 +8,7 @@ pub mod Samples
 pub mod Cursors
 pub mod Values
 pub mod Held
+pub mod Shown
 pub mod Bound
 pub mod Signals
 pub mod Times

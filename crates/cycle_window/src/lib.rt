@@ -20,6 +20,7 @@
 //! other.follow(&window, &dump, &clocks);                      // empty, after the clocks of window
 //! let (first, end) = window.bounds();
 //! let time = time_of_tick(&dump, &clocks, first as usize);  // in the dump's unit
+//! let row = window.row(first);                                // all signals, in the window's room
 //! window.put_row(&mut row, first);                            // all signals, in the room of row
 //! window.put_part(&mut part, first, 2, 5);                    // signals 2, 3 and 4, in its room
 //! let same = window.same_after(first, 2, 5);                  // they stay at so many ticks more
@@ -29,13 +30,15 @@
 //! these are all the rising edges, in order), `specs/Held.antt` (what clocks, columns and windows
 //! hold), `specs/Bound.antt` (what is wrong with a path, a width or a size). Below them:
 //! `specs/Between.antt`, `specs/Samples.antt`, `specs/Rows.antt`, `specs/Stays.antt`,
-//! `specs/Cursors.antt`, `specs/Changes.antt`, `specs/Picks.antt`, `specs/Values.antt`.
+//! `specs/Cursors.antt`, `specs/Changes.antt`, `specs/Picks.antt`, `specs/Values.antt`,
+//! `specs/Shown.antt`.
 //!
 //! Not promised: that several threads look for ticks, or each in an equal part; a memory of earlier
 //! rows, or a way back but by following a window that stands there; how much of the dump `follow`
 //! leaves unread; whether a row stays past the window's end. `slide` asks for ticks that are left,
 //! and for the dump and clocks of the window's columns, and `follow` for those of both windows;
-//! `put_row`, `put_part` and `same_after` for a tick in the window, and the first two for room.
+//! `row`, `put_row`, `put_part` and `same_after` for a tick in the window, and the two that put
+//! for room.
 #![tactic(auto)]
 
 mod clocks;

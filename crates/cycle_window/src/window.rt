@@ -32,8 +32,10 @@ pub struct Window<'d> {
     pub(crate) cursor: Cursor,
     /// Of each of the columns' variables its values at these clocks.
     pub(crate) samples: Vec<Samples>,
-    /// Room for a row of them.
-    pub(crate) row: Vec<u128>,
+    /// Room for a value of each variable, as `slide` reads them of the dump.
+    pub(crate) read_row: Vec<u128>,
+    /// Room for a value of each signal, as `row` shows them.
+    pub(crate) shown_row: Vec<u128>,
     ghost ordered: { first ≤ end },
     ghost inside: { end ≤ columns.count },
     ghost few: { end - first ≤ size },
@@ -42,7 +44,8 @@ pub struct Window<'d> {
         (places columns.shared.variables.items) first end samples.items },
     ghost many: { length samples.items ≡ length columns.shared.variables.items },
     ghost full: { Each (λ i. IsFull (min size columns.count) (end - first)) samples.items },
-    ghost wide: { length columns.shared.variables.items ≤ vec_capacity row },
+    ghost wide: { length columns.shared.variables.items ≤ vec_capacity read_row },
+    ghost shown: { length columns.shared.picks.items ≤ vec_capacity shown_row },
     ghost fit: { AreWide (variables_of columns.dump.now) (places columns.shared.variables.items)
         samples.items },
 }
@@ -51,7 +54,9 @@ impl<'d> Window<'d> {
     ghost use Rattle.cycle_window.specs.Held.{ticks_in, code_in, dump_in, places_in, clock_in};
     ghost use Rattle.cycle_window.specs.Held.{columns_in, size_in, first_in, end_in};
     ghost use Rattle.cycle_window.specs.Held.{AreClocksOf, AreColumnsOf, IsOver, IsWindowOf};
+    ghost use Rattle.cycle_window.specs.Shown.{IsSameWindow, StaysAfter};
     ghost use Rattle.cycle_window.specs.declared.clocks.Clocks.{Clocks};
+    ghost use Rattle.std.specs.Borrow.{sem};
 
     /// An empty window before the first clock, which will hold up to so many clocks.
     pub fn new(
@@ -75,7 +80,8 @@ impl<'d> Window<'d> {
         let variables = columns.shared.variables.as_slice();
         let cursor = Cursor::new(alloc, columns.dump, variables)?;
         let samples = blank_samples(alloc, columns.dump, variables, size.min(columns.count))?;
-        let row = Vec::with_capacity(alloc, variables.len())?;
+        let read_row = Vec::with_capacity(alloc, variables.len())?;
+        let shown_row = Vec::with_capacity(alloc, columns.shared.picks.len())?;
         Ok(Window {
             columns,
             size,
@@ -83,7 +89,8 @@ impl<'d> Window<'d> {
             end: 0,
             cursor,
             samples,
-            row,
+            read_row,
+            shown_row,
         })
     }
 
@@ -105,7 +112,7 @@ impl<'d> Window<'d> {
         let columns = &self.columns;
         fill_samples(
             &mut self.samples,
-            &mut self.row,
+            &mut self.read_row,
             &mut self.cursor,
             dump,
             columns.shared.variables.as_slice(),
@@ -190,6 +197,40 @@ impl<'d> Window<'d> {
     {
         let width = self.width();
         self.put_part(row, tick, 0, width);
+    }
+
+    /// The row at a tick of the window: a value for each signal. It stands in room of the window's
+    /// own, up to the next call, and takes no memory. The window stays what it was.
+    pub fn row<'w>(&'w mut self, tick: u64) -> &'w [u128]
+        requires low { first_in self.old ≤ tick }
+        requires high { tick < end_in self.old }
+        ensures row { (c : Contents) → IsOver self.old c → result.now ≡ row_of c
+            (places_in (columns_in self.old))
+            (slice_index (ticks_of c (clock_in (columns_in self.old))) tick) }
+        ensures* stays { sem 𝓛 (StaysAfter self.entry) }
+    {
+        self.show(tick);
+        self.shown_row.as_slice()
+    }
+
+    /// Puts the row at a tick of the window into the room for it.
+    fn show(&mut self, tick: u64)
+        requires low { first_in self.old ≤ tick }
+        requires high { tick < end_in self.old }
+        ensures row { (c : Contents) → IsOver self.old c → self.new.shown_row.items ≡ row_of c
+            (places_in (columns_in self.old))
+            (slice_index (ticks_of c (clock_in (columns_in self.old))) tick) }
+        ensures stays { IsSameWindow self.old self.new }
+    {
+        let place = tick as usize - self.first;
+        let columns = &self.columns;
+        self.shown_row.clear();
+        push_picked(
+            &mut self.shown_row,
+            &self.samples,
+            columns.shared.picks.as_slice(),
+            place,
+        );
     }
 
     /// The number of its signals, each of which has a value in a row.

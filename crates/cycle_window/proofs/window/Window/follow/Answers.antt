@@ -81,6 +81,7 @@ invariant_of-self c =
             stays = λ n lt. absurd (omega (arith, lt, long));
           };
       wide = w.wide;
+      shown = w.shown;
       fit = λ i t is.
           let one = before i t is in
           omega (arith, w.fit i one.0 one.1, one.2.bits);

@@ -272,6 +272,7 @@ invariant_of-self c =
           subst (λ (m : ℕ). IsFull (min w.size w.columns.count) m s) (sym count)
           (now-full w n few inside mid filled.many filled.kept full new noted.long noted.noted i s is);
       wide = omega (arith, w.wide, filled.wide);
+      shown = w.shown;
       fit = still-wide w n few inside mid filled.many filled.kept full new noted.long noted.noted
           (variables_of w.columns.dump.now) (places w.columns.shared.variables.items) w.fit;
     }
