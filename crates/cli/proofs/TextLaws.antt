@@ -250,6 +250,7 @@ pub unclocked : (c : Contents) (text : List ℕ) (suite : Suite) (e : WindowFaul
     → WhyNoReport c text (window_fault e)
 unclocked c text suite windows.NoClock says h = record { suite = suite; says = says; why = h }
 unclocked c text suite windows.ClockWidth says h = record { suite = suite; says = says; why = h }
+unclocked c text suite windows.BadSize says h = elim h [ ]
 unclocked c text suite (windows.NoSignal p) says h = elim h [ ]
 unclocked c text suite (windows.SignalWidth p) says h = elim h [ ]
 unclocked c text suite windows.Memory says h = tt

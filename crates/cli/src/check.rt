@@ -47,7 +47,10 @@ pub fn check_one<'a, S: Source, W: Sink>(
         (S.state source.old) (S.state source.new) (W.state out.old) (W.state out.new))) }
     ensures bad_size { IsBadSize window ↔ (result ≡ Err BadSize) }
 {
-    check_through(alloc, source, text, WindowSize::new(window)?, out)
+    match WindowSize::new(window) {
+        Ok(size) => check_through(alloc, source, text, size, out),
+        Err(_) => Err(Fault::BadSize),
+    }
 }
 
 /// Does what [`check_one`] does, by 1 to 64 workers, each a thread: `workers` and `gate` do
@@ -76,7 +79,9 @@ pub fn check_all<'a, S: Source, W: Sink, G: Gate + Sync, R: Threads + Wait + Syn
     ensures bad_team { (1 ≤ window) × (window ≤ 65536) × IsBadTeam workers
         → result ≡ Err BadWorkers }
 {
-    let size = WindowSize::new(window)?;
+    let Ok(size) = WindowSize::new(window) else {
+        return Err(Fault::BadSize);
+    };
     let Ok(team) = TeamSize::new(workers) else {
         return Err(Fault::BadWorkers);
     };

@@ -60,6 +60,7 @@ unbound c code p accepted windows.NoClock h =
     record { program = p; accepted = accepted; why = h }
 unbound c code p accepted windows.ClockWidth h =
     record { program = p; accepted = accepted; why = h }
+unbound c code p accepted windows.BadSize h = absurd h
 unbound c code p accepted (windows.NoSignal path) h =
     record { program = p; accepted = accepted; why = h }
 unbound c code p accepted (windows.SignalWidth path) h =
@@ -75,6 +76,7 @@ module _ (r : Run) (c : Contents) (gave : GaveDump r.source_before.remaining r.s
       → WhyRunFails r (Window e)
   refused_window windows.NoClock h = refused (Window windows.NoClock) h
   refused_window windows.ClockWidth h = refused (Window windows.ClockWidth) h
+  refused_window windows.BadSize h = refused (Window windows.BadSize) h
   refused_window (windows.NoSignal path) h = refused (Window (windows.NoSignal path)) h
   refused_window (windows.SignalWidth path) h = refused (Window (windows.SignalWidth path)) h
   refused_window windows.Memory h = absurd h

@@ -96,7 +96,9 @@ pub fn run_code<S: Source, W: Sink, G: Gate + Sync, R: Threads + Wait + Sync>(
     ensures bad_team { (1 ≤ window) × (window ≤ 65536) × IsBadTeam workers
         → result ≡ Err BadWorkers }
 {
-    let size = WindowSize::new(window)?;
+    let Ok(size) = WindowSize::new(window) else {
+        return Err(Fault::BadSize);
+    };
     let Ok(team) = TeamSize::new(workers) else {
         return Err(Fault::BadWorkers);
     };

@@ -47,6 +47,7 @@ compile_fault compiles.Memory = Memory
 compile_fault e = Compile e
 
 abbrev pub window_fault : WindowFault → Fault
+window_fault windows.BadSize = BadSize
 window_fault windows.Memory = Memory
 window_fault e = Window e
 

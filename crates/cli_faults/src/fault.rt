@@ -6,7 +6,7 @@ use axi4_rules::PortFault;
 use bytecode::CodeFault;
 use cli_words::WordsFault;
 use compiler::CompileFault;
-use cycle_window::{BadSize, WindowFault};
+use cycle_window::WindowFault;
 use lexer::LexFault;
 use parser::ParseFault;
 use report_lines::ReportFault;
@@ -141,16 +141,6 @@ impl From<TypeFault> for Fault<'_> {
     }
 }
 
-impl From<BadSize> for Fault<'_> {
-    ghost use Rattle.cli_faults.specs.declared.fault.Fault.TheVariants as faults;
-
-    ghost from_gives = { λ _ e. e ≡ faults.BadSize };
-
-    fn from(_fault: BadSize) -> Self {
-        Fault::BadSize
-    }
-}
-
 impl From<WindowFault> for Fault<'_> {
     ghost use Rattle.cli_faults.specs.Faults.{window_fault};
 
@@ -158,6 +148,7 @@ impl From<WindowFault> for Fault<'_> {
 
     fn from(fault: WindowFault) -> Self {
         match fault {
+            WindowFault::BadSize => Fault::BadSize,
             WindowFault::Memory => Fault::Memory,
             other => Fault::Window(other),
         }

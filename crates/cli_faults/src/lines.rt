@@ -59,6 +59,7 @@ fn window_line(alloc: Global, fault: &WindowFault) -> Result<String, AllocError>
     match fault {
         WindowFault::NoClock => String::from_str(alloc, "svamon: C1 NoClock"),
         WindowFault::ClockWidth => String::from_str(alloc, "svamon: C2 ClockWidth"),
+        WindowFault::BadSize => String::from_str(alloc, "svamon: C3 BadSize"),
         WindowFault::NoSignal(path) => path_line(alloc, "svamon: C4 NoSignal ", path.as_str()),
         WindowFault::SignalWidth(path) => {
             path_line(alloc, "svamon: C5 SignalWidth ", path.as_str())

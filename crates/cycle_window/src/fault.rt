@@ -1,4 +1,4 @@
-//! Why there are no clocks or columns.
+//! Why there are no clocks, columns or windows.
 
 ghost use Rattle.std.specs.Prelude.{◌≡◌};
 ghost use Rattle.cycle_window.specs.declared.fault.WindowFault.TheVariants.{Memory};
@@ -6,7 +6,7 @@ ghost use Rattle.cycle_window.specs.declared.fault.WindowFault.TheVariants.{Memo
 use std::alloc::{AllocError, AllocFailed};
 use thiserror::Error;
 
-/// Why there are no clocks or columns.
+/// Why there are no clocks, columns or windows.
 #[derive(Debug, Drop, Error)]
 pub enum WindowFault {
     /// C1: the clock's path names no variable that can be bound.
@@ -15,6 +15,9 @@ pub enum WindowFault {
     /// C2: the clock is wider than one bit.
     #[error("C2 ClockWidth")]
     ClockWidth,
+    /// C3: a window is to hold no clock, or more than 65,536.
+    #[error("C3 BadSize")]
+    BadSize,
     /// C4: the path of a signal that names no variable that can be bound.
     #[error("C4 NoSignal {0}")]
     NoSignal(String),

@@ -63,6 +63,6 @@ pub use clocks::Clocks;
 pub use columns::{Columns, WatchedSignal};
 pub use fault::WindowFault;
 pub use laws::ticks_law;
-pub use size::{BadSize, WindowSize};
+pub use size::WindowSize;
 pub use times::time_of_tick;
 pub use window::Window;

@@ -1,15 +1,10 @@
 //! How many clocks a window holds.
 
+use crate::fault::WindowFault;
 use std::marker::Model;
-use thiserror::Error;
 
 /// The most clocks of a window.
 const MOST: u64 = 65_536;
-
-/// C3: a window is to hold no clock, or more than 65,536.
-#[derive(Clone, Copy, Debug, Error)]
-#[error("C3 BadSize")]
-pub struct BadSize;
 
 /// How many clocks a window holds at most: 1 to 65,536.
 #[derive(Clone, Copy, Debug)]
@@ -30,7 +25,7 @@ impl Model for WindowSize {
 }
 
 impl WindowSize {
-    ghost use Rattle.std.specs.Prelude.{◌≡◌, ◌≤◌, IfOk, IfErr};
+    ghost use Rattle.std.specs.Prelude.{◌≡◌, ◌≤◌, ◌↔◌, Err, IfOk, IfErr};
     ghost use Rattle.cycle_window.specs.Bound.{IsBadSize};
 
     /// The size of so many clocks.
@@ -38,13 +33,14 @@ impl WindowSize {
     /// # Errors
     ///
     /// C3: no clock, or more than 65,536.
-    pub fn new(clocks: u64) -> Result<WindowSize, BadSize>
+    pub fn new(clocks: u64) -> Result<WindowSize, WindowFault>
         ensures size { IfOk result (λ size. size ≡ clocks) }
         ensures good { IfOk result (λ _. (1 ≤ clocks) × (clocks ≤ 65536)) }
         ensures fault { IfErr result (λ _. IsBadSize clocks) }
+        ensures bad_size { IsBadSize clocks ↔ (result ≡ Err WindowFault.BadSize) }
     {
         if clocks == 0 || clocks > MOST {
-            return Err(BadSize);
+            return Err(WindowFault::BadSize);
         }
         Ok(WindowSize {
             clocks: clocks as usize,

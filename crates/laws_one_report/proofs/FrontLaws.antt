@@ -80,6 +80,7 @@ module _ (c d : Contents) (text : List ℕ) (same : c.variables ≡ d.variables)
       → WhyNoneByPrograms d text (Window e)
   window-by windows.NoClock h = clockless-by windows.NoClock h
   window-by windows.ClockWidth h = clockless-by windows.ClockWidth h
+  window-by windows.BadSize h = h
   window-by (windows.NoSignal path) h = h
   window-by (windows.SignalWidth path) h = h
   window-by windows.Memory h = h

@@ -90,6 +90,7 @@ not_clockless c text report windows.NoClock h k =
     clock_misfits c text report k.suite Missing h k.says k.why
 not_clockless c text report windows.ClockWidth h k =
     clock_misfits c text report k.suite OtherWidth h k.says k.why
+not_clockless c text report windows.BadSize h k = k
 not_clockless c text report (windows.NoSignal path) h k = k
 not_clockless c text report (windows.SignalWidth path) h k = k
 not_clockless c text report windows.Memory h k = k

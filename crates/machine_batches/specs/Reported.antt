@@ -57,4 +57,5 @@ WhyNoRun vs p (faults.NoSignal path) =
 WhyNoRun vs p (faults.SignalWidth path) =
     HasClock vs p.header.clock
     × (first_refused vs (map wanted_slot p.signals) ≡ Some (At (string_bytes path) OtherWidth))
+WhyNoRun vs p faults.BadSize = ⊥
 WhyNoRun vs p faults.Memory = Unit {0}

@@ -106,6 +106,7 @@ pub memory_alone : (vs : List Declared) (asked : List Wanted) (e : WindowFault)
     → first_refused vs asked ≡ None → IsSignalFault vs asked e → e ≡ windows.Memory
 memory_alone vs asked windows.NoClock none h = elim h [ ]
 memory_alone vs asked windows.ClockWidth none h = elim h [ ]
+memory_alone vs asked windows.BadSize none h = elim h [ ]
 memory_alone vs asked (windows.NoSignal p) none h = absurd cc
 memory_alone vs asked (windows.SignalWidth p) none h = absurd cc
 memory_alone vs asked windows.Memory none h = refl

@@ -71,8 +71,11 @@ pub(crate) fn told<R: Threads + Wait + Sync + AllocGlobal>(
     size: u64,
 ) -> Result<String, AllocError> {
     let alloc = rt.alloc();
-    let (Ok(team), Ok(size)) = (TeamSize::new(workers), WindowSize::new(size)) else {
-        return String::from_str(alloc, "no team or no window");
+    let Ok(team) = TeamSize::new(workers) else {
+        return String::from_str(alloc, "no team");
+    };
+    let Ok(size) = WindowSize::new(size) else {
+        return String::from_str(alloc, "no window");
     };
     let Some(verified) = verified_of(alloc, code)? else {
         return String::from_str(alloc, "no program");

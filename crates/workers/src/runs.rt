@@ -110,7 +110,9 @@ pub fn run<G: Gate + Sync, R: Threads + Wait + Sync>(
     // The first cause that stands.
     ensures fault { IfErr result (WhyNoCore workers size) }
 {
-    let size = WindowSize::new(size as u64)?;
+    let Ok(size) = WindowSize::new(size as u64) else {
+        return Err(RunFault::BadSize);
+    };
     let team = TeamSize::new(workers as u64)?;
     Ok(job_report(rt, alloc, job, team, size, gate)?)
 }

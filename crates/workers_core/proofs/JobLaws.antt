@@ -43,6 +43,7 @@ pub clock-why : (vs : List Declared) (path : List ℕ) (ps : List ProgramData) (
     → IsClockFault vs path e → WhyNoJob vs path ps (window_fault e)
 clock-why vs path ps windows.NoClock h = h
 clock-why vs path ps windows.ClockWidth h = h
+clock-why vs path ps windows.BadSize h = absurd h
 clock-why vs path ps (windows.NoSignal p) h = absurd h
 clock-why vs path ps (windows.SignalWidth p) h = absurd h
 clock-why vs path ps windows.Memory h = tt

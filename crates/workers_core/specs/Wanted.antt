@@ -48,5 +48,6 @@ WhyNoJob vs path ps (faults.Window (windows.NoSignal p)) =
 WhyNoJob vs path ps (faults.Window (windows.SignalWidth p)) =
     HasClock vs path × IsGoodCount ps
     × (first_refused vs (wanted_in ps) ≡ Some (At (string_bytes p) OtherWidth))
+WhyNoJob vs path ps (faults.Window windows.BadSize) = ⊥
 WhyNoJob vs path ps (faults.Window windows.Memory) = ⊥
 WhyNoJob vs path ps faults.Memory = Unit {0}

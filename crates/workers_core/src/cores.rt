@@ -56,7 +56,9 @@ impl<'j> Core<'j> {
         // The first cause that stands.
         ensures fault { IfErr result (WhyNoCore workers size) }
     {
-        let size = WindowSize::new(size as u64)?;
+        let Ok(size) = WindowSize::new(size as u64) else {
+            return Err(RunFault::BadSize);
+        };
         let team = TeamSize::new(workers as u64)?;
         Ok(Core::of_sizes(alloc, job, team, size)?)
     }

@@ -4,7 +4,6 @@ ghost use Rattle.std.specs.Prelude.{◌≡◌};
 ghost use Rattle.workers_core.specs.declared.run_fault.RunFault.TheVariants.{Memory};
 
 use crate::team_size::BadTeam;
-use cycle_window::BadSize;
 use std::alloc::AllocError;
 use thiserror::Error;
 
@@ -20,16 +19,6 @@ pub enum RunFault {
     /// U2: there was no memory.
     #[error("U2 Memory")]
     Memory,
-}
-
-impl From<BadSize> for RunFault {
-    ghost use Rattle.workers_core.specs.declared.run_fault.RunFault.TheVariants as faults;
-
-    ghost from_gives = { λ _ e. e ≡ faults.BadSize };
-
-    fn from(_e: BadSize) -> RunFault {
-        RunFault::BadSize
-    }
 }
 
 impl From<BadTeam> for RunFault {
