@@ -33,7 +33,7 @@ invariant_of-result c =
             stays = λ k lt. absurd (omega (arith, lt, long));
           };
       wide = omega (arith, c.in_ok-read_row.ensures.capacity, long);
-      shown = omega (arith, c.in_ok-shown_row.ensures.capacity, c.len-shown_row.ensures, columns.shared.picks.ok.0);
+      shown = omega (arith, c.in_ok-shown_row.ensures.capacity, c.len.ensures, columns.shared.picks.ok.0);
       fit = subst
           (λ (vs : List VarId).
           AreWide (variables_of columns.dump.now) (places vs) c.in_ok-samples.samples.items)

@@ -9,7 +9,8 @@ use Rattle.cycle_window.specs.Samples.{Each, value_at, value_in}
 use Rattle.cycle_window.specs.Variables.{places}
 use Rattle.cycle_window.specs.Ticks.{ticks_of, row_of}
 use Rattle.cycle_window.specs.Values.{numbers}
-use Rattle.cycle_window.specs.Held.{columns_in, places_in, clock_in, first_in, end_in, size_in, IsOver, code_in, ticks_in}
+use Rattle.cycle_window.specs.Held.{columns_in, places_in, clock_in, first_in, end_in, size_in, code_in, ticks_in}
+use Rattle.cycle_window.specs.Held.{IsOver}
 use Rattle.cycle_window.proofs.PickLaws.{picked-row}
 use Rattle.cycle_window.proofs.SampleLaws.{there}
 use Rattle.cycle_window.proofs.StayLaws.{picked-by, value-of}
