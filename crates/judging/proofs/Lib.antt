@@ -1,4 +1,3 @@
-pub mod Searches
 pub mod RowLaws
 pub mod FormLaws
 pub mod ShiftLaws

@@ -54,6 +54,7 @@ fn seen_between(
 
 /// The first place below a bound with which the antecedent ends, and from which the consequent
 /// matches up to no place.
+#[tactic(auto, using(assertions::proofs::Quantifiers::searches))]
 fn first_broken(ends: &[bool], consequents: &Table, below: usize, count: usize) -> Option<usize>
     requires { below < 2 ^ 60 }
     ensures { result ≡ first_true 0 below (λ e.

@@ -20,6 +20,7 @@ pub(crate) struct Course {
 }
 
 /// The course of the attempt that begins at `start`, up to its decision.
+#[tactic(auto, using(assertions::proofs::Quantifiers::searches))]
 pub(crate) fn course_of(
     alloc: Global,
     assertion: &Assertion,

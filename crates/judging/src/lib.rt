@@ -24,7 +24,7 @@
 //! of rows and how that decides it in `specs/Courses.antt`. A cause is in `specs/Causes.antt`.
 //!
 //! Not promised: that memory suffices, or that it is fast. The tables are made anew at each tick.
-#![tactic(auto, using(crate::proofs::Searches::searches))]
+#![tactic(auto)]
 
 mod cause;
 mod course;

@@ -67,6 +67,7 @@ fn outlook_at(ends: bool, consequent: &[bool], tick: usize, below: usize, count:
 
 /// What stands at the ticks of an attempt below a bound, of whose antecedent and consequent the
 /// tables have the ends.
+#[tactic(auto, using(assertions::proofs::Quantifiers::searches))]
 pub(crate) fn outlook_of(ends: &[bool], consequents: &Table, below: usize, count: usize) -> Outlook
     requires { below < 2 ^ 60 }
     ensures ends { result.ends ≡ some_in 0 below (λ e. marks ends.now (e + 1)) }

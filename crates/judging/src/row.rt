@@ -11,6 +11,7 @@ use assertions::Boolean;
 use std::alloc::{AllocError, Global};
 
 /// Whether the row has a place from the first up to the end.
+#[tactic(auto, using(assertions::proofs::Quantifiers::searches))]
 pub(crate) fn some_mark(row: &[bool], from: usize, end: usize) -> bool
     ensures { result ≡ some_in from end (marks row.now) }
 {
@@ -110,6 +111,7 @@ pub(crate) fn merge_from(row: &mut Vec<bool>, more: &[bool], from: usize)
 }
 
 /// The places that the table reaches from those of the row, so many ticks further on at least.
+#[tactic(auto, using(assertions::proofs::Quantifiers::searches))]
 pub(crate) fn joined_row(
     alloc: Global,
     front: &[bool],
@@ -150,6 +152,7 @@ pub(crate) fn merged_row(
 }
 
 /// The places of the row, or the first of them alone.
+#[tactic(auto, using(assertions::proofs::Quantifiers::searches))]
 pub(crate) fn leading_row(
     alloc: Global,
     ends: &[bool],
@@ -194,6 +197,7 @@ fn is_later_end(one: bool, one_ended: bool, other: bool, other_ended: bool) -> b
 }
 
 /// The places of one row with a place of the other there or before.
+#[tactic(auto, using(assertions::proofs::Quantifiers::searches))]
 pub(crate) fn both_row(
     alloc: Global,
     one: &[bool],
@@ -229,6 +233,7 @@ fn holds_from(place: usize, boolean: Boolean, seen: &Seen, tick: usize) -> bool
 }
 
 /// The places of the row up to which the boolean is true at each tick from a place on.
+#[tactic(auto, using(assertions::proofs::Quantifiers::searches))]
 pub(crate) fn kept_row(
     alloc: Global,
     body: &[bool],

@@ -16,6 +16,7 @@ use std::alloc::{AllocError, Global};
 
 /// The verdict, were the attempt not disabled at a tick from `start` up to `end`, each of which it
 /// has seen.
+#[tactic(auto, using(assertions::proofs::Quantifiers::searches))]
 fn unless_disabled(
     assertion: &Assertion,
     seen: &Seen,
