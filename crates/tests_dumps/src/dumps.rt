@@ -1,6 +1,8 @@
 //! Dumps, their paths, and rows by windows, with answers worked out by hand. Values and faults of
 //! dumps are the table of `answers_reports`.
 
+ghost use Rattle.cycle_window.specs.Shown.{IsSameWindow};
+
 use cycle_window::{Clocks, Columns, WatchedSignal, Window, WindowFault, WindowSize};
 use signals::{Counted, CutReader, Source};
 use std::alloc::{AllocError, Global};
@@ -56,12 +58,12 @@ fn steps_of(alloc: Global, text: &str) -> Result<usize, Fail> {
 }
 
 /// Adds the rows of a window, one after the other.
-fn push_rows(alloc: Global, window: &Window<'_>, values: &mut Vec<u128>) -> Result<(), AllocError> {
+fn push_rows(window: &mut Window<'_>, values: &mut Vec<u128>) -> Result<(), AllocError>
+    ensures { IsSameWindow window.old window.new }
+{
     let (first, end) = window.bounds();
     for tick in first..end {
-        let mut row = Vec::with_capacity(alloc, window.width())?;
-        window.put_row(&mut row, tick);
-        values.extend_from_slice(row.as_slice())?;
+        values.extend_from_slice(window.row(tick))?;
     }
     Ok(())
 }
@@ -84,7 +86,7 @@ fn values_in(
             break;
         }
         window.slide(dump, &clocks);
-        push_rows(alloc, &window, &mut values)?;
+        push_rows(&mut window, &mut values)?;
     }
     Ok(values)
 }

@@ -6,3 +6,6 @@ loop-init c =
     let bound = c.in_ok-columns.ensures in
     c.in_ok-window.ensures.of c.args.dump.now c.in_ok-clocks.clocks bound.dump (sym bound.clock)
     c.in_ok-clocks.ensures.ticks bound.rows
+
+pub loop-preserved : goal.loop-preserved
+loop-preserved c = c.in_ok-push_rows.ensures.of _ _ c.slide.ensures.same
