@@ -28,6 +28,7 @@ help:
 	@echo 'make test             the gate: proves all from nothing, and runs tests, programs, and the edits of what'
 	@echo '                      changed; then tries the built programs from outside'
 	@echo 'make test-all         the gate with all edits'
+	@echo 'make test-day         the gate with the edits of an eighth of the crates, which turns with the day'
 	@echo 'make edits NAME=      tries the must-fail edits of a crate, and writes its stamp'
 	@echo 'make bench            times reading against the plain C baseline, on dumps of 50 and 200 MB made from DUMP'
 	@echo '                      (clock CLOCK), and on odd shapes; reading and checking texts; bytecode; verifying;'
@@ -62,6 +63,9 @@ test:
 
 test-all:
 	@scripts/tools/gate all
+
+test-day:
+	@scripts/tools/gate day
 
 edits:
 	@test -n '$(NAME)' || { echo 'make edits NAME=crate'; exit 2; }
@@ -131,5 +135,6 @@ wrong-threads:
 soak: svamon
 	scripts/tools/soak crates/svamon/out/svamon $(SECONDS) $(SEED)
 
-.PHONY: help demo quick verify-quick dist test test-all edits install svamon bench allocations random soak wrong-threads
+.PHONY: help demo quick verify-quick dist test test-all test-day edits install svamon bench allocations random soak
+.PHONY: wrong-threads
 .PHONY: answers_bytecode answers_texts answers_workers_core answers_reports

@@ -28,7 +28,8 @@ fn push_port(alloc: Global, text: &mut RuleText, line: &(Port, Mode)) -> Result<
 /// Adds the rules of each port.
 fn push_ports(alloc: Global, text: &mut RuleText, ports: &[(Port, Mode)]) -> Result<(), PortFault>
     ensures memory_alone { IfErr result (λ e. e ≡ PortFault.Memory) }
-    ensures added { OnOk result (Adds text.old text.new (flat_map table_of (map line_data ports.now))) }
+    ensures added { OnOk result (Adds text.old text.new
+        (flat_map table_of (map line_data ports.now))) }
 {
     for line in ports {
         push_port(alloc, text, line)?;
