@@ -1,6 +1,6 @@
 //! A team's own files in place of a text.
 
-ghost use Rattle.std.specs.Prelude.{◌≡◌, IsTrue, max, not};
+ghost use Rattle.std.specs.Prelude.{◌≡◌, false, max, true};
 
 use crate::dump_front::{read_dump_front, sound_header};
 use crate::import::import_and_tell;
@@ -113,8 +113,8 @@ pub fn open_team<R: Files + StandardError + AllocGlobal>(
 /// The status of a command over what is written of a team's files: 2 where the rest is refused, and
 /// what the command did is no worse than that.
 pub fn status_with(is_whole: bool, status: u8) -> u8
-    ensures whole { IsTrue is_whole → result ≡ status }
-    ensures part { IsTrue (not is_whole) → result ≡ max status 2 }
+    ensures whole { is_whole ≡ true → result ≡ status }
+    ensures part { is_whole ≡ false → result ≡ max status 2 }
 {
     if is_whole {
         status
