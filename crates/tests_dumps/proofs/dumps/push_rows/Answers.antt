@@ -1,4 +1,3 @@
-use Rattle.std.proofs.Common.{arith}
 use Rattle.cycle_window.proofs.ShownLaws.{same-self, same-after}
 use Rattle.tests_dumps.proofs.dumps.push_rows.Goals as goal
 

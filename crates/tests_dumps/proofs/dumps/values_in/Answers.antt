@@ -1,4 +1,4 @@
-use Rattle.std.proofs.Common.{◌∙◌, sym}
+use Rattle.std.proofs.Common.{sym}
 use Rattle.tests_dumps.proofs.dumps.values_in.Goals as goal
 
 pub loop-init : goal.loop-init
