@@ -22,7 +22,7 @@ use Rattle.verifier.specs.declared.refusal.Refusal.{Refusal}
 use Rattle.verifier.specs.declared.refusal.Refusal.TheVariants as refusals
 use Rattle.cli_faults.specs.declared.fault.Fault.{Fault}
 use Rattle.cli_faults.specs.declared.fault.Fault.TheVariants.{Vcd, Lex, Parse, Typing, Window}
-use Rattle.cli_faults.specs.declared.fault.Fault.TheVariants.{Report}
+use Rattle.cli_faults.specs.declared.fault.Fault.TheVariants.{BadSize, Report}
 use Rattle.cli_faults.specs.declared.fault.Fault.TheVariants.{Port, Compile, Code}
 use Rattle.cli_faults.specs.declared.fault.Fault.TheVariants.{Refused, Memory}
 
