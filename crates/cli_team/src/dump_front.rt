@@ -4,7 +4,7 @@ use cli_faults::Fault;
 use signals::Counted;
 use std::alloc::{AllocError, Global};
 use std::io::Read;
-use vcd_reader::{Fault as ByteFault, ReadError, VcdFault, read_dump, read_front};
+use vcd_reader::{Fault as ByteFault, ReadError, VcdFault, read_dump, read_front, separates};
 
 /// The first bytes of a dump.
 #[derive(Drop)]
@@ -21,11 +21,6 @@ impl DumpFront {
         let bytes = self.bytes.as_slice();
         bytes.get(..self.header_len).unwrap_or(bytes)
     }
-}
-
-/// Whether a byte stands between the tokens of a dump.
-fn separates(byte: u8) -> bool {
-    matches!(byte, b' ' | b'\t' | b'\r' | b'\n')
 }
 
 /// The bytes up to the last one that stands between tokens: whole tokens.

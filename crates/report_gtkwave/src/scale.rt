@@ -1,15 +1,9 @@
 //! What GTKWave counts time in.
 
 ghost use Rattle.std.specs.Prelude.{◌≡◌};
-ghost use Rattle.vcd_reader.specs.Tokens.{is_separator};
 ghost use Rattle.report_gtkwave.specs.Scales.{begun_scale, scale_after, scale_at, scale_in};
 
-/// Whether a byte separates tokens of a dump.
-fn separates(byte: u8) -> bool
-    ensures { result ≡ is_separator byte }
-{
-    byte == b' ' || byte == b'\t' || byte == b'\r' || byte == b'\n'
-}
+use vcd_reader::separates;
 
 /// The number that bytes begin with, if that is one of a time scale; else 1.
 fn begun_scale(bytes: &[u8]) -> u64

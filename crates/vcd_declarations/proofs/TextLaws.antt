@@ -47,16 +47,14 @@ pub texts-nil : texts [] ≡ []
 unfolding texts tokens
 texts-nil = refl
 
--- what begins at a byte begins at a later one, too
-pub texts-later : (bytes : List ℕ) (at from : ℕ) → tokens at (drop at bytes) ≡ tokens from (drop from bytes)
-    → texts (drop at bytes) ≡ texts (drop from bytes)
-texts-later bytes at from e =
-    sym (texts-from at (drop at bytes)) ∙ ap text_list e ∙ texts-from from (drop from bytes)
+-- no token, no text
+pub texts-none : (bs : List ℕ) (at : ℕ) → tokens at bs ≡ [] → texts bs ≡ []
+texts-none bs at e = sym (texts-from at bs) ∙ ap text_list e
 
 -- the first token, and those after it
-pub texts-first : (bs cs word : List ℕ) (at end : ℕ) → tokens at bs
-    ≡ record { text = word; at = at } ∷ tokens end cs → texts bs ≡ word ∷ texts cs
-texts-first bs cs word at end e =
+pub texts-first : (bs cs word : List ℕ) (at from end : ℕ) → tokens at bs
+    ≡ record { text = word; at = from } ∷ tokens end cs → texts bs ≡ word ∷ texts cs
+texts-first bs cs word at from end e =
     sym (texts-from at bs) ∙ ap text_list e ∙ ap (λ (ts : List (List ℕ)). word ∷ ts) (texts-from end cs)
 
 -- a text that the bytes go on with

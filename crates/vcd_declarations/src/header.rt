@@ -6,12 +6,12 @@ ghost use Rattle.vcd_declarations.specs.Sections.{texts};
 ghost use Rattle.vcd_declarations.specs.Declarations.{joined};
 
 use crate::entry::{Entry, entry_in};
-use crate::range::range_start;
 use crate::section::split_section;
 use crate::spelling::Spelling;
 use crate::token::next_token;
 use crate::variable::Variable;
 use std::alloc::{AllocError, Global};
+use vcd_reader::range_start;
 
 /// The header of a dump, read from its front.
 #[derive(Drop)]

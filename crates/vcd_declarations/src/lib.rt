@@ -18,8 +18,9 @@
 //! The definitions: `specs/Sections.antt` (a dump's tokens as texts, and its sections, each up to
 //! its `$end`), `specs/Declarations.antt` (what sections say, the declarations of a header, and the
 //! range of a reference). `specs/Views.antt` says what a `Header`, a `Variable` and a `Spelling`
-//! stand for. Tokens, the word of a section, names and scopes are those of `vcd_reader`. By
-//! `declarations_law` the declarations of a dump that it reads are its variables, one for one.
+//! stand for. Tokens, numbers, the word of a section, names and scopes are those of `vcd_reader`,
+//! which reads tokens, numbers and ranges here, too. By `declarations_law` the declarations of a
+//! dump that it reads are its variables, one for one.
 //!
 //! Not promised: what is told of bytes that are no dump, but that it is what the definitions say;
 //! where memory ran out in `next`, what the header tells from then on.
@@ -29,7 +30,6 @@ mod entry;
 mod header;
 mod laws;
 mod number;
-mod range;
 mod section;
 mod spelling;
 mod token;

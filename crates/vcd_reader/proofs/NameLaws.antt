@@ -77,5 +77,3 @@ ends-last [] i e = absurd (omega arith)
 ends-last (b ∷ []) i e = let z : i ≡ 0 = omega arith in rw z refl
 ends-last (b ∷ c ∷ cs) zero e = absurd (omega arith)
 ends-last (b ∷ c ∷ cs) (suc i) e = ends-last (c ∷ cs) i (omega arith)
-
-pub ruleset names = (name-none, name-cut, name-kept, ends-last)

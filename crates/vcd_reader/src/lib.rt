@@ -35,7 +35,9 @@
 //! its value at each size up to 128. The other files of `specs` are of what the code keeps.
 //!
 //! A line that holds one scalar, vector or time alone is read at once (`src/line.rt`), and a body
-//! may be read in parts, each by a thread (`src/parts.rt`). `read_front` reads a header alone.
+//! may be read in parts, each by a thread (`src/parts.rt`). `read_front` reads a header alone. Who
+//! goes over a dump's bytes for something else has its tokens by `next_token` and `separates`, its
+//! numbers by `decimal`, and the range of a reference by `range_start`.
 //!
 //! Not promised: that memory suffices; how many threads are at work, where a body is cut, or that
 //! each part is read once; that a dump follows the standard in what the grammar leaves open.
@@ -73,6 +75,9 @@ pub use dump::Dump;
 pub use fault::{Fault, ReadError, VcdFault};
 pub use front::read_front;
 pub use laws::{digits_law, grammar_law};
+pub use name::range_start;
+pub use number::decimal;
 pub use reader::{read_dump, read_dump_and_bytes, read_dump_by};
 pub use step::{Change, Step};
+pub use token::{next_token, separates};
 pub use variable::{Name, VarId};

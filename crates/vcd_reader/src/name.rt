@@ -1,6 +1,7 @@
-//! The names of references.
+//! The names of references, and where their ranges begin.
 
-ghost use Rattle.std.specs.Prelude.{◌≡◌, ℕ, ◌<◌, ◌≢◌, ◌==◌, length, slice_index, MatchOption};
+ghost use Rattle.std.specs.Prelude.{◌≡◌, ℕ, ◌<◌, ◌≤◌, ◌≢◌, ◌==◌, length, slice_index, take};
+ghost use Rattle.std.specs.Prelude.{MatchOption};
 ghost use Rattle.std.specs.List.{list_any};
 ghost use Rattle.vcd_reader.specs.Header.{ends_in_bracket, is_range, name_of};
 
@@ -55,16 +56,26 @@ fn is_bracket(text: &[u8]) -> bool
     }
 }
 
+/// The byte of a reference at which its range begins, or its length where it has none.
+pub fn range_start(text: &[u8]) -> usize
+    ensures high { result ≤ length text.now }
+    ensures name { take result text.now ≡ name_of text.now }
+{
+    match last_open(text) {
+        None => text.len(),
+        Some(open) => {
+            if is_bracket(&text[open..]) {
+                open
+            } else {
+                text.len()
+            }
+        }
+    }
+}
+
 /// The text without a range at its end.
-#[tactic(auto, using(crate::proofs::NameLaws::names))]
 pub(crate) fn reference_name(text: &[u8]) -> &[u8]
     ensures { result.now ≡ name_of text.now }
 {
-    match last_open(text) {
-        None => text,
-        Some(open) => {
-            let (name, rest) = text.split_at(open);
-            if is_bracket(rest) { name } else { text }
-        }
-    }
+    &text[..range_start(text)]
 }

@@ -8,6 +8,7 @@ ghost use Rattle.vcd_segments.specs.Inputs.{WhyNotRead};
 
 use signals::Source;
 use std::alloc::Global;
+use vcd_reader::separates;
 
 /// Why an input gave no more bytes.
 #[derive(Clone, Copy, Debug, PartialEq, Eq)]
@@ -49,12 +50,6 @@ pub fn read_some<S: Source>(
         }
     }
     Ok((out, false))
-}
-
-fn separates(byte: u8) -> bool
-    ensures { result ≡ is_separator byte }
-{
-    byte == b' ' || byte == b'\t' || byte == b'\r' || byte == b'\n'
 }
 
 /// The byte behind the last separator; 0 if there is none.

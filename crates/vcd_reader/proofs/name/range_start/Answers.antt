@@ -1,9 +1,13 @@
-use Rattle.std.proofs.Common.{◌∙◌, sym, ap}
+use Rattle.std.proofs.Common.{◌≡◌, ◌∙◌, ◌-◌, ℕ, List, length, take, drop, sym, ap, arith}
 use Rattle.std.proofs.Math.Seq.{take-length}
+use Rattle.std.proofs.lemmas.List.{take_all, length-drop}
 use Rattle.vcd_reader.specs.Header.{is_range}
 use Rattle.vcd_reader.proofs.NameLaws.{name-none, name-cut, name-kept}
-use Rattle.vcd_declarations.proofs.TextLaws.{slice-rest}
-use Rattle.vcd_declarations.proofs.range.range_start.Goals as goal
+use Rattle.vcd_reader.proofs.name.range_start.Goals as goal
+
+-- a slice to the end
+slice-rest : (bs : List ℕ) (i : ℕ) → take (length bs - i) (drop i bs) ≡ drop i bs
+slice-rest bs i = take_all (length bs - i) (drop i bs) (omega (arith, length-drop i bs))
 
 pub returns-in-None-clause-name : goal.returns-in-None-clause-name
 returns-in-None-clause-name c = take-length c.args.text.now ∙ name-none c.args.text.now c.in-None.ensures
