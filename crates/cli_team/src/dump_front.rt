@@ -2,9 +2,9 @@
 
 use cli_faults::Fault;
 use signals::Counted;
-use std::alloc::{AllocError, Global};
+use std::alloc::Global;
 use std::io::Read;
-use vcd_reader::{Fault as ByteFault, ReadError, VcdFault, read_dump, read_front, separates};
+use vcd_reader::{Fault as ByteFault, VcdFault, header_end, read_dump, separates};
 
 /// The first bytes of a dump.
 #[derive(Drop)]
@@ -36,20 +36,19 @@ fn whole_tokens(bytes: &[u8]) -> &[u8] {
 
 /// How many of these bytes are the header; none if they end inside it. If something else is wrong
 /// with it, all of them: who reads them tells what.
-fn header_end(alloc: Global, bytes: &[u8]) -> Result<Option<usize>, AllocError> {
-    match read_front(alloc, bytes) {
-        Ok((_, end)) => Ok(Some(end)),
-        Err(ReadError::Memory) => Err(AllocError),
-        Err(ReadError::Fault(ByteFault::Truncated)) => Ok(None),
-        Err(ReadError::Fault(ByteFault::UnclosedSection(_))) => Ok(None),
-        Err(ReadError::Fault(_)) => Ok(Some(bytes.len())),
+fn len_of_header(bytes: &[u8]) -> Option<usize> {
+    match header_end(bytes) {
+        Ok(end) => Some(end),
+        Err(ByteFault::Truncated) => None,
+        Err(ByteFault::UnclosedSection(_)) => None,
+        Err(_) => Some(bytes.len()),
     }
 }
 
 /// The header with which a dump's bytes begin.
-pub fn header_in(alloc: Global, bytes: &[u8]) -> Result<&[u8], AllocError> {
-    let end = header_end(alloc, bytes)?.unwrap_or(bytes.len());
-    Ok(bytes.get(..end).unwrap_or(bytes))
+pub fn header_in(bytes: &[u8]) -> &[u8] {
+    let end = len_of_header(bytes).unwrap_or(bytes.len());
+    bytes.get(..end).unwrap_or(bytes)
 }
 
 /// Reads some bytes on; whether there were any.
@@ -90,12 +89,12 @@ pub fn read_dump_front<D: Read>(alloc: Global, dump: &mut D) -> Result<DumpFront
         if !read_up_to(dump, &mut bytes, wanted)? {
             break;
         }
-        if let Some(header_len) = header_end(alloc, whole_tokens(bytes.as_slice()))? {
+        if let Some(header_len) = len_of_header(whole_tokens(bytes.as_slice())) {
             return Ok(DumpFront { bytes, header_len });
         }
         wanted = wanted.saturating_mul(2);
     }
-    let header_len = header_in(alloc, bytes.as_slice())?.len();
+    let header_len = header_in(bytes.as_slice()).len();
     Ok(DumpFront { bytes, header_len })
 }
 

@@ -12,7 +12,7 @@
 //! the files. What is written of them is judged like any text.
 //!
 //! What the files come to is said by `import_files`, where a header ends by `vcd_reader`
-//! (`read_front`).
+//! (`header_end`).
 //!
 //! Not promised, but tested (`scripts/tools/team_files.py`): what is told, and when.
 #![tactic(auto)]

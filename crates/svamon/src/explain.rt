@@ -87,7 +87,7 @@ fn read_named_dump<R: AllocGlobal + Threads, D: Read + Drop>(
     let threads = team_size()?.workers();
     let mut dump = Counted::new(dump);
     let (dump, bytes) = read_dump_and_bytes(rt, rt.alloc(), &mut dump, threads)?;
-    let waves = Waves::of(rt.alloc(), header_in(rt.alloc(), bytes.as_slice())?)?;
+    let waves = Waves::of(rt.alloc(), header_in(bytes.as_slice()))?;
     Ok(NamedDump { dump, waves })
 }
 

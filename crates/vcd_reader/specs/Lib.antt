@@ -12,6 +12,7 @@ pub mod Stored
 pub mod Held
 pub mod Index
 pub mod Sections
+pub mod Ends
 pub mod Kept
 pub mod Grammar
 pub mod Packed

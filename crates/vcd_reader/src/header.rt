@@ -13,6 +13,7 @@ ghost use Rattle.vcd_reader.specs.Header.{skipped_section, scope_type, var_type,
 ghost use Rattle.vcd_reader.specs.Header.{variable};
 ghost use Rattle.vcd_reader.specs.Sections.{text_at, tokens_at, head_at, stated_header, end_of};
 ghost use Rattle.vcd_reader.specs.Sections.{IsInside, IsAt};
+ghost use Rattle.vcd_reader.specs.Ends.{IsBehindEnd};
 
 use crate::fault::{Fault, ReadError};
 use crate::name::reference_name;
@@ -55,14 +56,14 @@ pub(crate) struct VarHead {
     pub(crate) end: usize,
 }
 
-fn is_section_end(text: &[u8]) -> bool
+pub(crate) fn is_section_end(text: &[u8]) -> bool
     ensures { result ≡ is_end text.now }
 {
     text == b"$end".as_slice()
 }
 
 #[tactic(auto, unfolding(crate::specs::Header::word_of))]
-fn section_word(text: &[u8]) -> Word
+pub(crate) fn section_word(text: &[u8]) -> Word
     ensures { result ≡ word_of text.now }
 {
     match text {
@@ -93,7 +94,7 @@ pub(crate) fn is_code(text: &[u8]) -> bool
 }
 
 /// The next token of the section whose word stands at `word`, which needs one more.
-fn next_field(bytes: &[u8], at: usize, word: usize) -> Result<Span, Fault>
+pub(crate) fn next_field(bytes: &[u8], at: usize, word: usize) -> Result<Span, Fault>
     requires { at ≤ length bytes.now }
     ensures high { IfOk result (λ s. (at < s.end) × (s.end ≤ length bytes.now)) }
     ensures field { (opener : List ℕ) (go : DumpToken → List DumpToken → Result Header Fault)
@@ -111,9 +112,10 @@ fn next_field(bytes: &[u8], at: usize, word: usize) -> Result<Span, Fault>
 }
 
 /// The end of the section whose word stands at `word`, which needs no more.
-fn section_end(bytes: &[u8], at: usize, word: usize) -> Result<usize, Fault>
+pub(crate) fn section_end(bytes: &[u8], at: usize, word: usize) -> Result<usize, Fault>
     requires { at ≤ length bytes.now }
     ensures high { IfOk result (λ end. (at < end) × (end ≤ length bytes.now)) }
+    ensures behind { IfOk result (IsBehindEnd bytes.now) }
     ensures close { (opener : List ℕ) (go : List DumpToken → Result Header Fault)
         → close (record { text = opener; at = word }) (tokens_at bytes.now at) go
         ≡ read_on result (λ end. go (tokens_at bytes.now end)) }
@@ -128,7 +130,7 @@ fn section_end(bytes: &[u8], at: usize, word: usize) -> Result<usize, Fault>
 }
 
 /// The end of a section that is skipped.
-fn skipped_end(bytes: &[u8], start: usize, word: usize) -> Result<usize, Fault>
+pub(crate) fn skipped_end(bytes: &[u8], start: usize, word: usize) -> Result<usize, Fault>
     requires { start ≤ length bytes.now }
     ensures high { IfOk result (λ end. (start < end) × (end ≤ length bytes.now)) }
     ensures skipped { (opener : List ℕ) (scopes : List (List ℕ)) (vars : List variables.Declared)
@@ -149,7 +151,7 @@ fn skipped_end(bytes: &[u8], start: usize, word: usize) -> Result<usize, Fault>
 }
 
 /// The name of a `$scope`, and the section's end.
-fn read_scope(bytes: &[u8], at: usize, word: usize) -> Result<(Span, usize), Fault>
+pub(crate) fn read_scope(bytes: &[u8], at: usize, word: usize) -> Result<(Span, usize), Fault>
     requires { at ≤ length bytes.now }
     ensures high { IfOk result (λ r. (at < r.1) × (r.1 ≤ length bytes.now)
         × (r.0.end ≤ length bytes.now)) }
@@ -165,7 +167,7 @@ fn read_scope(bytes: &[u8], at: usize, word: usize) -> Result<(Span, usize), Fau
 }
 
 /// The type of a `$var`, its size and its code.
-fn read_var_head(bytes: &[u8], at: usize, word: usize) -> Result<VarHead, Fault>
+pub(crate) fn read_var_head(bytes: &[u8], at: usize, word: usize) -> Result<VarHead, Fault>
     requires { at ≤ length bytes.now }
     ensures high { IfOk result (λ h. (at < h.end) × (h.end ≤ length bytes.now)
         × (h.kind.end ≤ length bytes.now) × (h.code.end ≤ length bytes.now)) }

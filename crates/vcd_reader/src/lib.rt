@@ -35,9 +35,10 @@
 //! its value at each size up to 128. The other files of `specs` are of what the code keeps.
 //!
 //! A line that holds one scalar, vector or time alone is read at once (`src/line.rt`), and a body
-//! may be read in parts, each by a thread (`src/parts.rt`). `read_front` reads a header alone. Who
-//! goes over a dump's bytes for something else has its tokens by `next_token` and `separates`, its
-//! numbers by `decimal`, and the range of a reference by `range_start`.
+//! may be read in parts, each by a thread (`src/parts.rt`). `read_front` reads a header alone, and
+//! `header_end` says where one ends, without what it declares (`specs/Ends.antt`). Who goes over a
+//! dump's bytes for something else has its tokens by `next_token` and `separates`, its numbers by
+//! `decimal`, and the range of a reference by `range_start`.
 //!
 //! Not promised: that memory suffices; how many threads are at work, where a body is cut, or that
 //! each part is read once; that a dump follows the standard in what the grammar leaves open.
@@ -47,6 +48,7 @@ mod body;
 mod body_reader;
 mod codes;
 mod dump;
+mod ends;
 mod fault;
 mod front;
 mod header;
@@ -72,6 +74,7 @@ mod token;
 mod variable;
 
 pub use dump::Dump;
+pub use ends::header_end;
 pub use fault::{Fault, ReadError, VcdFault};
 pub use front::read_front;
 pub use laws::{digits_law, grammar_law};
