@@ -1,8 +1,7 @@
 -- The subcommand that words name.
 use Rattle.std.proofs.Common.{◌≡◌, ◌∙◌, refl, sym, ap, ap₂, Bool, true, false, not, List, Option, Some, None}
-use Rattle.std.proofs.Common.{option_map, [], ◌∷◌, ◌++◌, ◌&&◌, arith, length, inl, inr}
+use Rattle.std.proofs.Common.{option_map, [], ◌∷◌, ◌++◌, ◌&&◌, arith, length, length-append, inl, inr}
 use Rattle.std.proofs.lemmas.Bool.Decides.{eqb_tells}
-use Rattle.std.proofs.lemmas.List.{length_push}
 use Rattle.std.specs.Prelude.{unwrap_or}
 use Rattle.std.specs.Borrow.{Bor}
 use Rattle.std.proofs.lemmas.Option.{none-some}
@@ -17,6 +16,8 @@ use Rattle.clap.specs.declared.builder.arg.ArgPredicate.{ArgPredicate}
 use Rattle.clap.specs.declared.builder.command.Command.{Command}
 use Rattle.clap.specs.declared.parser.matches.ArgMatches.{ArgMatches}
 use Rattle.cli_words.specs.declared.request.Request.{Request}
+use Rattle.cli_words.specs.declared.row.OptionRow.{OptionRow}
+use Rattle.cli_words.specs.Rows.{row_rule, with_rows}
 use Rattle.cli_words.specs.Words.{IsRequest, IsNamed, IsAsked, svamon_app, tied}
 
 pub not-is : (b : Bool) → not b ≡ true → b ≡ false
@@ -35,16 +36,16 @@ pub one_option : (old new : Command) (o : Arg) (a : App) (r : Rule) → AddsArg 
     → o.global ≡ false → app_of new ≡ with_rule a r
 one_option old new o a r adds before is local = adds.shape local ∙ ap₂ with_rule before is
 
--- a command of one more option that is tied to others
-pub one_tied : (old new a : App) (r s : Rule) → new ≡ with_rule old (tied r) → old ≡ a → r ≡ s
-    → new ≡ with_rule a (tied s)
-one_tied old new a r s adds before is = adds ∙ ap₂ with_rule before (ap tied is)
+-- the options of rows leave a command plain
+pub stays_plain : (rows : List OptionRow) (a : App) → a.top.is_plain ≡ true → (with_rows a rows).top.is_plain ≡ true
+stays_plain [] a plain = plain
+stays_plain (row ∷ rows) a plain = stays_plain rows (with_rule a (row_rule row)) plain
 
--- a list with one more is not empty
-one_is_there : (xs : List (Bor Text)) (x : Bor Text) → is_empty (xs ++ x ∷ []) ≡ false
-one_is_there xs x =
-    elim (eqb_tells (length (xs ++ x ∷ [])) 0) [
-      | inl p ↦ absurd (omega (arith, p.1, length_push xs x))
+-- a list with more is not empty
+more_is_there : (xs : List (Bor Text)) (x : Bor Text) (more : List (Bor Text)) → is_empty (xs ++ x ∷ more) ≡ false
+more_is_there xs x more =
+    elim (eqb_tells (length (xs ++ x ∷ more)) 0) [
+      | inl p ↦ absurd (omega (arith, p.1, length-append xs (x ∷ more)))
       | inr q ↦ q.0
     ]
 
@@ -52,12 +53,12 @@ never : (b x : Bool) → x ≡ false → (b && x) ≡ false
 never true x e = e
 never false x e = refl
 
--- an option that is required unless another is there
-pub unless_one : (old new : Arg) (other : Bor Text) (r : Rule) → AddsRequiredUnless old new (other ∷ [])
-    → rule_of old ≡ r → rule_of new ≡ record r { is_free = false }
-unless_one old new other r adds before =
+-- an option that is required unless others are there
+pub unless_one : (old new : Arg) (first : Bor Text) (more : List (Bor Text)) → AddsRequiredUnless old new (first ∷ more)
+    → rule_of new ≡ tied (rule_of old)
+unless_one old new first more adds =
     let some : is_empty new.r_unless.items ≡ false =
-    ap (λ (xs : List (Bor Text)). is_empty xs) adds.1 ∙ one_is_there old.r_unless.items other in
+    ap (λ (xs : List (Bor Text)). is_empty xs) adds.1 ∙ more_is_there old.r_unless.items first more in
     let bound : is_free_arg (record old { r_unless = new.r_unless }) ≡ false =
     never (not old.exclusive) _
     (never (is_empty old.conflicts.items) _
@@ -65,27 +66,25 @@ unless_one old new other r adds before =
     (never (is_empty old.r_ifs.items) _
     (never (is_empty old.r_ifs_all.items) _
     (ap (λ (b : Bool). b && is_empty old.r_unless_all.items) some))))) in
-    ap (λ (a : Arg). rule_of a) adds.0
-    ∙ ap (λ (b : Bool). record (rule_of old) { is_free = b }) bound
-    ∙ ap (λ (x : Rule). record x { is_free = false }) before
+    ap (λ (a : Arg). rule_of a) adds.0 ∙ ap (λ (b : Bool). record (rule_of old) { is_free = b }) bound
 
 -- it stays an option of its own command
-pub unless_local : (old new : Arg) (other : Bor Text) → AddsRequiredUnless old new (other ∷ [])
+pub unless_local : (old new : Arg) (others : List (Bor Text)) → AddsRequiredUnless old new others
     → old.global ≡ false → new.global ≡ false
-unless_local old new other adds before = ap (λ (a : Arg). a.global) adds.0 ∙ before
+unless_local old new others adds before = ap (λ (a : Arg). a.global) adds.0 ∙ before
 
--- an option that can't stand beside another
-pub tied_by_another : (old new : Arg) (other : Bor Text) (r : Rule) → AddsConflicts old new (other ∷ [])
-    → tied (rule_of old) ≡ r → rule_of new ≡ r
-tied_by_another old new other r adds before =
+-- an option that can't stand beside others
+pub tied_by_others : (old new : Arg) (first : Bor Text) (more : List (Bor Text)) → AddsConflicts old new (first ∷ more)
+    → rule_of new ≡ tied (rule_of old)
+tied_by_others old new first more adds =
     let some : is_empty new.conflicts.items ≡ false =
-    ap (λ (xs : List (Bor Text)). is_empty xs) adds.1 ∙ one_is_there old.conflicts.items other in
+    ap (λ (xs : List (Bor Text)). is_empty xs) adds.1 ∙ more_is_there old.conflicts.items first more in
     let rest : Bool =
     is_empty old.needs.items && (is_empty old.r_ifs.items && (is_empty old.r_ifs_all.items
     && (is_empty old.r_unless.items && is_empty old.r_unless_all.items))) in
     let bound : is_free_arg (record old { conflicts = new.conflicts }) ≡ false =
     never (not old.exclusive) _ (ap (λ (b : Bool). b && rest) some) in
-    ap (λ (a : Arg). rule_of a) adds.0 ∙ ap (λ (b : Bool). record (rule_of old) { is_free = b }) bound ∙ before
+    ap (λ (a : Arg). rule_of a) adds.0 ∙ ap (λ (b : Bool). record (rule_of old) { is_free = b }) bound
 
 -- one that wants another
 pub tied_by_a_want : (old new : Arg) (wants : List (ArgPredicate × Bor Text)) → AddsRequirements old new wants
@@ -93,9 +92,9 @@ pub tied_by_a_want : (old new : Arg) (wants : List (ArgPredicate × Bor Text)) �
 tied_by_a_want old new wants adds = ap (λ (a : Arg). tied (rule_of a)) adds.0
 
 -- they stay options of their own command
-pub local_by_another : (old new : Arg) (other : Bor Text) → AddsConflicts old new (other ∷ [])
+pub local_by_others : (old new : Arg) (others : List (Bor Text)) → AddsConflicts old new others
     → old.global ≡ false → new.global ≡ false
-local_by_another old new other adds before = ap (λ (a : Arg). a.global) adds.0 ∙ before
+local_by_others old new others adds before = ap (λ (a : Arg). a.global) adds.0 ∙ before
 
 pub local_by_a_want : (old new : Arg) (wants : List (ArgPredicate × Bor Text)) → AddsRequirements old new wants
     → old.global ≡ false → new.global ≡ false
@@ -132,3 +131,7 @@ entered m n rs name rows r said = record {
       ∙ ap (λ (t : Text). Some (t, rs)) (sym said.command);
   given = said.given;
 }
+
+-- a request of a command is one of the command of the same name
+pub of_name : {n m : Text} → n ≡ m → {rs : List Row} → (r : Request) → IsRequest m rs r → IsRequest n rs r
+of_name e r said = record { command = said.command ∙ sym e; given = said.given }

@@ -38,10 +38,13 @@
 mod clashes;
 mod command;
 mod fault;
+mod option;
 mod plain_paths;
 mod read;
 mod release;
 mod request;
+mod row;
+mod rows;
 mod team_files;
 
 pub use clashes::{kept_paths, overwritten, written_paths, written_twice};

@@ -3,7 +3,7 @@
 ghost use Rattle.std.specs.Prelude.{◌≡◌, IfOk, Some, codes, map, string_bytes};
 ghost use Rattle.clap.specs.Words.{found_of, rows_of};
 ghost use Rattle.cli_words.specs.Words.{Gives, GivesAll, GivesFlag, IsNumber, GivesNumber};
-ghost use Rattle.cli_words.specs.Words.{GivesBound, HasTeamFiles};
+ghost use Rattle.cli_words.specs.Words.{GivesBound, HasTeamFiles, HasText, HasForms};
 ghost use Rattle.cli_words.specs.Words.{IsRequest, IsNamed, IsAsked};
 
 use crate::command::svamon_command;
@@ -13,8 +13,31 @@ use crate::team_files::TeamFiles;
 use clap::ArgMatches;
 use std::alloc::{AllocError, Global};
 
+/// A dump, texts, and ports if there are any.
+#[derive(Drop)]
+struct Sources {
+    vcd: String,
+    sva: Vec<String>,
+    axi: Option<String>,
+}
+
+/// What is judged: a dump, texts and ports, and a team's files.
+#[derive(Drop)]
+struct Inputs {
+    sources: Sources,
+    team: TeamFiles,
+}
+
+/// The files into which other forms of the report are written.
+#[derive(Drop)]
+struct Forms {
+    junit: Option<String>,
+    json: Option<String>,
+    html: Option<String>,
+}
+
 /// The text of an option that may be left out.
-fn option_of(alloc: Global, options: &ArgMatches, name: &str) -> Result<Option<String>, WordsFault>
+fn option_of(alloc: Global, options: &ArgMatches, name: &str) -> Result<Option<String>, AllocError>
     ensures { IfOk result (Gives name.now (rows_of (found_of options.now))) }
 {
     match options.get_str(name) {
@@ -24,12 +47,12 @@ fn option_of(alloc: Global, options: &ArgMatches, name: &str) -> Result<Option<S
 }
 
 /// The text of an option that has to be there: `clap` refuses words that lack it.
-fn text_of(alloc: Global, options: &ArgMatches, name: &str) -> Result<String, WordsFault>
+fn text_of(alloc: Global, options: &ArgMatches, name: &str) -> Result<String, AllocError>
     ensures { IfOk result (λ t. Gives name.now (rows_of (found_of options.now)) (Some t)) }
 {
     match option_of(alloc, options, name)? {
         Some(text) => Ok(text),
-        None => Err(WordsFault::OutOfMemory),
+        None => Err(AllocError),
     }
 }
 
@@ -45,7 +68,7 @@ fn owned(alloc: Global, texts: &[&str]) -> Result<Vec<String>, AllocError>
 }
 
 /// The texts of an option that may be given again and again.
-fn texts_of(alloc: Global, options: &ArgMatches, name: &str) -> Result<Vec<String>, WordsFault>
+fn texts_of(alloc: Global, options: &ArgMatches, name: &str) -> Result<Vec<String>, AllocError>
     ensures { IfOk result (λ ts. GivesAll name.now (rows_of (found_of options.now)) ts.items) }
 {
     match options.get_strs(name) {
@@ -65,7 +88,7 @@ fn is_given(options: &ArgMatches, name: &str) -> bool
 }
 
 /// The number of an option: `clap` refuses any that is no number or out of range.
-fn number_of(options: &ArgMatches, name: &str, most: u64) -> Result<u64, WordsFault>
+fn number_of(options: &ArgMatches, name: &str, most: u64) -> Result<u64, AllocError>
     ensures { IfOk result (IsNumber name.now most (rows_of (found_of options.now))) }
 {
     match options.get_one::<u64>(name) {
@@ -73,27 +96,27 @@ fn number_of(options: &ArgMatches, name: &str, most: u64) -> Result<u64, WordsFa
             if 1 <= number && number <= most {
                 return Ok(number);
             }
-            Err(WordsFault::OutOfMemory)
+            Err(AllocError)
         }
-        None => Err(WordsFault::OutOfMemory),
+        None => Err(AllocError),
     }
 }
 
 /// The number of an option that may be left out: `clap` refuses any that is no number.
-fn given_number(options: &ArgMatches, name: &str) -> Result<Option<u64>, WordsFault>
+fn given_number(options: &ArgMatches, name: &str) -> Result<Option<u64>, AllocError>
     ensures { IfOk result (GivesNumber name.now (rows_of (found_of options.now))) }
 {
     match options.get_str(name) {
         None => Ok(None),
         Some(_) => match options.get_one::<u64>(name) {
             Some(number) => Ok(Some(number)),
-            None => Err(WordsFault::OutOfMemory),
+            None => Err(AllocError),
         },
     }
 }
 
 /// The bound that is given, if any: `clap` refuses any that is out of range.
-fn bound_of(options: &ArgMatches) -> Result<Option<u64>, WordsFault>
+fn bound_of(options: &ArgMatches) -> Result<Option<u64>, AllocError>
     ensures { IfOk result (GivesBound (rows_of (found_of options.now))) }
 {
     match given_number(options, "bound")? {
@@ -102,13 +125,13 @@ fn bound_of(options: &ArgMatches) -> Result<Option<u64>, WordsFault>
             if 1 <= bound && bound <= 127 {
                 return Ok(Some(bound));
             }
-            Err(WordsFault::OutOfMemory)
+            Err(AllocError)
         }
     }
 }
 
 /// The files of a team that an option or words alone name, and how they are read.
-fn team_of(alloc: Global, options: &ArgMatches, name: &str) -> Result<TeamFiles, WordsFault>
+fn team_of(alloc: Global, options: &ArgMatches, name: &str) -> Result<TeamFiles, AllocError>
     ensures { IfOk result (HasTeamFiles name.now (rows_of (found_of options.now))) }
 {
     let bound = bound_of(options)?;
@@ -122,39 +145,76 @@ fn team_of(alloc: Global, options: &ArgMatches, name: &str) -> Result<TeamFiles,
     })
 }
 
-fn check_request(alloc: Global, options: &ArgMatches) -> Result<Request, WordsFault>
-    ensures { IfOk result (IsRequest (codes "check") (rows_of (found_of options.now))) }
+fn sources_of(alloc: Global, options: &ArgMatches) -> Result<Sources, AllocError>
+    ensures { IfOk result (λ s. HasText (rows_of (found_of options.now)) s.vcd s.sva.items s.axi) }
 {
-    let workers = number_of(options, "workers", 64)?;
-    let window = number_of(options, "window", 65536)?;
-    Ok(Request::Check {
+    Ok(Sources {
         vcd: text_of(alloc, options, "vcd")?,
         sva: texts_of(alloc, options, "sva")?,
         axi: option_of(alloc, options, "axi")?,
-        team: team_of(alloc, options, "sv")?,
-        only: texts_of(alloc, options, "only")?,
-        keep_going: is_given(options, "keep-going"),
-        workers,
-        window,
+    })
+}
+
+fn inputs_of(alloc: Global, options: &ArgMatches) -> Result<Inputs, AllocError>
+    ensures sources { IfOk result (λ i. HasText (rows_of (found_of options.now))
+        i.sources.vcd i.sources.sva.items i.sources.axi) }
+    ensures team { IfOk result (λ i.
+        HasTeamFiles (codes "sv") (rows_of (found_of options.now)) i.team) }
+{
+    let sources = sources_of(alloc, options)?;
+    let team = team_of(alloc, options, "sv")?;
+    Ok(Inputs { sources, team })
+}
+
+fn forms_of(alloc: Global, options: &ArgMatches) -> Result<Forms, AllocError>
+    ensures { IfOk result (λ f. HasForms (rows_of (found_of options.now)) f.junit f.json f.html) }
+{
+    Ok(Forms {
         junit: option_of(alloc, options, "junit")?,
         json: option_of(alloc, options, "json")?,
         html: option_of(alloc, options, "html")?,
     })
 }
 
-fn build_request(alloc: Global, options: &ArgMatches) -> Result<Request, WordsFault>
-    ensures { IfOk result (IsRequest (codes "build") (rows_of (found_of options.now))) }
+fn check_request(alloc: Global, options: &ArgMatches) -> Result<Request, AllocError>
+    ensures { IfOk result (IsRequest (codes "check") (rows_of (found_of options.now))) }
 {
-    Ok(Request::Build {
-        vcd: text_of(alloc, options, "vcd")?,
-        sva: texts_of(alloc, options, "sva")?,
-        axi: option_of(alloc, options, "axi")?,
-        name: text_of(alloc, options, "name")?,
-        out: text_of(alloc, options, "out")?,
+    let workers = number_of(options, "workers", 64)?;
+    let window = number_of(options, "window", 65536)?;
+    let only = texts_of(alloc, options, "only")?;
+    let forms = forms_of(alloc, options)?;
+    let inputs = inputs_of(alloc, options)?;
+    Ok(Request::Check {
+        vcd: inputs.sources.vcd,
+        sva: inputs.sources.sva,
+        axi: inputs.sources.axi,
+        team: inputs.team,
+        only,
+        keep_going: is_given(options, "keep-going"),
+        workers,
+        window,
+        junit: forms.junit,
+        json: forms.json,
+        html: forms.html,
     })
 }
 
-fn verify_request(alloc: Global, options: &ArgMatches) -> Result<Request, WordsFault>
+fn build_request(alloc: Global, options: &ArgMatches) -> Result<Request, AllocError>
+    ensures { IfOk result (IsRequest (codes "build") (rows_of (found_of options.now))) }
+{
+    let name = text_of(alloc, options, "name")?;
+    let out = text_of(alloc, options, "out")?;
+    let sources = sources_of(alloc, options)?;
+    Ok(Request::Build {
+        vcd: sources.vcd,
+        sva: sources.sva,
+        axi: sources.axi,
+        name,
+        out,
+    })
+}
+
+fn verify_request(alloc: Global, options: &ArgMatches) -> Result<Request, AllocError>
     ensures { IfOk result (IsRequest (codes "verify") (rows_of (found_of options.now))) }
 {
     Ok(Request::Verify {
@@ -162,7 +222,7 @@ fn verify_request(alloc: Global, options: &ArgMatches) -> Result<Request, WordsF
     })
 }
 
-fn run_request(alloc: Global, options: &ArgMatches) -> Result<Request, WordsFault>
+fn run_request(alloc: Global, options: &ArgMatches) -> Result<Request, AllocError>
     ensures { IfOk result (IsRequest (codes "run") (rows_of (found_of options.now))) }
 {
     let workers = number_of(options, "workers", 64)?;
@@ -175,46 +235,51 @@ fn run_request(alloc: Global, options: &ArgMatches) -> Result<Request, WordsFaul
     })
 }
 
-fn judge_request(alloc: Global, options: &ArgMatches) -> Result<Request, WordsFault>
+fn judge_request(alloc: Global, options: &ArgMatches) -> Result<Request, AllocError>
     ensures { IfOk result (IsRequest (codes "judge") (rows_of (found_of options.now))) }
 {
+    let sources = sources_of(alloc, options)?;
     Ok(Request::Judge {
-        vcd: text_of(alloc, options, "vcd")?,
-        sva: texts_of(alloc, options, "sva")?,
-        axi: option_of(alloc, options, "axi")?,
+        vcd: sources.vcd,
+        sva: sources.sva,
+        axi: sources.axi,
     })
 }
 
-fn explain_request(alloc: Global, options: &ArgMatches) -> Result<Request, WordsFault>
+fn explain_request(alloc: Global, options: &ArgMatches) -> Result<Request, AllocError>
     ensures { IfOk result (IsRequest (codes "explain") (rows_of (found_of options.now))) }
 {
     let start = given_number(options, "start")?;
     let most = number_of(options, "most", 65536)?;
+    let gtkw = option_of(alloc, options, "gtkw")?;
+    let only = texts_of(alloc, options, "only")?;
+    let inputs = inputs_of(alloc, options)?;
     Ok(Request::Explain {
-        vcd: text_of(alloc, options, "vcd")?,
-        sva: texts_of(alloc, options, "sva")?,
-        axi: option_of(alloc, options, "axi")?,
-        team: team_of(alloc, options, "sv")?,
-        only: texts_of(alloc, options, "only")?,
+        vcd: inputs.sources.vcd,
+        sva: inputs.sources.sva,
+        axi: inputs.sources.axi,
+        team: inputs.team,
+        only,
         keep_going: is_given(options, "keep-going"),
         start,
         most,
-        gtkw: option_of(alloc, options, "gtkw")?,
+        gtkw,
     })
 }
 
-fn lint_request(alloc: Global, options: &ArgMatches) -> Result<Request, WordsFault>
+fn lint_request(alloc: Global, options: &ArgMatches) -> Result<Request, AllocError>
     ensures { IfOk result (IsRequest (codes "lint") (rows_of (found_of options.now))) }
 {
+    let inputs = inputs_of(alloc, options)?;
     Ok(Request::Lint {
-        vcd: text_of(alloc, options, "vcd")?,
-        sva: texts_of(alloc, options, "sva")?,
-        axi: option_of(alloc, options, "axi")?,
-        team: team_of(alloc, options, "sv")?,
+        vcd: inputs.sources.vcd,
+        sva: inputs.sources.sva,
+        axi: inputs.sources.axi,
+        team: inputs.team,
     })
 }
 
-fn names_request(alloc: Global, options: &ArgMatches) -> Result<Request, WordsFault>
+fn names_request(alloc: Global, options: &ArgMatches) -> Result<Request, AllocError>
     ensures { IfOk result (IsRequest (codes "names") (rows_of (found_of options.now))) }
 {
     Ok(Request::Names {
@@ -224,16 +289,17 @@ fn names_request(alloc: Global, options: &ArgMatches) -> Result<Request, WordsFa
     })
 }
 
-fn import_request(alloc: Global, options: &ArgMatches) -> Result<Request, WordsFault>
+fn import_request(alloc: Global, options: &ArgMatches) -> Result<Request, AllocError>
     ensures { IfOk result (IsRequest (codes "import") (rows_of (found_of options.now))) }
 {
+    let vcd = option_of(alloc, options, "vcd")?;
     Ok(Request::Import {
         team: team_of(alloc, options, "files")?,
-        vcd: option_of(alloc, options, "vcd")?,
+        vcd,
     })
 }
 
-fn rules_request(alloc: Global, options: &ArgMatches) -> Result<Request, WordsFault>
+fn rules_request(alloc: Global, options: &ArgMatches) -> Result<Request, AllocError>
     ensures { IfOk result (IsRequest (codes "rules") (rows_of (found_of options.now))) }
 {
     Ok(Request::Rules {
@@ -241,33 +307,43 @@ fn rules_request(alloc: Global, options: &ArgMatches) -> Result<Request, WordsFa
     })
 }
 
-fn upgrade_request(alloc: Global, options: &ArgMatches) -> Result<Request, WordsFault>
+fn upgrade_request(alloc: Global, options: &ArgMatches) -> Result<Request, AllocError>
     ensures { IfOk result (IsRequest (codes "upgrade") (rows_of (found_of options.now))) }
 {
-    let out = text_of(alloc, options, "out")?;
+    let code = text_of(alloc, options, "code")?;
     Ok(Request::Upgrade {
-        code: text_of(alloc, options, "code")?,
-        out,
+        code,
+        out: text_of(alloc, options, "out")?,
     })
 }
 
+/// What the command of a name asks for.
+fn named_request(alloc: Global, name: &str, options: &ArgMatches) -> Result<Request, AllocError>
+    ensures { IfOk result (IsRequest name.now (rows_of (found_of options.now))) }
+{
+    match name {
+        "check" => check_request(alloc, options),
+        "build" => build_request(alloc, options),
+        "verify" => verify_request(alloc, options),
+        "run" => run_request(alloc, options),
+        "judge" => judge_request(alloc, options),
+        "rules" => rules_request(alloc, options),
+        "upgrade" => upgrade_request(alloc, options),
+        "explain" => explain_request(alloc, options),
+        "lint" => lint_request(alloc, options),
+        "names" => names_request(alloc, options),
+        "import" => import_request(alloc, options),
+        _ => Err(AllocError),
+    }
+}
+
 /// What the command that was entered asks for.
-fn request_of(alloc: Global, matches: &ArgMatches) -> Result<Request, WordsFault>
+fn request_of(alloc: Global, matches: &ArgMatches) -> Result<Request, AllocError>
     ensures { IfOk result (IsNamed matches.now) }
 {
     match matches.subcommand() {
-        Some(("check", options)) => check_request(alloc, options),
-        Some(("build", options)) => build_request(alloc, options),
-        Some(("verify", options)) => verify_request(alloc, options),
-        Some(("run", options)) => run_request(alloc, options),
-        Some(("judge", options)) => judge_request(alloc, options),
-        Some(("rules", options)) => rules_request(alloc, options),
-        Some(("upgrade", options)) => upgrade_request(alloc, options),
-        Some(("explain", options)) => explain_request(alloc, options),
-        Some(("lint", options)) => lint_request(alloc, options),
-        Some(("names", options)) => names_request(alloc, options),
-        Some(("import", options)) => import_request(alloc, options),
-        _ => Err(WordsFault::OutOfMemory),
+        Some((name, options)) => named_request(alloc, name, options),
+        None => Err(AllocError),
     }
 }
 
@@ -276,5 +352,5 @@ pub fn read_words(alloc: Global, words: &[&str]) -> Result<Request, WordsFault>
     ensures { IfOk result (IsAsked (map (λ w. w.now) words.now)) }
 {
     let matches = svamon_command(alloc)?.try_get_matches_from(words)?;
-    request_of(alloc, &matches)
+    Ok(request_of(alloc, &matches)?)
 }

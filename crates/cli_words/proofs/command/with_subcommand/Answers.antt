@@ -1,10 +1,12 @@
-use Rattle.std.proofs.Common.{◌≡◌, refl, subst, IfOk}
+use Rattle.std.proofs.Common.{refl}
 use Rattle.std.proofs.lemmas.Result.{IfOk-weaker}
-use Rattle.clap.specs.Words.{app_of}
-use Rattle.cli_words.proofs.CommandLaws.{one_more}
+use Rattle.clap.specs.Words.{new_app}
+use Rattle.cli_words.proofs.CommandLaws.{one_more, stays_plain}
 use Rattle.cli_words.proofs.command.with_subcommand.Goals as goal
 
 pub returns : goal.returns
-returns c = λ s made plain.
-    let is = subst (λ o. IfOk o (λ k. app_of k ≡ s)) c.in_ok-subcommand.was made in
-    IfOk-weaker c.subcommand.result _ _ (λ r h. one_more _ _ r _ s h refl is plain) c.subcommand.ensures
+returns c =
+    IfOk-weaker c.subcommand.result _ _
+    (λ r h. one_more _ _ r _ _ h refl c.in_ok-command_of.ensures
+    (stays_plain c.args.row.now.options.now (new_app c.args.row.now.name.now) refl))
+    c.subcommand.ensures

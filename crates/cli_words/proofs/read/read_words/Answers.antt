@@ -1,13 +1,9 @@
 use Rattle.std.proofs.Common.{map}
-use Rattle.std.proofs.lemmas.Result.{IfOk-weaker}
 use Rattle.clap.specs.Words.{app_of}
 use Rattle.cli_words.proofs.CommandLaws.{asked}
 use Rattle.cli_words.proofs.read.read_words.Goals as goal
 
 pub returns : goal.returns
 returns c =
-    IfOk-weaker c.request_of.result _ _
-    (λ r h.
-    asked (app_of c.in_ok-svamon_command.field-0) (map (λ w. w.now) c.args.words.now) c.in_ok-matches.matches r
-    c.in_ok-matches.ensures.matches c.in_ok-svamon_command.ensures h)
-    c.request_of.ensures
+    asked (app_of c.in_ok-svamon_command.field-0) (map (λ w. w.now) c.args.words.now) c.in_ok-matches.matches _
+    c.in_ok-matches.ensures.matches c.in_ok-svamon_command.ensures c.in_ok-request_of.ensures
