@@ -1,3 +1,4 @@
 mod CommandLaws
 mod NumberLaws
 mod PathLaws
+mod RowLaws

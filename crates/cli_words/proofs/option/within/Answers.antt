@@ -1,4 +1,4 @@
-use Rattle.std.proofs.Common.{◌≡◌, ◌∙◌, ap, Some, Option}
+use Rattle.std.proofs.Common.{◌∙◌, ap, Some, Option}
 use Rattle.clap.specs.declared.builder.value_parser.ValueParser.{ValueParser}
 use Rattle.cli_words.proofs.option.within.Goals as goal
 
