@@ -6,7 +6,8 @@ use Rattle.cli_words.specs.declared.row.CommandRow.{CommandRow}
 use Rattle.cli_words.specs.declared.row.OptionRow.{OptionRow}
 use Rattle.cli_words.specs.Rows.{command_app, row_rule, with_commands, with_rows}
 
-cell : {X : Type 0} (rows : List X) (i : ℕ) (d : X) → i < length rows → drop i rows ≡ get_or rows i d ∷ drop (i + 1) rows
+cell : {X : Type 0} (rows : List X) (i : ℕ) (d : X) → i < length rows
+    → drop i rows ≡ get_or rows i d ∷ drop (i + 1) rows
 cell rows i d inside = rw add-one (drop-cons rows i d inside)
 
 -- the option of the first row that is left is added
