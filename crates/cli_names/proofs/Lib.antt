@@ -6,3 +6,4 @@ pub mod FreeLaws
 pub mod ColumnLaws
 pub mod ReadLaws
 pub mod TableLaws
+pub mod ToldLaws

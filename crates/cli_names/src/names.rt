@@ -1,18 +1,19 @@
 //! The call behind the command `names`.
 
-ghost use Rattle.std.specs.Prelude.{◌≡◌, ◌⊎◌, IfOk, IfErr, OnOk, false};
+ghost use Rattle.std.specs.Prelude.{◌≡◌, IfOk, IfErr, OnOk, false};
 ghost use Rattle.std.specs.Io.KnownBytes.{Appends};
 ghost use Rattle.vcd_reader.specs.Dump.{Gave};
 ghost use Rattle.vcd_reader.specs.Held.{Parses};
-ghost use Rattle.cli_names.specs.Faults.{IsSinkFault};
-ghost use Rattle.cli_names.specs.Told.{IsTable, IsTableOf, IsTold};
+ghost use Rattle.cli_names.specs.Faults.{StandsOver, WhyNoTable, WhyNoTableOver, WhyTableUnwritten};
+ghost use Rattle.cli_names.specs.Told.{IsTable, IsTableOf, IsTold, WhyNotTold};
 
 use crate::fault::NamesFault;
 use crate::filter::Filter;
+use crate::held::Held;
 use crate::rows::told_in;
 use crate::table::table_of;
 use report_lines::ReportFault;
-use signals::{Counted, ReadAllError, Sink, Source, read_all, write_all};
+use signals::{ReadAllError, Sink, Source, read_all, write_all};
 use std::alloc::{AllocError, Global};
 use vcd_declarations::declarations_law;
 use vcd_reader::{Dump, VcdFault, read_dump};
@@ -22,8 +23,11 @@ const MOST_BYTES: u64 = 1 << 48;
 
 /// All that a source has.
 fn bytes_of<S: Source>(alloc: Global, source: &mut S) -> Result<Vec<u8>, NamesFault>
-    ensures { IfOk result (λ bytes. Gave (S.state source.old).remaining
+    ensures gave { IfOk result (λ bytes. Gave (S.state source.old).remaining
         (S.state source.new).remaining bytes.items) }
+    ensures counted { OnOk result
+        ((S.state source.new).failures ≡ (S.state source.old).failures) }
+    ensures refused { IfErr result (WhyNoTable (S.state source.old) (S.state source.new)) }
 {
     match read_all(alloc, source, MOST_BYTES) {
         Ok(bytes) => Ok(bytes),
@@ -35,9 +39,10 @@ fn bytes_of<S: Source>(alloc: Global, source: &mut S) -> Result<Vec<u8>, NamesFa
 
 /// The dump that bytes are.
 fn dump_of(alloc: Global, bytes: &[u8]) -> Result<Dump, VcdFault>
-    ensures { IfOk result (Parses bytes.now) }
+    ensures parses { IfOk result (Parses bytes.now) }
+    ensures refused { IfErr result (StandsOver bytes.now) }
 {
-    let mut source = Counted::new(bytes);
+    let mut source = Held { rest: bytes };
     read_dump(alloc, &mut source)
 }
 
@@ -63,7 +68,8 @@ fn table_over(
     bytes: &[u8],
     filter: &Filter<'_>,
 ) -> Result<(Vec<u8>, u64), NamesFault>
-    ensures { IfOk result (λ r. IsTableOf filter.now bytes.now r.0.items r.1) }
+    ensures told { IfOk result (λ r. IsTableOf filter.now bytes.now r.0.items r.1) }
+    ensures refused { IfErr result (WhyNoTableOver bytes.now) }
 {
     let dump = dump_of(alloc, bytes)?;
     Ok(table_in(alloc, &dump, bytes, filter)?)
@@ -74,7 +80,8 @@ fn write_table<W: Sink>(out: &mut W, table: &[u8]) -> Result<(), NamesFault>
     ensures written { OnOk result
         (Appends (W.state out.old).contents (W.state out.new).contents table.now) }
     ensures flushed { OnOk result ((W.state out.new).keeps_back ≡ false) }
-    ensures refused { IfErr result IsSinkFault }
+    ensures refused { IfErr result
+        (WhyTableUnwritten (W.state out.old) (W.state out.new) table.now) }
 {
     if write_all(out, table).is_err() {
         return Err(NamesFault::Report(ReportFault::Write));
@@ -103,8 +110,8 @@ pub fn names_one<S: Source, W: Sink>(
     ensures told { IfOk result (IsTold (S.state source.old) (S.state source.new)
         (W.state out.old) (W.state out.new) filter.now) }
     // Where it is not the sink that failed, nothing was written.
-    ensures kept { IfErr result (λ fault.
-        IsSinkFault fault ⊎ (W.state out.new ≡ W.state out.old)) }
+    ensures refused { IfErr result (WhyNotTold (S.state source.old) (S.state source.new)
+        (W.state out.old) (W.state out.new) filter.now) }
 {
     let bytes = bytes_of(alloc, source)?;
     let (table, count) = table_over(alloc, &bytes, filter)?;
