@@ -1,2 +1,3 @@
 pub mod ReadLaws
 pub mod TellLaws
+pub mod LintedLaws

@@ -8,6 +8,8 @@ use Rattle.std.specs.declared.alloc.Global.{Global}
 use Rattle.lexer.specs.Cutting.{tokens_of}
 use Rattle.signals.specs.Source.{SourceState}
 use Rattle.signals.specs.Sink.{SinkState}
+use Rattle.report_lines.specs.declared.write.ReportFault.TheVariants as reports
+use Rattle.report_lines.specs.Written.{WhyUnwritten}
 use Rattle.source_files.specs.declared.added.Added.{Added}
 use Rattle.source_files.specs.declared.part.Part.{Part}
 use Rattle.source_files.specs.Chosen.{place_before}
@@ -16,9 +18,11 @@ use Rattle.diagnostics.specs.declared.front.Refusal.{Refusal}
 use Rattle.diagnostics.specs.Items.{AreItemEnds}
 use Rattle.diagnostics.specs.Told.{refusal_text, total_text}
 use Rattle.vcd_reader.specs.Variables.{Declared}
-use Rattle.vcd_reader.specs.Dump.{Contents, GaveDump}
+use Rattle.vcd_reader.specs.declared.fault.VcdFault.{VcdFault}
+use Rattle.vcd_reader.specs.declared.fault.VcdFault.TheVariants as dumps
+use Rattle.vcd_reader.specs.Dump.{Contents, Gave, GaveDump, Stands}
 use Rattle.lint.specs.declared.fault.LintFault.{LintFault}
-use Rattle.lint.specs.declared.fault.LintFault.TheVariants as faults
+use Rattle.lint.specs.declared.fault.LintFault.TheVariants.{Vcd, Report, Memory}
 use Rattle.lint_refusals.specs.Counted.{counted}
 use Rattle.lint_refusals.specs.Refused.{IsAccepted}
 use Rattle.lint_refusals.specs.Rests.{AreTold, IsLeft}
@@ -96,7 +100,63 @@ pub record IsLinted (text : List ℕ) (parts : List Part) (added : List Added)
   pub written : Appends sink_before.contents sink_after.contents told
   pub flushed : sink_after.keeps_back ≡ false
 
--- the fault is one of the sink
-abbrev pub IsSinkFault : LintFault → Type 0
-IsSinkFault (faults.Report f) = Unit {0}
-IsSinkFault _ = ⊥
+-- want of memory is one fault, wherever it came up
+abbrev pub vcd_fault : VcdFault → LintFault
+vcd_fault dumps.Memory = Memory
+vcd_fault e = Vcd e
+
+-- bytes in memory as a source: these are left, and no call failed
+abbrev pub held : Option (List ℕ) → SourceState
+held left = record { remaining = left; failures = 0 }
+
+-- the fault of a dump stands, whichever source gave these bytes
+abbrev pub StandsOver : List ℕ → VcdFault → Type 0
+StandsOver bytes e =
+    (before after : SourceState) → Gave before.remaining after.remaining bytes
+    → after.failures ≡ before.failures → Stands before after e
+
+-- why there is no text to write: the dump's fault stands, or memory ran out and no call failed
+abbrev pub WhyNoText : SourceState → SourceState → LintFault → Type 0
+WhyNoText before after (Vcd dumps.Memory) = ⊥
+WhyNoText before after (Vcd e) = Stands before after e
+WhyNoText before after (Report e) = ⊥
+WhyNoText before after Memory = after.failures ≡ before.failures
+
+-- why there is no text over these bytes, whichever source gave them
+abbrev pub WhyNoTextOver : List ℕ → LintFault → Type 0
+WhyNoTextOver bytes e =
+    (before after : SourceState) → Gave before.remaining after.remaining bytes
+    → after.failures ≡ before.failures → WhyNoText before after e
+
+-- why a text was not written, or not all of it: the sink failed, and holds a beginning of it
+abbrev pub WhyTextUnwritten : SinkState → SinkState → List ℕ → LintFault → Type 0
+WhyTextUnwritten before after text (Report reports.Write) =
+    WhyUnwritten before after text reports.Write
+WhyTextUnwritten before after text e = ⊥
+
+-- The source gave a dump, and the sink failed: after what it held, it holds a beginning of the text
+-- that tells all refusals of a text over that dump.
+pub record IsCutShort (text : List ℕ) (parts : List Part) (added : List Added)
+    (source_before source_after : SourceState) (sink_before sink_after : SinkState) :
+    Type 0 where
+  pub contents : Contents
+  pub gave : GaveDump source_before.remaining source_after.remaining contents
+  pub refused : ℕ
+  pub told : List ℕ
+  pub rest : Option (String Global)
+  pub notes : List Refusal
+  pub tells : TellsRefusals contents.variables text parts added notes refused told rest
+  pub reads : source_after.failures ≡ source_before.failures
+  pub cut : WhyUnwritten sink_before sink_after told reports.Write
+
+-- Why nothing is told, or not all of it: the sink failed; or there is no text, and nothing was
+-- written.
+abbrev pub WhyNotLinted : List ℕ → List Part → List Added → SourceState → SourceState
+    → SinkState → SinkState → LintFault → Type 0
+WhyNotLinted text parts added source_before source_after sink_before sink_after
+    (Report reports.Write) =
+    IsCutShort text parts added source_before source_after sink_before sink_after
+WhyNotLinted text parts added source_before source_after sink_before sink_after
+    (Report reports.Memory) = ⊥
+WhyNotLinted text parts added source_before source_after sink_before sink_after e =
+    WhyNoText source_before source_after e × (sink_after ≡ sink_before)

@@ -27,6 +27,11 @@ impl From<AllocError> for LintFault {
 }
 
 impl From<VcdFault> for LintFault {
+    ghost use Rattle.std.specs.Prelude.{◌≡◌};
+    ghost use Rattle.lint.specs.Tells.{vcd_fault};
+
+    ghost from_gives = { λ f e. e ≡ vcd_fault f };
+
     fn from(fault: VcdFault) -> Self {
         match fault {
             VcdFault::Memory => LintFault::Memory,

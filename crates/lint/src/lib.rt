@@ -12,14 +12,17 @@
 //! the notes of `lint_dump_notes`, in the same form, and how many items are refused. `rest_over`
 //! tells the refusals alone, and hands on the text without the items that are refused.
 //!
-//! The definitions: the text that tells of refusals, and what `lint_one` comes to, in
-//! `specs/Tells.antt`; what is told of one refusal in `diagnostics`.
+//! Where `lint_one` fails, it names a fault of the dump that is there, or want of memory, and
+//! nothing was written; or G1: the sink failed, and holds a beginning of the text.
 //!
-//! Not promised: what a message says after its code, which notes there are, and which fault
-//! `lint_one` tells.
+//! The definitions: the text that tells of refusals, and what `lint_one` comes to, and why it
+//! fails, in `specs/Tells.antt`; what is told of one refusal in `diagnostics`.
+//!
+//! Not promised: what a message says after its code, and which notes there are.
 #![tactic(auto)]
 
 mod fault;
+mod held;
 mod lint;
 mod refusals;
 mod unjudged;

@@ -1,15 +1,17 @@
 //! The call of the command `lint`.
 
-ghost use Rattle.std.specs.Prelude.{◌≡◌, ◌⊎◌, List, [], false, string_bytes, Ok, IfOk, IfErr, OnOk};
+ghost use Rattle.std.specs.Prelude.{◌≡◌, List, [], false, string_bytes, Ok, IfOk, IfErr, OnOk};
 ghost use Rattle.std.specs.Io.KnownBytes.{Appends};
 ghost use Rattle.diagnostics.specs.declared.front.Refusal.{Refusal};
 ghost use Rattle.vcd_reader.specs.Dump.{Contents, Gave, dump_of};
 ghost use Rattle.vcd_reader.specs.Held.{variables_of, Parses};
 ghost use Rattle.lint_refusals.specs.Refused.{IsAccepted};
 ghost use Rattle.lint_refusals.specs.Rests.{IsRest};
-ghost use Rattle.lint.specs.Tells.{TellsRefusals, IsLinted, IsSinkFault};
+ghost use Rattle.lint.specs.Tells.{TellsRefusals, IsLinted, StandsOver, WhyNoText, WhyNoTextOver};
+ghost use Rattle.lint.specs.Tells.{WhyTextUnwritten, WhyNotLinted};
 
 use crate::fault::LintFault;
+use crate::held::Held;
 use crate::refusals::text_of;
 use diagnostics::{Linted, Refusal};
 use lint_dump_notes::{Beside, Selects, told_notes};
@@ -17,7 +19,7 @@ use lint_messages::{Meant, Unnamed, names_of, unnamed_in};
 use lint_notes::{PortSaid, Turned, turned_names};
 use lint_refusals::lint_over;
 use report_lines::ReportFault;
-use signals::{Counted, ReadAllError, Sink, Source, read_all, write_all};
+use signals::{ReadAllError, Sink, Source, read_all, write_all};
 use source_files::Origin;
 use std::alloc::{AllocError, Global};
 use vcd_reader::{Dump, VcdFault, read_dump};
@@ -143,8 +145,11 @@ const MOST_BYTES: u64 = 1 << 48;
 
 /// All that a source has.
 fn bytes_of<S: Source>(alloc: Global, source: &mut S) -> Result<Vec<u8>, LintFault>
-    ensures { IfOk result (λ bytes. Gave (S.state source.old).remaining
+    ensures gave { IfOk result (λ bytes. Gave (S.state source.old).remaining
         (S.state source.new).remaining bytes.items) }
+    ensures counted { OnOk result
+        ((S.state source.new).failures ≡ (S.state source.old).failures) }
+    ensures refused { IfErr result (WhyNoText (S.state source.old) (S.state source.new)) }
 {
     match read_all(alloc, source, MOST_BYTES) {
         Ok(bytes) => Ok(bytes),
@@ -156,9 +161,10 @@ fn bytes_of<S: Source>(alloc: Global, source: &mut S) -> Result<Vec<u8>, LintFau
 
 /// The dump that bytes are.
 fn dump_of(alloc: Global, bytes: &[u8]) -> Result<Dump, VcdFault>
-    ensures { IfOk result (Parses bytes.now) }
+    ensures parses { IfOk result (Parses bytes.now) }
+    ensures refused { IfErr result (StandsOver bytes.now) }
 {
-    let mut source = Counted::new(bytes);
+    let mut source = Held { rest: bytes };
     read_dump(alloc, &mut source)
 }
 
@@ -171,10 +177,11 @@ fn told_over<'a>(
     ports: &[PortSaid],
     selects: Selects,
 ) -> Result<Rest, LintFault>
-    ensures { IfOk result (λ r. (c : Contents) × (dump_of bytes.now ≡ Ok c)
+    ensures told { IfOk result (λ r. (c : Contents) × (dump_of bytes.now ≡ Ok c)
         × (notes : List Refusal)
         × TellsRefusals c.variables text.now origin.now.parts.now origin.now.added.now notes
         r.refused (string_bytes r.told) r.text) }
+    ensures refused { IfErr result (WhyNoTextOver bytes.now) }
 {
     let dump = dump_of(alloc, bytes)?;
     let declared = declared_in(alloc, bytes)?;
@@ -192,7 +199,8 @@ fn write_told<W: Sink>(out: &mut W, told: &str) -> Result<(), LintFault>
     ensures written { OnOk result
         (Appends (W.state out.old).contents (W.state out.new).contents told.now) }
     ensures flushed { OnOk result ((W.state out.new).keeps_back ≡ false) }
-    ensures refused { IfErr result IsSinkFault }
+    ensures refused { IfErr result
+        (WhyTextUnwritten (W.state out.old) (W.state out.new) told.now) }
 {
     if write_all(out, told.as_bytes()).is_err() {
         return Err(LintFault::Report(ReportFault::Write));
@@ -226,8 +234,8 @@ pub fn lint_one<'a, S: Source, W: Sink>(
     ensures linted { IfOk result (IsLinted text.now origin.now.parts.now origin.now.added.now
         (S.state source.old) (S.state source.new) (W.state out.old) (W.state out.new)) }
     // Where it is not the sink that failed, nothing was written.
-    ensures kept { IfErr result (λ fault.
-        IsSinkFault fault ⊎ (W.state out.new ≡ W.state out.old)) }
+    ensures refused { IfErr result (WhyNotLinted text.now origin.now.parts.now origin.now.added.now
+        (S.state source.old) (S.state source.new) (W.state out.old) (W.state out.new)) }
 {
     let bytes = bytes_of(alloc, source)?;
     let rest = told_over(alloc, bytes.as_slice(), text, origin, ports, selects)?;

@@ -1,11 +1,8 @@
-use Rattle.std.proofs.Common.{ℕ, List, Bor, ap, subst}
-use Rattle.std.specs.Prelude.{IfOk}
-use Rattle.vcd_reader.specs.Held.{Parses}
-use Rattle.lint.proofs.ReadLaws.{reads-parses}
+use Rattle.lint.proofs.ReadLaws.{reads-parses, all-stand}
 use Rattle.lint.proofs.lint.dump_of.Goals as goal
 
-pub returns : goal.returns
-returns c =
-    subst (λ (bs : List ℕ). IfOk c.read_dump.result (Parses bs))
-    (ap (λ (b : Bor (List ℕ)). b.now) c.new-source.ensures.inner)
-    (reads-parses c.new-source.result.inner.now _ c.read_dump.result c.read_dump.ensures.accepted)
+pub returns-clause-parses : goal.returns-clause-parses
+returns-clause-parses c = reads-parses c.args.bytes.now _ c.read_dump.result c.read_dump.ensures.accepted
+
+pub returns-clause-refused : goal.returns-clause-refused
+returns-clause-refused c = all-stand c.args.bytes.now _ c.read_dump.result c.read_dump.ensures.refused
