@@ -1,8 +1,7 @@
 #!/usr/bin/env python3
 """How fast this machine is: how many MB of a dump the plain C reader, bench/vcdmin, reads in a second of a processor.
 
-The gate's budget is for a machine on which it reads 220. `gate` prints it before and after; by itself this prints it,
-too.
+`gate` prints it before and after, so that its minutes on two machines can be compared; by itself this prints it, too.
 """
 import os
 import resource
@@ -13,7 +12,6 @@ import stamps
 
 DUMP = f"{stamps.ROOT}/crates/answers_reports/data/fifo_arb_bug1.vcd"
 MEGABYTES, ROUNDS = 50, 5
-FULL = 220
 
 
 def used():
@@ -45,7 +43,7 @@ def pace():
 def said():
     """What the gate prints of it."""
     found = pace()
-    return f"vcdmin reads {found:.0f} MB/s here (the budget is for {FULL})" if found else "vcdmin can't be built here"
+    return f"vcdmin reads {found:.0f} MB/s here" if found else "vcdmin can't be built here"
 
 
 if __name__ == "__main__":
