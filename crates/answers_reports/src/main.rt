@@ -1,9 +1,9 @@
-//! Tells what is in stored dumps, and what `check` and `judge` tell of small ones, against answers
-//! from outside.
+//! Tells what is in stored dumps, what `check` and `judge` tell of small ones, and what calls
+//! answer that take memory, against answers from outside.
 //!
 //! Without words it prints, each under its line, what the stored cases of its parts come to; the
-//! gate compares that with `stdout`. Each part says whence its answers are: `dumps` (`dumps.rt`)
-//! and `reports` (`reports.rt`, `runs.rt`).
+//! gate compares that with `stdout`. Each part says whence its answers are: `dumps` (`dumps.rt`),
+//! `reports` (`reports.rt`, `runs.rt`) and `calls` (`refused.rt`, `calls.rt`).
 //!
 //! ```text
 //! == dumps
@@ -14,6 +14,9 @@
 //! svamon 1
 //! clocks 1
 //! monitor r holds 0 vacuous 0 fails 1 disabled 0 open 0
+//! ..
+//! == calls
+//! read_dump: 6 steps
 //! ..
 //! ```
 //!
@@ -28,9 +31,14 @@
 //! `make random` draws both.
 #![tactic(auto)]
 
+mod calls;
 mod dumps;
+mod outcome;
+mod program;
+mod refused;
 mod reports;
 mod runs;
+mod steps;
 
 use anyhow::{Result, bail};
 use std::env;
@@ -44,7 +52,9 @@ fn show_all<R: Files + Print + AllocGlobal + Threads + Wait + Sync>(rt: &R) -> R
     println!(rt; "== dumps")?;
     dumps::show_cases(rt)?;
     println!(rt; "== reports")?;
-    reports::show_cases(rt)
+    reports::show_cases(rt)?;
+    println!(rt; "== calls")?;
+    Ok(refused::show_calls(rt)?)
 }
 
 /// Shows the stored cases of a part.
@@ -55,6 +65,7 @@ fn show_part<R: Files + Print + AllocGlobal + Threads + Wait + Sync>(
     match part {
         "dumps" => dumps::show_cases(rt),
         "reports" => reports::show_cases(rt),
+        "calls" => Ok(refused::show_calls(rt)?),
         _ => bail!("no part has this name"),
     }
 }

@@ -1,34 +1,20 @@
-//! Makes each call that takes memory twice, and prints what it answers, so that each request for
-//! memory can be refused in turn.
+//! Calls that take memory, each made twice, and what they answer, so that each request for memory
+//! can be refused in turn.
 //!
-//! The gate compares what is printed with `stdout`, which was worked out by hand; then it refuses
-//! each allocation in turn (`scripts/tools/fail_alloc -1`): the line of the call at which it was
-//! refused is `out of memory`, or the right one, and all other lines are the right ones, that of
-//! the same call again among them. A step of a core for which there was no memory is made once more
-//! at once, and is then to succeed.
-//!
-//! ```text
-//! read_dump: 6 steps
-//! read_dump: 6 steps
-//! check_one: svamon 1; clocks 3; monitor r holds 0 vacuous 1 ..
-//! ..
-//! ```
+//! The answers were worked out by hand. `scripts/tools/fail_alloc -1` refuses each allocation in
+//! turn: the line of the call at which it was refused is `out of memory`, or the right one, and all
+//! other lines are the right ones, that of the same call again among them. A step of a core for
+//! which there was no memory is made once more at once, and is then to succeed.
 //!
 //! The calls are `read_dump`, `check_one`, `judge_one`, `build_one`, `run_code`, the steps of a
-//! core, and `run` with two workers, twice over the same job. What they answer is said by their
-//! contracts, which stand with their definitions in `vcd_reader`, `cli`, `cli_bytecode`,
-//! `workers_core` and `workers`. Behind them are the lines of three faults that no command prints.
+//! core, and `run` with two workers, twice over the same job. Behind them are the lines of three
+//! faults that no command prints.
 //!
 //! Not promised: that these are all requests that these calls can make.
-#![tactic(auto)]
 
-mod calls;
-mod outcome;
-mod program;
-mod steps;
-
+use crate::calls;
+use crate::outcome::line_and_status;
 use cli_faults::Fault;
-use outcome::line_and_status;
 use std::alloc::AllocError;
 use std::io;
 use std::io::Print;
@@ -103,9 +89,10 @@ fn show_faults<R: Print + AllocGlobal>(rt: &R) -> io::Result<()> {
     show(rt, "fault", line_and_status(alloc, large))
 }
 
-fn main(rt: HostRuntime) -> io::Result<()> {
-    show_reports(&rt)?;
-    show_programs(&rt)?;
-    show_runs(&rt)?;
-    show_faults(&rt)
+/// Makes all calls, and prints what they answer.
+pub fn show_calls<R: Print + Threads + Wait + Sync + AllocGlobal>(rt: &R) -> io::Result<()> {
+    show_reports(rt)?;
+    show_programs(rt)?;
+    show_runs(rt)?;
+    show_faults(rt)
 }

@@ -6,7 +6,7 @@ use std::alloc::{AllocError, Global};
 
 /// What an answer tells: its counts or the line of its fault, and its status.
 #[derive(Drop)]
-pub struct Answer {
+pub struct Outcome {
     pub totals: Option<[u64; 5]>,
     /// No line where it is no fault.
     pub line: String,
@@ -22,12 +22,12 @@ fn line_of(alloc: Global, answer: &Result<[u64; 5], Fault>) -> Result<String, Al
 }
 
 /// What an answer tells.
-pub fn told(alloc: Global, answer: Result<[u64; 5], Fault>) -> Result<Answer, AllocError> {
+pub fn told(alloc: Global, answer: Result<[u64; 5], Fault>) -> Result<Outcome, AllocError> {
     let status = status(&answer);
     let line = line_of(alloc, &answer);
     let totals = answer.ok();
     let line = line?;
-    Ok(Answer {
+    Ok(Outcome {
         totals,
         line,
         status,
