@@ -2,7 +2,7 @@
 
 use import_tokens::Token;
 use import_trees::plain_name;
-use indexmap::IndexSet;
+use indexmap::{IndexMap, IndexSet};
 use std::alloc::{AllocError, Global};
 
 /// The label of an assertion for which a counter of this name may be made: what stands before
@@ -26,6 +26,15 @@ fn counted_label(name: &str) -> Option<&str> {
 pub(crate) struct Labels {
     names: IndexSet<String>,
     counted: IndexSet<String>,
+    /// The last number that each label of the files was given, where it was given one.
+    numbers: IndexMap<String, usize>,
+}
+
+/// A label that is free, and its number, if it has one.
+#[derive(Drop)]
+struct Free {
+    name: String,
+    number: usize,
 }
 
 impl Labels {
@@ -38,6 +47,7 @@ impl Labels {
         let mut labels = Labels {
             names: IndexSet::new(alloc),
             counted: IndexSet::new(alloc),
+            numbers: IndexMap::new(alloc),
         };
         labels.spare_tokens(alloc, tokens)?;
         labels.spare_signals(alloc, signals)?;
@@ -77,19 +87,28 @@ impl Labels {
         is_new && counted_label(label).is_none()
     }
 
-    /// A label that is free: this one, or with the first number that makes it one.
-    fn free_one(&self, alloc: Global, label: &str) -> Result<String, AllocError> {
-        if self.is_free(label) {
-            return String::from_str(alloc, label);
-        }
+    /// A label with the first number that makes it free, from a number on.
+    fn numbered(&self, alloc: Global, label: &str, start: usize) -> Result<Free, AllocError> {
         let most = self.names.len().saturating_add(self.counted.len());
-        for number in 2..most.saturating_add(4) {
+        for number in start..most.saturating_add(4) {
             let name = format!(in alloc; "{label}_{number}")?;
             if self.is_free(name.as_str()) {
-                return Ok(name);
+                return Ok(Free { name, number });
             }
         }
         Err(AllocError)
+    }
+
+    /// A label that is free: this one, or with the first number that makes it one.
+    fn free_one(&mut self, alloc: Global, label: &str) -> Result<String, AllocError> {
+        if self.is_free(label) {
+            return String::from_str(alloc, label);
+        }
+        let start = self.numbers.get(label).copied().unwrap_or(2);
+        let Free { name, number } = self.numbered(alloc, label, start)?;
+        self.numbers
+            .insert(String::from_str(alloc, label)?, number)?;
+        Ok(name)
     }
 
     /// Takes a label that is not written yet for one of the files.

@@ -47,6 +47,53 @@ fn lost_scope(alloc: Global, reading: &Reading<'_>) -> Result<Option<String>, Al
     Ok(Some(String::from_str(alloc, scope)?))
 }
 
+/// How many names are compared with one that a dump lacks at most.
+const MOST_COMPARED: usize = 2_000;
+
+/// The scopes of a path, with the last dot.
+fn scopes_of(path: &str) -> &str {
+    match path.rfind('.') {
+        Some(dot) => path.get(..dot.saturating_add(1)).unwrap_or(""),
+        None => "",
+    }
+}
+
+/// The names in the scope of a path that are about as long, in their order: no more than the first
+/// 2,000.
+fn beside(
+    alloc: Global,
+    reading: &Reading<'_>,
+    path: &str,
+    most: u8,
+) -> Result<Vec<String>, AllocError> {
+    let (scopes, most) = (scopes_of(path), usize::from(most));
+    let mut found = Vec::new(alloc);
+    for name in reading.names {
+        let is_near = name.len().abs_diff(path.len()) <= most && scopes_of(name.as_str()) == scopes;
+        if is_near && found.len() < MOST_COMPARED {
+            found.push(name.clone()?)?;
+        }
+    }
+    Ok(found)
+}
+
+/// The name that is meant by one that a dump lacks, if one in its scope is near.
+fn name_meant(
+    alloc: Global,
+    reading: &Reading<'_>,
+    name: &str,
+) -> Result<Option<String>, AllocError> {
+    let most = most_edits(name);
+    let names = beside(alloc, reading, name, most)?;
+    match nearest(alloc, most, name, names.as_slice())? {
+        None => Ok(None),
+        Some(place) => match names.get(place) {
+            Some(other) => Ok(Some(other.clone()?)),
+            None => Ok(None),
+        },
+    }
+}
+
 /// Whether no rule can name a signal: it has no bits, or more than 128.
 fn is_unnameable(known: Option<DumpSignal<'_>>) -> bool {
     match known {
@@ -82,14 +129,7 @@ fn missing_name(
         Ok(name) => String::from_str(alloc, name)?,
         Err(_) => String::new(alloc),
     };
-    let most = most_edits(name.as_str());
-    let nearest = match nearest(alloc, most, name.as_str(), reading.names)? {
-        Some(place) => match reading.names.get(place) {
-            Some(other) => Some(String::from_str(alloc, other.as_str())?),
-            None => None,
-        },
-        None => None,
-    };
+    let nearest = name_meant(alloc, reading, name.as_str())?;
     let scope = scope_with(alloc, reading, name.as_str())?;
     let lost = lost_scope(alloc, reading)?;
     Ok(Missing {

@@ -34,6 +34,7 @@ mod expected;
 mod item_words;
 mod meant;
 mod messages;
+mod near;
 mod paths;
 mod selects;
 mod token_hints;

@@ -2,6 +2,7 @@
 
 use crate::comments::comment_end;
 use crate::meant::Meant;
+use crate::near::{compared, has_word_of};
 use crate::unnamed::Unnamed;
 use diagnostics::nearest;
 use std::alloc::{AllocError, Global};
@@ -135,19 +136,42 @@ fn nearest_begun<'n>(
     }
 }
 
-/// The name that a path may mean: the nearest one, of equally near ones one that begins as it does,
-/// or else one that ends as it does.
-fn name_meant<'n>(
+/// The first name with the last word of a path.
+fn worded<'n>(names: &'n [String], path: &str) -> Option<&'n str> {
+    for name in names {
+        if has_word_of(name.as_str(), path) {
+            return Some(name.as_str());
+        }
+    }
+    None
+}
+
+/// The name that a path may mean, of some with which it is compared: the nearest one, of equally
+/// near ones one that begins as it does, or else one that has its last word.
+fn nearest_of<'n>(
     alloc: Global,
-    names: &'n [String],
+    near: &'n [String],
     path: &str,
 ) -> Result<Option<&'n str>, AllocError> {
-    if let Some(name) = nearest_begun(alloc, names, path)? {
+    if let Some(name) = nearest_begun(alloc, near, path)? {
         return Ok(Some(name));
     }
-    match nearest(alloc, most_edits(path), path, names)? {
-        None => Ok(alike(names, path)),
-        Some(place) => Ok(names.get(place).map(|name| name.as_str())),
+    match nearest(alloc, most_edits(path), path, near)? {
+        None => Ok(worded(near, path)),
+        Some(place) => Ok(near.get(place).map(|name| name.as_str())),
+    }
+}
+
+/// The name that a path may mean, if one is near, or else one that ends as it does.
+fn name_meant(alloc: Global, names: &[String], path: &str) -> Result<Option<String>, AllocError> {
+    let near = compared(alloc, names, path, usize::from(most_edits(path)))?;
+    let meant = match nearest_of(alloc, near.as_slice(), path)? {
+        Some(name) => Some(name),
+        None => alike(names, path),
+    };
+    match meant {
+        None => Ok(None),
+        Some(name) => Ok(Some(String::from_str(alloc, name)?)),
     }
 }
 
