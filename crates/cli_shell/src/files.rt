@@ -1,5 +1,6 @@
 //! Files by their paths, and what is wrong with them.
 
+use crate::written_files::put_whole;
 use cli_faults::{BadFile, Fault};
 use std::alloc::{AllocError, Global};
 use std::fs::{File, Files};
@@ -109,13 +110,14 @@ pub(crate) fn read_text<R: Files + AllocGlobal>(
     text_of(rt.alloc(), read_bytes(rt, path)?, path)
 }
 
-/// Makes a file of these bytes, or puts them in the place of what it held.
+/// Makes a file of these bytes, or puts them in the place of what it held: a plain file whole or
+/// not at all.
 pub fn write_bytes<R: Files + AllocGlobal>(
     rt: &R,
     path: &str,
     bytes: &[u8],
 ) -> Result<(), Fault<'static>> {
-    match fs::write(rt, path, bytes) {
+    match put_whole(rt, path, bytes) {
         Ok(()) => Ok(()),
         Err(error) => Err(file_fault(rt.alloc(), path, error)),
     }

@@ -1,4 +1,4 @@
-//! A report on standard output, and before it in files in other forms.
+//! A report on standard output, and before it in files in other forms, with its page.
 
 use crate::files::write_bytes;
 use cli_faults::{Fault, written};
@@ -17,12 +17,14 @@ pub struct FormFiles<'a> {
     pub junit: Option<&'a str>,
     /// That of JSON.
     pub json: Option<&'a str>,
+    /// That of the page.
+    pub html: Option<&'a str>,
 }
 
 impl FormFiles<'_> {
     /// Whether there is none.
     pub fn is_empty(&self) -> bool {
-        self.junit.is_none() && self.json.is_none()
+        self.junit.is_none() && self.json.is_none() && self.html.is_none()
     }
 
     /// The bytes of the XML, none where it isn't wanted.
@@ -66,17 +68,19 @@ fn write_form<R: Files + AllocGlobal>(
     }
 }
 
-/// Writes a report into files in other forms, with what is refused of its text, which all are made
-/// before one is written, and then to standard output; answers its totals.
+/// Writes a report into files in other forms, with what is refused of its text, and its page: all
+/// texts are made before one is written. Then it goes to standard output; answers its totals.
 pub fn print_report<R: Files + Print + AllocGlobal>(
     rt: &R,
     files: &FormFiles<'_>,
     from: &Provenance<'_>,
     refused: &[Refused<'_>],
     report: &Report,
+    page: &[u8],
 ) -> Result<[u64; 5], Fault<'static>> {
     let junit = files.junit_bytes(rt.alloc(), from, refused, report)?;
     let json = files.json_bytes(rt.alloc(), from, refused, report)?;
+    write_form(rt, files.html, page)?;
     write_form(rt, files.junit, junit.as_slice())?;
     write_form(rt, files.json, json.as_slice())?;
     let mut out = Counted::new(io::writer(rt));

@@ -1,17 +1,17 @@
 //! Texts that go to standard output.
 
 use crate::assertions_text::read_rules;
+use crate::shown::shown_output;
 use cli_faults::Fault;
 use cli_words::VERSION;
 use report_lines::ReportFault;
-use signals::{Counted, Sink, write_all};
+use signals::{Sink, write_all};
 use std::fs::Files;
-use std::io;
 use std::io::Print;
 
-/// Writes all of some bytes to standard output.
+/// Writes all of some bytes to standard output, as they may be shown.
 pub fn print_bytes<R: Print + AllocGlobal>(rt: &R, bytes: &[u8]) -> Result<(), Fault<'static>> {
-    let mut out = Counted::new(io::writer(rt));
+    let mut out = shown_output(rt);
     if write_all(&mut out, bytes).is_err() || out.flush().is_err() {
         return Err(Fault::Report(ReportFault::Write));
     }

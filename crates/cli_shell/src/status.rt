@@ -1,5 +1,6 @@
 //! What a shell sees: the line of a fault, and the status.
 
+use crate::shown::print_error_lines;
 use cli_faults::{Fault, fault_help, fault_line, status};
 use std::io::{Eprint, IsTerminal};
 
@@ -32,7 +33,8 @@ fn write_help<R: StandardError + AllocGlobal>(rt: &R, fault: &Fault) {
 fn report_fault<R: StandardError + AllocGlobal>(rt: &R, fault: &Fault) {
     match fault_line(rt.alloc(), fault) {
         Ok(line) => {
-            let _ = eprintln!(rt; "{line}");
+            print_error_lines(rt, line.as_str());
+            let _ = eprintln!(rt; "");
         }
         Err(_) => {
             let _ = eprintln!(rt; "svamon: OutOfMemory");
@@ -41,11 +43,6 @@ fn report_fault<R: StandardError + AllocGlobal>(rt: &R, fault: &Fault) {
     if rt.is_seen() {
         write_help(rt, fault);
     }
-}
-
-/// Writes lines to standard error; they are lost where that can't be written.
-pub fn print_error_lines<R: Eprint>(rt: &R, lines: &str) {
-    let _ = eprint!(rt; "{lines}");
 }
 
 /// The status of a report of these totals: 0 where no attempt failed, 1 where some did.

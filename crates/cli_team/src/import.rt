@@ -3,6 +3,7 @@
 ghost use Rattle.std.specs.Prelude.{◌≡◌};
 
 use crate::dump_front::{read_dump_front, sound_header};
+use crate::scope::has_scope;
 use cli_faults::Fault;
 use cli_shell::{
     REFUSED_STATUS, Sources, StandardError, open, print_bytes, print_error_lines, read_team_sources,
@@ -148,6 +149,9 @@ pub fn serve_import<R: Files + Print + StandardError + AllocGlobal>(
 ) -> Result<u8, Fault<'static>> {
     let sources = read_team_sources(rt, team.files.as_slice())?;
     let signals = signals_in(rt, vcd)?;
+    if vcd.is_some() && !has_scope(rt, team, &signals)? {
+        return Ok(REFUSED_STATUS);
+    }
     let Some(all) = import_and_tell(rt, &sources, team, &signals)? else {
         return Ok(REFUSED_STATUS);
     };

@@ -8,8 +8,9 @@
 //! ```
 //!
 //! The files are read first, then the front of the dump, until its header ends: names and widths
-//! come from there. What is refused, and what is noted, goes to standard error, by the places of
-//! the files. What is written of them is judged like any text.
+//! come from there, and a scope that is given has to be there. What is refused, and what is noted,
+//! goes to standard error, by the places of the files. What is written of them is judged like any
+//! text.
 //!
 //! What the files come to is said by `import_files`, where a header ends by `vcd_reader`
 //! (`header_end`).
@@ -19,6 +20,7 @@
 
 mod dump_front;
 mod import;
+mod scope;
 mod team;
 
 pub use dump_front::{header_in, read_dump_front};

@@ -4,6 +4,7 @@ ghost use Rattle.std.specs.Prelude.{◌≡◌, false, max, true};
 
 use crate::dump_front::{read_dump_front, sound_header};
 use crate::import::import_and_tell;
+use crate::scope::has_scope;
 use cli_faults::Fault;
 use cli_shell::{REFUSED_STATUS, Sources, StandardError, chosen_sources, open, read_team_sources};
 use cli_words::TeamFiles;
@@ -66,7 +67,7 @@ fn front_of(
 }
 
 /// Reads a team's files, then the header of a dump, and tells what is refused and noted; none where
-/// no assertion is written.
+/// no assertion is written, or the dump doesn't have the scope that is given.
 fn read_team<R: Files + StandardError + AllocGlobal, D: Read>(
     rt: &R,
     dump: &mut D,
@@ -76,6 +77,9 @@ fn read_team<R: Files + StandardError + AllocGlobal, D: Read>(
     let front = read_dump_front(rt.alloc(), dump)?;
     let signals = signals_of(rt.alloc(), sound_header(rt.alloc(), &front)?)?;
     let head = front.bytes;
+    if !has_scope(rt, team, &signals)? {
+        return Ok(None);
+    }
     let Some(imported) = import_and_tell(rt, &sources, team, &signals)? else {
         return Ok(None);
     };

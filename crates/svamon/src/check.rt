@@ -8,8 +8,8 @@ use crate::refused::{paths_with, print_refusals, refused_of};
 use crate::statuses::{report_moved_status, report_rest_status};
 use cli::{Fault, NoGate, PagedReport, Paths, page_over, report_over};
 use cli_shell::{
-    FormFiles, Provenance, REFUSED_STATUS, Refused, Sources, StandardError, open, print_report,
-    read_chosen, read_labelled, status_of_totals, told_paths, write_bytes,
+    FormFiles, Provenance, REFUSED_STATUS, Refused, Sources, StandardError, look_whether_fits,
+    open, print_report, read_chosen, read_labelled, status_of_totals, told_paths,
 };
 use cli_team::{TeamCase, open_team, status_with};
 use cli_words::TeamFiles;
@@ -56,8 +56,8 @@ pub struct Asked<'a> {
     pub keep_going: bool,
     pub team: Team,
     pub files: FormFiles<'a>,
-    /// The file of the page.
-    pub html: Option<&'a str>,
+    /// How many bytes of stack there are.
+    pub stack: usize,
 }
 
 impl<'a> Asked<'a> {
@@ -87,7 +87,7 @@ fn make_paged_report<'a, R: Files + AllocGlobal + Threads + Wait + Sync>(
     requires held { (c : Contents) × HoldsContents dump c }
 {
     let (team, size) = asked.team.sizes()?;
-    if asked.html.is_none() {
+    if asked.files.html.is_none() {
         let timed = report_over(rt, rt.alloc(), dump, text, team, size, &NoGate)?;
         let page = Vec::new(rt.alloc());
         return Ok(PagedReport { timed, page });
@@ -112,18 +112,6 @@ fn make_paged_report<'a, R: Files + AllocGlobal + Threads + Wait + Sync>(
     )
 }
 
-/// Makes the file of the page, if one is asked for.
-fn write_page<R: Files + AllocGlobal>(
-    rt: &R,
-    html: Option<&str>,
-    bytes: &[u8],
-) -> Result<(), Fault<'static>> {
-    match html {
-        None => Ok(()),
-        Some(path) => write_bytes(rt, path, bytes),
-    }
-}
-
 /// Judges a text over a dump in memory by a team; the report goes to files in other forms, with
 /// what was refused of the text before, and to standard output. The answer is the status.
 fn judge_dump<'a, R: Files + Print + AllocGlobal + Threads + Wait + Sync>(
@@ -143,8 +131,9 @@ fn judge_dump<'a, R: Files + Print + AllocGlobal + Threads + Wait + Sync>(
         text: paths.as_str(),
         times: made.timed.times.as_slice(),
     };
-    write_page(rt, asked.html, made.page.as_slice())?;
-    let totals = print_report(rt, &asked.files, &from, refused, &made.timed.report);
+    let report = &made.timed.report;
+    let page = made.page.as_slice();
+    let totals = print_report(rt, &asked.files, &from, refused, report, page);
     status_of_totals(totals)
 }
 
@@ -239,6 +228,7 @@ fn check_sources<
     R: Files + Print + StandardError + AllocGlobal + Threads + Wait + Sync,
     D: Read + Drop,
 >(rt: &R, dump: D, sources: &Sources, asked: &Asked<'_>) -> Result<u8, Fault<'static>> {
+    look_whether_fits(rt.alloc(), sources.text.as_str(), asked.stack)?;
     if !asked.keep_going {
         return Ok(check_whole(rt, dump, sources, asked));
     }

@@ -8,8 +8,8 @@ use crate::refused::print_refusals;
 use crate::statuses::{report_moved_status, report_rest_status};
 use cli::{Fault, NoGate, ShownFailures, Wanted, Waveform, Waves, explain_one, failures_over};
 use cli_shell::{
-    REFUSED_STATUS, Sources, StandardError, open, print_bytes, print_error_lines, read_chosen,
-    read_labelled, write_bytes,
+    REFUSED_STATUS, Sources, StandardError, look_whether_fits, open, print_bytes,
+    print_error_lines, read_chosen, read_labelled, shown_output, write_bytes,
 };
 use cli_team::header_in;
 use lint::{Rest, rest_over};
@@ -17,7 +17,6 @@ use signals::Counted;
 use source_files::Origin;
 use std::alloc::{AllocError, Global};
 use std::fs::Files;
-use std::io;
 use std::io::{Print, Read};
 use std::sync::Wait;
 use std::thread::Threads;
@@ -34,6 +33,8 @@ pub(crate) struct ExplainAsked<'a> {
     pub keep_going: bool,
     pub wanted: Wanted<'a>,
     pub gtkw: Option<&'a str>,
+    /// How many bytes of stack there are.
+    pub stack: usize,
 }
 
 /// By how many workers a text is judged whose failures are explained.
@@ -56,7 +57,7 @@ fn explain_to_output<'a, R: Print + AllocGlobal + Threads + Wait + Sync, D: Read
 ) -> Result<u64, Fault<'a>> {
     let team = team_size()?;
     let mut dump = Counted::new(dump);
-    let mut out = Counted::new(io::writer(rt));
+    let mut out = shown_output(rt);
     explain_one(
         rt,
         rt.alloc(),
@@ -251,6 +252,7 @@ pub(crate) fn explain_sources<
     R: Files + Print + StandardError + AllocGlobal + Threads + Wait + Sync,
     D: Read + Drop,
 >(rt: &R, dump: D, sources: &Sources, asked: &ExplainAsked<'_>) -> Result<u8, Fault<'static>> {
+    look_whether_fits(rt.alloc(), sources.text.as_str(), asked.stack)?;
     if !asked.keep_going {
         return Ok(explain_whole(rt, dump, sources, asked));
     }

@@ -53,7 +53,7 @@ mod version;
 ghost use Rattle.vcd_reader.specs.Dump.{Contents};
 ghost use Rattle.vcd_reader.specs.Held.{HoldsContents};
 
-use crate::large_stack::on_large_stack;
+use crate::large_stack::{largest_stack, on_stack};
 use crate::plain_check::{judge_read, read_plain};
 use crate::serve::{read_request, serve};
 use cli_shell::report_status;
@@ -65,13 +65,16 @@ fn main(rt: HostRuntime) -> ExitCode {
         Ok(request) => request,
         Err(status) => return ExitCode::from(status),
     };
-    let status = match read_plain(&rt, &request) {
-        None => on_large_stack(&rt, move || serve(&rt, &request)),
+    let plain = read_plain(&rt, &request);
+    let stack = largest_stack(&rt);
+    let bytes = stack.bytes();
+    let status = match plain {
+        None => on_stack(&rt, stack, move || serve(&rt, &request, bytes)),
         Some(Ok(read)) => {
             let judged = move || -> u8
                 requires { (c : Contents) × HoldsContents read.dump c }
-            { judge_read(&rt, read) };
-            on_large_stack(&rt, judged)
+            { judge_read(&rt, read, bytes) };
+            on_stack(&rt, stack, judged)
         }
         Some(Err(fault)) => report_status(&rt, Err(fault)),
     };

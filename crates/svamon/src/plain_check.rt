@@ -12,7 +12,9 @@ use crate::check::Team;
 use crate::serve::text_of;
 use crate::statuses::report_moved_status;
 use cli::{Fault, NoGate, Request, check_over};
-use cli_shell::{FormFiles, Sources, StandardError, open, read_chosen, status_of_totals};
+use cli_shell::{
+    FormFiles, Sources, StandardError, look_whether_fits, open, read_chosen, status_of_totals,
+};
 use cycle_window::WindowSize;
 use signals::Counted;
 use std::fs::Files;
@@ -74,7 +76,7 @@ pub fn read_plain<R: Files + AllocGlobal + Threads>(
         window,
         junit,
         json,
-        html: None,
+        html,
     } = request
     else {
         return None;
@@ -82,6 +84,7 @@ pub fn read_plain<R: Files + AllocGlobal + Threads>(
     let files = FormFiles {
         junit: text_of(junit),
         json: text_of(json),
+        html: text_of(html),
     };
     if !files.is_empty() || !team_files.files.is_empty() {
         return None;
@@ -103,9 +106,11 @@ fn judge_dump<'a, R: Print + AllocGlobal + Threads + Wait + Sync>(
     text: &'a str,
     team: TeamSize,
     size: WindowSize,
+    stack: usize,
 ) -> Result<u8, Fault<'a>>
     requires held { (c : Contents) × HoldsContents dump c }
 {
+    look_whether_fits(rt.alloc(), text, stack)?;
     let mut out = Counted::new(io::writer(rt));
     let totals = check_over(rt, rt.alloc(), dump, text, team, size, &NoGate, &mut out);
     status_of_totals(totals)
@@ -115,6 +120,7 @@ fn judge_dump<'a, R: Print + AllocGlobal + Threads + Wait + Sync>(
 pub fn judge_read<R: Print + StandardError + AllocGlobal + Threads + Wait + Sync>(
     rt: &R,
     read: ReadCheck,
+    stack: usize,
 ) -> u8
     requires held { (c : Contents) × HoldsContents read.dump c }
 {
@@ -124,6 +130,6 @@ pub fn judge_read<R: Print + StandardError + AllocGlobal + Threads + Wait + Sync
         team,
         size,
     } = read;
-    let outcome = judge_dump(rt, dump, sources.text.as_str(), team, size);
+    let outcome = judge_dump(rt, dump, sources.text.as_str(), team, size, stack);
     report_moved_status(rt, sources.added.as_slice(), outcome)
 }

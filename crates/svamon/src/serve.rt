@@ -9,9 +9,9 @@ use cli::{Fault, NoGate, Request, Wanted, build_one, judge_one};
 use cli_bytecode::{run_code, upgrade_code, verify_code};
 use cli_names::{Filter, NamesFault, names_one};
 use cli_shell::{
-    FormFiles, REFUSED_STATUS, Sources, StandardError, clash_of, open, print_error_lines,
-    print_rules, read_bytes, read_sources, refuse_words, report_status, request_of,
-    status_of_totals, words_of, write_bytes,
+    FormFiles, REFUSED_STATUS, Sources, StandardError, look_whether_fits, open, print_error_lines,
+    print_rules, read_bytes, read_sources, refuse_words, refused_request, report_status,
+    request_of, shown_output, status_of_totals, words_of, write_bytes,
 };
 use cli_team::{read_dump_front, serve_import};
 use lint::{LintFault, PortSaid, Selects, lint_one};
@@ -44,9 +44,11 @@ fn serve_judge<R: Files + Print + StandardError + AllocGlobal>(
     vcd: &str,
     sva: &[String],
     axi: Option<&str>,
+    stack: usize,
 ) -> Result<u8, Fault<'static>> {
     let dump = open(rt, vcd)?;
     let sources = read_sources(rt, sva, axi)?;
+    look_whether_fits(rt.alloc(), sources.text.as_str(), stack)?;
     let outcome = judge_text(rt, dump, sources.text.as_str());
     Ok(report_status(rt, outcome))
 }
@@ -99,7 +101,7 @@ fn print_lint<R: Files + Print + AllocGlobal, D: Read + Drop>(
     selects: Selects,
 ) -> Result<u64, LintFault> {
     let mut dump = Counted::new(dump);
-    let mut out = Counted::new(io::writer(rt));
+    let mut out = shown_output(rt);
     let ports = ports_of(rt.alloc(), &sources.ports)?;
     lint_one(
         rt.alloc(),
@@ -119,7 +121,9 @@ pub(crate) fn lint_sources<R: Files + Print + AllocGlobal, D: Read + Drop>(
     dump: D,
     sources: &Sources,
     selects: Selects,
+    stack: usize,
 ) -> Result<u8, Fault<'static>> {
+    look_whether_fits(rt.alloc(), sources.text.as_str(), stack)?;
     match print_lint(rt, dump, sources, selects) {
         Ok(0) => Ok(0),
         Ok(_) => Ok(REFUSED_STATUS),
@@ -134,10 +138,11 @@ fn serve_lint<R: Files + Print + AllocGlobal>(
     vcd: &str,
     sva: &[String],
     axi: Option<&str>,
+    stack: usize,
 ) -> Result<u8, Fault<'static>> {
     let dump = open(rt, vcd)?;
     let sources = read_sources(rt, sva, axi)?;
-    lint_sources(rt, dump, &sources, Selects::Written)
+    lint_sources(rt, dump, &sources, Selects::Written, stack)
 }
 
 /// Why the names of a dump are not told, as a fault of a command.
@@ -158,7 +163,7 @@ fn print_names<R: Files + Print + AllocGlobal>(
 ) -> Result<u64, Fault<'static>> {
     let front = read_dump_front(rt.alloc(), &mut dump)?;
     let mut header = Counted::new(front.header());
-    let mut out = Counted::new(io::writer(rt));
+    let mut out = shown_output(rt);
     match names_one(rt.alloc(), &mut header, filter, &mut out) {
         Ok(count) => Ok(count),
         Err(fault) => Err(names_fault(fault)),
@@ -200,9 +205,11 @@ fn serve_build<R: Files + StandardError + AllocGlobal>(
     axi: Option<&str>,
     name: &str,
     out: &str,
+    stack: usize,
 ) -> Result<u8, Fault<'static>> {
     let dump = open(rt, vcd)?;
     let sources = read_sources(rt, sva, axi)?;
+    look_whether_fits(rt.alloc(), sources.text.as_str(), stack)?;
     let outcome = build_text(rt, dump, sources.text.as_str(), name, out);
     Ok(report_status(rt, outcome))
 }
@@ -283,6 +290,7 @@ pub(crate) fn text_of(option: &Option<String>) -> Option<&str> {
 fn serve_request<R: Files + Print + StandardError + AllocGlobal + Threads + Wait + Sync>(
     rt: &R,
     request: &Request,
+    stack: usize,
 ) -> Result<u8, Fault<'static>> {
     match request {
         Request::Check {
@@ -305,6 +313,7 @@ fn serve_request<R: Files + Print + StandardError + AllocGlobal + Threads + Wait
             let files = FormFiles {
                 junit: text_of(junit),
                 json: text_of(json),
+                html: text_of(html),
             };
             let asked = Asked {
                 vcd: vcd.as_str(),
@@ -315,7 +324,7 @@ fn serve_request<R: Files + Print + StandardError + AllocGlobal + Threads + Wait
                 keep_going: *keep_going,
                 team,
                 files,
-                html: text_of(html),
+                stack,
             };
             serve_check(rt, &asked)
         }
@@ -332,6 +341,7 @@ fn serve_request<R: Files + Print + StandardError + AllocGlobal + Threads + Wait
             text_of(axi),
             name.as_str(),
             out.as_str(),
+            stack,
         ),
         Request::Verify { code } => serve_verify(rt, code.as_str()),
         Request::Run {
@@ -347,7 +357,7 @@ fn serve_request<R: Files + Print + StandardError + AllocGlobal + Threads + Wait
             serve_run(rt, vcd.as_str(), code.as_str(), team)
         }
         Request::Judge { vcd, sva, axi } => {
-            serve_judge(rt, vcd.as_str(), sva.as_slice(), text_of(axi))
+            serve_judge(rt, vcd.as_str(), sva.as_slice(), text_of(axi), stack)
         }
         Request::Explain {
             vcd,
@@ -371,6 +381,7 @@ fn serve_request<R: Files + Print + StandardError + AllocGlobal + Threads + Wait
                 keep_going: *keep_going,
                 wanted,
                 gtkw: text_of(gtkw),
+                stack,
             };
             if !team.files.is_empty() {
                 return serve_team_explain(rt, team, &asked);
@@ -384,9 +395,9 @@ fn serve_request<R: Files + Print + StandardError + AllocGlobal + Threads + Wait
             team,
         } => {
             if !team.files.is_empty() {
-                return serve_team_lint(rt, vcd.as_str(), team);
+                return serve_team_lint(rt, vcd.as_str(), team, stack);
             }
-            serve_lint(rt, vcd.as_str(), sva.as_slice(), text_of(axi))
+            serve_lint(rt, vcd.as_str(), sva.as_slice(), text_of(axi), stack)
         }
         Request::Names {
             vcd,
@@ -405,13 +416,14 @@ fn serve_request<R: Files + Print + StandardError + AllocGlobal + Threads + Wait
     }
 }
 
-/// Does what the words ask for, and answers the status that a shell sees; the line of a fault goes
-/// to standard error.
+/// Does what the words ask for, on a stack of so many bytes, and answers the status that a shell
+/// sees; the line of a fault goes to standard error.
 pub fn serve<R: Files + Print + StandardError + AllocGlobal + Threads + Wait + Sync>(
     rt: &R,
     request: &Request,
+    stack: usize,
 ) -> u8 {
-    report_status(rt, serve_request(rt, request))
+    report_status(rt, serve_request(rt, request, stack))
 }
 
 /// What the words of the command line ask for, or the status where they are answered here.
@@ -426,7 +438,7 @@ fn read_or_answer<R: Files + Env + Print + StandardError + AllocGlobal>(
         return Ok(Err(0));
     }
     let request = request_of(rt, words.as_slice())?;
-    if let Some(refusal) = clash_of(rt, &request)? {
+    if let Some(refusal) = refused_request(rt, &request)? {
         print_error_lines(rt, refusal.as_str());
         return Ok(Err(REFUSED_STATUS));
     }

@@ -38,6 +38,7 @@ pub(crate) fn serve_team_lint<R: Files + Print + StandardError + AllocGlobal>(
     rt: &R,
     vcd: &str,
     team: &TeamFiles,
+    stack: usize,
 ) -> Result<u8, Fault<'static>> {
     let Some(case) = open_team(rt, vcd, team, &[])? else {
         return Ok(REFUSED_STATUS);
@@ -47,6 +48,6 @@ pub(crate) fn serve_team_lint<R: Files + Print + StandardError + AllocGlobal>(
         sources,
         is_whole,
     } = case;
-    let status = lint_sources(rt, dump, &sources, Selects::Converted)?;
+    let status = lint_sources(rt, dump, &sources, Selects::Converted, stack)?;
     Ok(status_with(is_whole, status))
 }
