@@ -41,6 +41,7 @@ help:
 	@echo '                      of each of two programs, the verifier with another on CASES random programs and their'
 	@echo '                      mutants, and the machine with another on PROGRAMS random programs of 100 clocks'
 	@echo 'make wrong-threads    builds workers with a fault of threads that no contract sees; the tests must fail'
+	@echo 'make fuzz             runs whole commands over mutated files, 100,000 runs or an hour (SEED)'
 	@echo 'make soak             compares svamon so for SECONDS (an hour), twice as many cases at once as there are'
 	@echo '                      processors'
 
@@ -74,15 +75,14 @@ edits:
 install:
 	@scripts/tools/install $(PREFIX)
 
+# The programs that a green gate left, else new ones. Some runs by rt have no cases, and fail.
 svamon:
-	cd crates/svamon && rm -f out/svamon && { rt run -- help; test -x out/svamon; }
+	@scripts/tools/built $@ || { cd crates/$@ && rm -f out/$@ && { rt run -- help; test -x out/$@; }; }
 
-# Their runs by rt have no cases, and fail.
-answers_bytecode answers_texts answers_workers_core answers_reports:
-	cd crates/$@ && rm -f out/$@ && { rt run > /dev/null 2>&1; test -x out/$@; }
+answers_bytecode answers_texts answers_workers_core answers_reports bench_reader:
+	@scripts/tools/built $@ || { cd crates/$@ && rm -f out/$@ && { rt run > /dev/null 2>&1; test -x out/$@; }; }
 
-bench: svamon answers_bytecode answers_texts
-	cd crates/bench_reader && rt run > /dev/null
+bench: svamon answers_bytecode answers_texts bench_reader
 	bench/run $(DUMP) $(CLOCK)
 	bench/shapes
 	bench/texts
@@ -132,9 +132,12 @@ random: svamon answers_bytecode answers_reports
 wrong-threads:
 	@scripts/tools/wrong_threads
 
+fuzz: svamon
+	scripts/random/whole_commands.py crates/svamon/out/svamon 100000 $(SEED) $(SECONDS)
+
 soak: svamon
 	scripts/tools/soak crates/svamon/out/svamon $(SECONDS) $(SEED)
 
-.PHONY: help demo quick verify-quick dist test test-all test-day edits install svamon bench allocations random soak
+.PHONY: help demo quick verify-quick dist test test-all test-day edits install svamon bench allocations random fuzz soak
 .PHONY: wrong-threads
-.PHONY: answers_bytecode answers_texts answers_workers_core answers_reports
+.PHONY: answers_bytecode answers_texts answers_workers_core answers_reports bench_reader

@@ -15,6 +15,8 @@ import stamps
 TOP = stamps.ROOT
 PROGRAM = "svamon"
 BUILD_FILE = f"crates/{PROGRAM}/src/build.rt"
+# Which sources the programs are of that the gate left.
+BUILT = f"{TOP}/out/built.txt"
 DIGITS = 40
 
 
@@ -23,6 +25,22 @@ def crates_used():
     with open(f"{TOP}/crates.txt") as it:
         lines = re.findall(r"(?m)^(\w+)[^:\n]*:(.*)$", it.read())
     return {name: [dep for dep in deps.split() if os.path.isdir(f"{TOP}/crates/{dep}")] for name, deps in lines}
+
+
+def program_of(root, name):
+    """Where rt leaves a crate's program."""
+    return f"{root}/crates/{name}/out/{name}"
+
+
+def keep_programs(room, sources):
+    """Leaves the programs that a copy of this tree has, each where rt would, and says of which sources they are."""
+    for name in crates_used():
+        made, kept = program_of(room, name), program_of(TOP, name)
+        if os.path.isfile(made):
+            os.makedirs(os.path.dirname(kept), exist_ok=True)
+            put(made, kept)
+    with open(BUILT, "w") as it:
+        it.write(f"{sources}\n")
 
 
 def below(name, used):
