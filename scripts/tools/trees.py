@@ -34,6 +34,8 @@ def program_of(root, name):
 
 def keep_programs(room, sources):
     """Leaves the programs that a copy of this tree has, each where rt would, and says of which sources they are."""
+    if os.path.exists(BUILT):
+        os.remove(BUILT)
     for name in crates_used():
         made, kept = program_of(room, name), program_of(TOP, name)
         if os.path.isfile(made):
