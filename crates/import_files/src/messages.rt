@@ -83,17 +83,13 @@ fn unknown_message(alloc: Global, label: &str, missing: &Missing) -> Result<Mess
             )?,
         });
     }
-    let text = match (&missing.lost, &missing.scope, &missing.nearest) {
-        (Some(scope), _, _) => {
-            let scope = scope.as_str();
-            format!(in alloc; "refused {label} UnknownName: {name}; the dump has no scope {scope}")?
-        }
-        (None, Some(scope), _) => scoped_message(alloc, label, name, scope.as_str())?,
-        (None, None, Some(near)) => {
+    let text = match (&missing.scope, &missing.nearest) {
+        (Some(scope), _) => scoped_message(alloc, label, name, scope.as_str())?,
+        (None, Some(near)) => {
             let near = near.as_str();
             format!(in alloc; "refused {label} UnknownName: {name}; did you mean {near}?")?
         }
-        (None, None, None) => {
+        (None, None) => {
             format!(in alloc; "refused {label} UnknownName: the dump has no {name}")?
         }
     };

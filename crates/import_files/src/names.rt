@@ -30,23 +30,6 @@ fn scope_with(
     Ok(None)
 }
 
-/// The scope that is given, where a dump has no name in it.
-fn lost_scope(alloc: Global, reading: &Reading<'_>) -> Result<Option<String>, AllocError> {
-    let Some(scope) = reading.scope else {
-        return Ok(None);
-    };
-    let Ok(scope) = str::from_utf8(scope) else {
-        return Ok(None);
-    };
-    let front = format!(in alloc; "{scope}.")?;
-    for path in reading.names {
-        if path.as_str().starts_with(front.as_str()) {
-            return Ok(None);
-        }
-    }
-    Ok(Some(String::from_str(alloc, scope)?))
-}
-
 /// How many names are compared with one that a dump lacks at most.
 const MOST_COMPARED: usize = 2_000;
 
@@ -112,7 +95,6 @@ fn unnameable_name(alloc: Global, path: &[u8], at: usize) -> Result<Missing, All
         name,
         nearest: None,
         scope: None,
-        lost: None,
         unnameable: true,
         at,
     })
@@ -131,12 +113,10 @@ fn missing_name(
     };
     let nearest = name_meant(alloc, reading, name.as_str())?;
     let scope = scope_with(alloc, reading, name.as_str())?;
-    let lost = lost_scope(alloc, reading)?;
     Ok(Missing {
         name,
         nearest,
         scope,
-        lost,
         unnameable: false,
         at,
     })

@@ -20,8 +20,6 @@ pub struct Missing {
     pub nearest: Option<String>,
     /// The first scope in which it has this very name, where no scope is given.
     pub scope: Option<String>,
-    /// The scope that is given, where the dump has nothing in it.
-    pub lost: Option<String>,
     /// Whether the dump has it, and no rule can name it.
     pub unnameable: bool,
     /// The byte of the text at which it stands.

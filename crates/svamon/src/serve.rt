@@ -426,33 +426,38 @@ pub fn serve<R: Files + Print + StandardError + AllocGlobal + Threads + Wait + S
     report_status(rt, serve_request(rt, request, stack))
 }
 
-/// What the words of the command line ask for, or the status where they are answered here.
-fn read_or_answer<R: Files + Env + Print + StandardError + AllocGlobal>(
+/// What words ask for, or the status where they are answered here: they can't be read, or a file
+/// would be written over one that is read, or over another one that is written.
+fn request_or_status<R: Files + Env + Print + StandardError + AllocGlobal>(
     rt: &R,
-) -> Result<Result<Request, u8>, Fault<'static>> {
-    let words = match words_of(rt) {
-        Ok(words) => words,
-        Err(error) => return Ok(Err(refuse_words(rt, &error)?)),
+    words: &[String],
+) -> Result<Request, u8> {
+    let request = match request_of(rt, words) {
+        Ok(request) => request,
+        Err(fault) => return Err(report_status(rt, Err(fault))),
     };
-    if print_version_and_build_if_asked(rt, words.as_slice())? {
-        return Ok(Err(0));
+    match refused_request(rt, &request) {
+        Ok(None) => Ok(request),
+        Ok(Some(refusal)) => {
+            print_error_lines(rt, refusal.as_str());
+            Err(REFUSED_STATUS)
+        }
+        Err(_) => Err(report_status(rt, Err(Fault::Memory))),
     }
-    let request = request_of(rt, words.as_slice())?;
-    if let Some(refusal) = refused_request(rt, &request)? {
-        print_error_lines(rt, refusal.as_str());
-        return Ok(Err(REFUSED_STATUS));
-    }
-    Ok(Ok(request))
 }
 
-/// What the words of the command line ask for, or the status where they are answered: a file would
-/// be written over one that is read, or over another one that is written; the version was asked
-/// for; or they can't be read.
+/// What the words of the command line ask for, or the status where they are answered here: the
+/// version was asked for, they can't be read, or a file would be written over.
 pub fn read_request<R: Files + Env + Print + StandardError + AllocGlobal>(
     rt: &R,
 ) -> Result<Request, u8> {
-    match read_or_answer(rt) {
-        Ok(request) => request,
+    let words = match words_of(rt) {
+        Ok(words) => words,
+        Err(error) => return Err(report_status(rt, refuse_words(rt, &error))),
+    };
+    match print_version_and_build_if_asked(rt, words.as_slice()) {
+        Ok(false) => request_or_status(rt, words.as_slice()),
+        Ok(true) => Err(0),
         Err(fault) => Err(report_status(rt, Err(fault))),
     }
 }

@@ -1,7 +1,7 @@
-//! Two workers at work at once.
+//! Gates: two workers at work at once, and what one worker tells.
 
 use crate::job::{job_of, text_of};
-use crate::tests::{THREE, TWO_POSITIONS};
+use crate::tests::{OVERLAPPED, THREE, TWO_POSITIONS};
 use std::rt::Clock;
 use std::sync::atomic::{AtomicU64, Ordering};
 use std::test::Fail;
@@ -66,5 +66,43 @@ fn two_workers_meet(rt: HostRuntime) -> Result<(), Fail> {
     assert!(rt; gate.missed.load(Ordering::SeqCst) == 0);
     let met = text_of(alloc, &met, 1000)?;
     assert!(rt; met.as_str() == text_of(alloc, &alone, 1000)?.as_str());
+    Ok(())
+}
+
+/// Counts claims and tallies, and adds up the numbers of the claims.
+#[derive(Drop)]
+struct Counting {
+    claims: AtomicU64,
+    numbers: AtomicU64,
+    tallies: AtomicU64,
+}
+
+impl Gate for Counting {
+    fn claimed(&self, _worker: usize, nth: u64) {
+        self.claims.fetch_add(1, Ordering::SeqCst);
+        self.numbers.fetch_add(nth, Ordering::SeqCst);
+    }
+
+    fn tallied(&self, _worker: usize, _totals: [u64; 4]) {
+        self.tallies.fetch_add(1, Ordering::SeqCst);
+    }
+}
+
+/// One worker, three monitors and three windows of a clock: nine claims, which count on from window
+/// to window (1 and so on up to 9 are 45), and nine batches in the tally.
+#[test]
+fn one_worker_counts_on(rt: HostRuntime) -> Result<(), Fail> {
+    let codes = [OVERLAPPED, TWO_POSITIONS, OVERLAPPED];
+    let job = job_of(rt.alloc(), THREE, codes.as_slice())?;
+    let gate = Counting {
+        claims: AtomicU64::new(0),
+        numbers: AtomicU64::new(0),
+        tallies: AtomicU64::new(0),
+    };
+    let ran = run(&rt, rt.alloc(), &job, 1, 1, &gate);
+    assert!(rt; ran.is_ok());
+    assert!(rt; gate.claims.load(Ordering::SeqCst) == 9);
+    assert!(rt; gate.numbers.load(Ordering::SeqCst) == 45);
+    assert!(rt; gate.tallies.load(Ordering::SeqCst) == 9);
     Ok(())
 }
