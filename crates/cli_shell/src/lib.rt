@@ -19,7 +19,8 @@
 //!
 //! A file that can't be opened, read or made is the fault `File` with its path and why, and one
 //! that is no UTF-8 is `NotText` (N2), but for a team's own files. A plain file is written whole or
-//! not at all. The line of a fault goes to standard error, and is lost where that can't be written.
+//! not at all; no control character of a stranger's, or one that turns letters around, is in a file
+//! or in what is shown, but by its number. The line of a fault goes to standard error, and is lost where that can't be written.
 //! Two paths name one file where their devices and numbers there are the same, behind all links.
 //!
 //! The definitions: statuses in `cli_faults/specs/Statuses.antt`, the rules of ports in
@@ -51,7 +52,7 @@ pub use assertions_text::{
 pub use clashes::refused_request;
 pub use depth::look_whether_fits;
 pub use files::{open, read_bytes, write_bytes};
-pub use forms::{FormFiles, print_report};
+pub use forms::{FormFiles, print_report, write_save};
 pub use moved::moved_fault;
 pub use print::{print_bytes, print_rules};
 pub use report_forms::{Provenance, Refused};

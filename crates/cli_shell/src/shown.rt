@@ -1,6 +1,8 @@
 //! What is shown: no character of a stranger's moves a cursor, or turns the letters around it.
 
 use signals::Counted;
+use std::fmt;
+use std::fmt::{Display, Formatter};
 use std::io;
 use std::io::{Eprint, Print, Printer, Write};
 
@@ -40,23 +42,64 @@ fn cut_at_hidden(text: &str) -> Cut<'_> {
     }
 }
 
-/// Writes a text; a hidden character has its number, as in `\u{1b}`.
-fn write_text<W: Write>(out: &mut W, text: &str) -> io::Result<()> {
-    let mut left = text;
-    for _ in 0..=text.len() {
-        let Cut {
-            clean,
-            hidden,
-            rest,
-        } = cut_at_hidden(left);
-        out.write_all(clean.as_bytes())?;
-        match hidden {
-            None => return Ok(()),
-            Some(character) => write!(out, "\\u{{{:x}}}", u32::from(character))?,
-        }
-        left = rest;
+/// How the number of a hidden character is written.
+#[derive(Clone, Copy)]
+pub(crate) enum Escape {
+    /// As `\u{9b}`: at a terminal, and in lines.
+    Braced,
+    /// As `\u009b`: in a string of JSON (RFC 8259, section 7).
+    Json,
+    /// As `&#155;`: in XML (1.0, clause 4.1), and in a page.
+    Reference,
+}
+
+/// A text as it is shown: a hidden character is its number.
+#[derive(Clone, Copy)]
+pub(crate) struct ShownText<'a> {
+    pub(crate) text: &'a str,
+    pub(crate) escape: Escape,
+}
+
+/// Writes a hidden character by its number.
+fn write_number<W: fmt::Write>(
+    f: &mut Formatter<W>,
+    escape: Escape,
+    character: char,
+) -> fmt::Result {
+    let number = u32::from(character);
+    match escape {
+        Escape::Braced => write!(f, "\\u{{{number:x}}}"),
+        Escape::Json => write!(f, "\\u{number:04x}"),
+        Escape::Reference => write!(f, "&#{number};"),
     }
-    Ok(())
+}
+
+impl Display for ShownText<'_> {
+    fn fmt<W: fmt::Write>(&self, f: &mut Formatter<W>) -> fmt::Result {
+        let mut left = self.text;
+        for _ in 0..=self.text.len() {
+            let Cut {
+                clean,
+                hidden,
+                rest,
+            } = cut_at_hidden(left);
+            f.write_str(clean)?;
+            match hidden {
+                None => return Ok(()),
+                Some(character) => write_number(f, self.escape, character)?,
+            }
+            left = rest;
+        }
+        Ok(())
+    }
+}
+
+/// A text as it is shown at a terminal.
+fn at_terminal(text: &str) -> ShownText<'_> {
+    ShownText {
+        text,
+        escape: Escape::Braced,
+    }
 }
 
 /// Writes bytes that are no text, each as in `\xe9`.
@@ -76,7 +119,7 @@ pub struct Shown<W> {
 impl<W: Write> Write for Shown<W> {
     fn write(&mut self, buf: &[u8]) -> io::Result<usize> {
         for chunk in buf.utf8_chunks() {
-            write_text(&mut self.inner, chunk.valid())?;
+            write!(self.inner, "{}", at_terminal(chunk.valid()))?;
             write_numbers(&mut self.inner, chunk.invalid())?;
         }
         Ok(buf.len())
@@ -96,18 +139,5 @@ pub fn shown_output<R: Print>(rt: &R) -> Counted<Shown<Printer<'_, R>>> {
 
 /// Writes lines to standard error, as they may be shown; they are lost where that can't be written.
 pub fn print_error_lines<R: Eprint>(rt: &R, lines: &str) {
-    let mut left = lines;
-    for _ in 0..=lines.len() {
-        let Cut {
-            clean,
-            hidden,
-            rest,
-        } = cut_at_hidden(left);
-        let _ = eprint!(rt; "{clean}");
-        let Some(character) = hidden else {
-            return;
-        };
-        let _ = eprint!(rt; "\\u{{{:x}}}", u32::from(character));
-        left = rest;
-    }
+    let _ = eprint!(rt; "{}", at_terminal(lines));
 }

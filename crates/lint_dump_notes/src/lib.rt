@@ -12,7 +12,7 @@
 //! since it needs a report on all assertions. Of one whose selects were converted by the declared
 //! ranges, N1 is left out.
 //!
-//! - `src/read.rt`: what is read off the text: N1, N3, N5 (a clock that is a reset), N6, N7.
+//! - `src/read.rt`: what is read off the text: N1, N3, N5 (a clock that is a reset), N6, N7, N9.
 //! - `src/clocked.rt`: what stands at the clocks: N2, N5 (a clock without edges).
 //! - `src/judged.rt`: what the report says: N4; and N8, where `check` takes fewer assertions.
 //!

@@ -2,8 +2,8 @@
 
 use crate::accepted::{Accepted, Beside, Selects, push_all};
 use lint_notes::{
-    Facts, Note, PathFact, PortSaid, Turned, late_signals, path_notes, port_facts, token_notes,
-    turned_names, width_notes,
+    Facts, Note, PathFact, PortSaid, Turned, comment_notes, late_signals, path_notes, port_facts,
+    token_notes, turned_names, width_notes,
 };
 use parser::{File, ItemTree};
 use std::alloc::{AllocError, Global};
@@ -107,7 +107,7 @@ fn push_widened(
     push_all(notes, width_notes(alloc, &scope, &file.items)?)
 }
 
-/// Adds the notes of a text's tokens, ports and expressions.
+/// Adds the notes of a text's comments, tokens, ports and expressions.
 pub(crate) fn push_read(
     alloc: Global,
     notes: &mut Vec<Note>,
@@ -115,6 +115,7 @@ pub(crate) fn push_read(
     accepted: &Accepted<'_, '_>,
     beside: &Beside<'_, '_>,
 ) -> Result<(), AllocError> {
+    push_all(notes, comment_notes(alloc, accepted.text)?)?;
     push_at_tokens(alloc, notes, dump, accepted, beside)?;
     push_of_ports(alloc, notes, dump, accepted, beside.ports)?;
     push_widened(alloc, notes, dump, accepted.file)

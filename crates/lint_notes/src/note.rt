@@ -4,7 +4,7 @@
 /// it stands, and what is told.
 #[derive(Drop)]
 pub struct Note {
-    /// 1 to 8.
+    /// 1 to 9.
     pub number: u8,
     pub at: usize,
     pub message: String,

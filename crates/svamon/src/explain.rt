@@ -9,7 +9,7 @@ use crate::statuses::{report_moved_status, report_rest_status};
 use cli::{Fault, NoGate, ShownFailures, Wanted, Waveform, Waves, explain_one, failures_over};
 use cli_shell::{
     REFUSED_STATUS, Sources, StandardError, look_whether_fits, open, print_bytes,
-    print_error_lines, read_chosen, read_labelled, shown_output, write_bytes,
+    print_error_lines, read_chosen, read_labelled, shown_output, write_save,
 };
 use cli_team::header_in;
 use lint::{Rest, rest_over};
@@ -107,7 +107,7 @@ fn explain_dump<'a, R: Files + Print + AllocGlobal + Threads + Wait + Sync>(
     let NamedDump { dump, waves } = read;
     let failures = failures_in(rt, dump, &waves, text, origin, asked, team)?;
     if let Some(path) = asked.gtkw {
-        write_bytes(rt, path, failures.save.as_slice())?;
+        write_save(rt, path, failures.save.as_slice())?;
     }
     print_bytes(rt, failures.text.as_bytes())?;
     Ok(failures.count)
