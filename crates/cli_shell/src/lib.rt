@@ -19,9 +19,10 @@
 //!
 //! A file that can't be opened, read or made is the fault `File` with its path and why, and one
 //! that is no UTF-8 is `NotText` (N2), but for a team's own files. A plain file is written whole or
-//! not at all; no control character of a stranger's, or one that turns letters around, is in a file
-//! or in what is shown, but by its number. The line of a fault goes to standard error, and is lost where that can't be written.
-//! Two paths name one file where their devices and numbers there are the same, behind all links.
+//! not at all. No control character of a stranger's, or one that turns letters around, is in files
+//! of a report or in what is shown, but by its number. The line of a fault goes to standard error,
+//! and is lost where that can't be written. Two paths name one file where their devices and numbers
+//! there are the same, behind all links.
 //!
 //! The definitions: statuses in `cli_faults/specs/Statuses.antt`, the rules of ports in
 //! `axi4_rules`, what words ask for in `cli_words`, joined and chosen texts in `source_files`,

@@ -1,10 +1,9 @@
 //! What is shown: no character of a stranger's moves a cursor, or turns the letters around it.
 
 use signals::Counted;
-use std::fmt;
 use std::fmt::{Display, Formatter};
-use std::io;
 use std::io::{Eprint, Print, Printer, Write};
+use std::{fmt, io};
 
 /// Whether a character is written by its number: a control character but a line feed and a tab, or
 /// one that sets a direction of letters (Unicode's standard annex 9).

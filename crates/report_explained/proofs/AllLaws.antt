@@ -48,3 +48,11 @@ zip_mapped P f [] [] h = tt
 zip_mapped P f [] (y ∷ ys) h = elim h [ ]
 zip_mapped P f (x ∷ xs) [] h = elim h [ ]
 zip_mapped P f (x ∷ xs) (y ∷ ys) h = (h.0, zip_mapped P f xs ys h.1)
+
+-- lists in step, both looked at by a view
+pub zip_viewed : {A B C D : Type 0} (P : C → D → Type 0) (f : A → C) (g : B → D) (xs : List A) (ys : List B)
+    → AllZip (λ x y. P (f x) (g y)) xs ys → AllZip P (map f xs) (map g ys)
+zip_viewed P f g [] [] h = tt
+zip_viewed P f g [] (y ∷ ys) h = elim h [ ]
+zip_viewed P f g (x ∷ xs) [] h = elim h [ ]
+zip_viewed P f g (x ∷ xs) (y ∷ ys) h = (h.0, zip_viewed P f g xs ys h.1)

@@ -1,5 +1,5 @@
 -- From the lines of a report to attempts that failed by the definition.
-use Rattle.std.proofs.Common.{◌≡◌, ◌++◌, ◌+◌, ◌<◌, ℕ, zero, suc, Bool, true, false, List, [], ◌∷◌, Option, Some, length}
+use Rattle.std.proofs.Common.{◌≡◌, ◌+◌, ◌<◌, ℕ, zero, suc, Bool, true, false, List, [], ◌∷◌, Some, length}
 use Rattle.std.proofs.Common.{map, take, refl, sym, ap, subst, arith}
 use Rattle.std.specs.Prelude.{slice_get, slice_index_or, filter, if◌then◌else◌, string_bytes}
 use Rattle.std.specs.List.{AllByRecursion, AllZip}
@@ -27,7 +27,6 @@ use Rattle.report_lines.specs.declared.line.Failure.{Failure}
 use Rattle.report_lines.specs.declared.line.Line.{Line}
 use Rattle.report_lines.specs.Lines.{LineData, line}
 use Rattle.report_lines.specs.Tallies.{fails_at, failing_at, failing_in, failing_of, end_of}
-use Rattle.report_explained.specs.declared.choices.Choice.{Choice}
 use Rattle.report_explained.specs.declared.selection.Wanted.{Wanted}
 use Rattle.report_explained.specs.Chosen.{is_named, begins_at, choice_at, chosen_in, chosen_from}
 use Rattle.report_explained.specs.Failed.{HasFailed, IsOfFailed}

@@ -1,5 +1,5 @@
 -- What explanations of failed attempts say.
-use Rattle.std.specs.Prelude.{◌≡◌, ℕ, ◌+◌, List, Some, map, slice_get}
+use Rattle.std.specs.Prelude.{◌≡◌, ◌+◌, List, Some, map, slice_get}
 use Rattle.std.specs.List.{AllByRecursion}
 use Rattle.assertions.specs.declared.assertion.Assertion.{Assertion}
 use Rattle.assertions.specs.declared.suite.Suite.{Suite}
@@ -30,7 +30,7 @@ pub record IsReason (suite : Suite) (rows : Rows) (a : Assertion) (f : Failure) 
   pub cause :
       IsCause (value_over suite rows a) (antecedent_of a) (shape a.consequent) (f.clock + 1) f.start
       reason.cause
-  pub sheet : IsSheet suite a rows reason.sheet
+  pub sheet : IsSheet suite a rows f.start (f.clock + 1) reason.sheet
 
 -- An explanation is of an assertion of the suite, and says why its attempt failed.
 pub record IsExplained (suite : Suite) (rows : Rows) (e : Explanation) : Type 0 where

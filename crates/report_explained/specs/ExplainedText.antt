@@ -9,6 +9,7 @@ use Rattle.report_forms.specs.Provenances.{ProvenanceData}
 use Rattle.report_explained.specs.declared.arrow.Arrow.{Arrow}
 use Rattle.report_explained.specs.declared.arrow.Arrow.TheVariants.{Alone, Overlapped, Following}
 use Rattle.report_explained.specs.Arrows.{back_of}
+use Rattle.report_explained.specs.SheetText.{IsSheetText}
 use Rattle.report_explained.specs.declared.failed_attempt.FailedAttempt.{FailedAttempt}
 
 -- the letter of a plural
@@ -67,6 +68,7 @@ cause_text a = cause_by a.arrow a
 -- The text of a failed attempt: its head, its sheet, and why it failed.
 pub record IsSection (p : ProvenanceData) (a : FailedAttempt) (section : List ℕ) : Type 0 where
   pub sheet : List ℕ
+  pub is_sheet : IsSheetText p a.sheet.now sheet
   pub is : section ≡ head_text p a ++ sheet ++ cause_text a
 
 -- the same in memory

@@ -5,3 +5,4 @@ pub mod Failed
 pub mod Told
 pub mod ExplainedText
 pub mod Shown
+pub mod SheetText

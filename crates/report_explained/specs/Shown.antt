@@ -1,7 +1,10 @@
--- What the rows of a sheet show.
-use Rattle.std.specs.Prelude.{◌≡◌, ℕ, zero, suc, Bool, true, false, List, [], ◌∷◌, ◌++◌, length}
+-- What a sheet shows: its clocks, and its rows.
+use Rattle.std.specs.Prelude.{◌≡◌, ◌⊎◌, ◌≤◌, ◌+◌, ◌-◌, ◌||◌, ⊤, ℕ, zero, suc, Bool, true, false}
+use Rattle.std.specs.Prelude.{List, [], ◌∷◌, ◌++◌, length, nat_le, nat_lt, string_bytes}
 use Rattle.std.specs.Prelude.{Option, Some, None, map, slice_get}
 use Rattle.std.specs.List.{AllZip}
+use Rattle.expressions.specs.declared.counter.Counter.{Counter as Counted}
+use Rattle.assertions.specs.declared.signal.Signal.{Signal as Watched}
 use Rattle.expressions.specs.declared.name.Name.{Name}
 use Rattle.expressions.specs.declared.name.Origin.{Origin}
 use Rattle.expressions.specs.declared.name.Origin.TheVariants.{Signal as FromSignal}
@@ -18,6 +21,58 @@ use Rattle.assertions.specs.declared.suite.Suite.{Suite}
 use Rattle.assertions.specs.Shapes.{expression_at, is_true_at}
 use Rattle.report_explained.specs.declared.cells.RowSource.{RowSource}
 use Rattle.report_explained.specs.declared.cells.RowSource.TheVariants.{Signal, Counter, Listed}
+
+-- whether a clock is one of the first eight from one on, or of the last eight before another
+abbrev pub is_at_end : ℕ → ℕ → ℕ → Bool
+is_at_end first end clock = nat_lt (clock - first) 8 || nat_le (end - clock) 8
+
+-- a list that ends with a number, after a front
+pub record EndsWith (n : ℕ) (Before : List ℕ → Type 0) (ns : List ℕ) : Type 0 where
+  pub front : List ℕ
+  pub is : ns ≡ front ++ n ∷ []
+  pub before : Before front
+
+-- So many clocks from one on, in order, of which some may be left out, but none that must be shown.
+unfoldable pub AreShown : (ℕ → Bool) → ℕ → ℕ → List ℕ → Type 0
+AreShown must first zero clocks = clocks ≡ []
+AreShown must first (suc count) clocks =
+    EndsWith (first + count) (AreShown must first count) clocks
+    ⊎ ((must (first + count) ≡ false) × AreShown must first count clocks)
+
+-- those from one clock up to the one before another
+abbrev pub AreShownIn : ℕ → ℕ → List ℕ → Type 0
+AreShownIn first end = AreShown (is_at_end first end) first (end - first)
+
+-- The clocks of a sheet: from some clock, at or before the attempt's first, up to its last.
+pub record AreClocks (start end : ℕ) (clocks : List ℕ) : Type 0 where
+  pub first : ℕ
+  pub early : first ≤ start
+  pub are : AreShownIn first end clocks
+
+-- what a signal is called, and what bits it has; those of no signal are of no account
+abbrev pub path_of : Option Watched → List ℕ
+path_of None = []
+path_of (Some signal) = string_bytes signal.path
+
+abbrev pub bits_of : Option Watched → ℕ
+bits_of None = 1
+bits_of (Some signal) = signal.width
+
+abbrev pub bits_counted : Option Counted → ℕ
+bits_counted None = 1
+bits_counted (Some counter) = counter.width
+
+-- The row of a signal is called as its path is.
+abbrev pub IsCalled : Suite → RowSource → List ℕ → Type 0
+IsCalled suite (Signal place) label = label ≡ path_of (slice_get suite.names.items place)
+IsCalled suite (Counter place) label = ⊤
+IsCalled suite (Listed place) label = ⊤
+
+-- how many bits a row has
+abbrev pub bits_of_row : Suite → RowSource → ℕ
+bits_of_row suite (Signal place) = bits_of (slice_get suite.names.items place)
+bits_of_row suite (Counter place) = bits_counted (slice_get suite.counters.items place)
+bits_of_row suite (Listed place) = 1
 
 -- a boolean as a number
 abbrev pub bit_number : Bool → ℕ
@@ -55,10 +110,12 @@ abbrev pub ShowsSource : Suite → Assertion → Rows → List ℕ → RowSource
 ShowsSource suite a rows clocks source cells =
     ShowsValues (value_of_row suite a rows source) (is_always_shown source) clocks cells
 
--- A row shows the values of its source.
+-- A row is called as its source is, has its bits, and shows its values.
 pub record IsShownRow (suite : Suite) (a : Assertion) (rows : Rows) (clocks : List ℕ)
     (source : RowSource) (row : SheetRow) : Type 0 where
   pub source_is : row.source ≡ source
+  pub called : IsCalled suite source (string_bytes row.label)
+  pub bits : row.width ≡ bits_of_row suite source
   pub shows : ShowsSource suite a rows clocks source row.cells.items
 
 -- There is a row for each source.
@@ -90,8 +147,11 @@ pub record AreSources (suite : Suite) (a : Assertion) (sources : List RowSource)
   pub are : sources
       ≡ (map Signal signals ++ map Counter counters) ++ listed_below (length a.booleans.items)
 
--- A sheet shows what an assertion reads.
-pub record IsSheet (suite : Suite) (a : Assertion) (rows : Rows) (sheet : Sheet) : Type 0 where
+-- A sheet shows what an assertion reads, at the clocks of an attempt that began at one clock and
+-- was decided before another.
+pub record IsSheet (suite : Suite) (a : Assertion) (rows : Rows) (start end : ℕ) (sheet : Sheet) :
+    Type 0 where
+  pub clocks : AreClocks start end sheet.clocks.items
   pub sources : List RowSource
   pub read : AreSources suite a sources
   pub shows : ShowsRows suite a rows sheet.clocks.items sources sheet.rows.items

@@ -1,5 +1,5 @@
 -- What is told of the attempts that are explained.
-use Rattle.std.specs.Prelude.{◌≡◌, ℕ, ◌<◌, List, Some, length, slice_get, string_bytes}
+use Rattle.std.specs.Prelude.{◌≡◌, ◌<◌, List, Some, length, slice_get, string_bytes}
 use Rattle.report_lines.specs.declared.line.Line.{Line}
 use Rattle.report_explained.specs.declared.explanation.Explanation.{Explanation}
 use Rattle.report_explained.specs.declared.failed_attempt.FailedAttempt.{FailedAttempt}

@@ -1,5 +1,11 @@
 //! Texts in columns.
 
+ghost use Rattle.std.specs.Prelude.{◌≤◌, ◌++◌, OnOk, IfOk, string_bytes, map};
+ghost use Rattle.std.specs.List.{AllZip, flat_map};
+ghost use Rattle.report_forms.specs.Grown.{Grows};
+ghost use Rattle.report_explained.specs.SheetText.{blanks, line_data, IsLineText, GrowsPlaced};
+
+use report_forms::push_text;
 use std::alloc::{AllocError, Global};
 
 /// A line of a table: what it is called, and a text for each column.
@@ -10,9 +16,13 @@ pub(crate) struct Line {
 }
 
 /// Adds so many blanks.
-fn push_blanks(text: &mut String, count: usize) -> Result<(), AllocError> {
-    for _blank in 0..count {
-        text.push_str(" ")?;
+fn push_blanks(text: &mut String, count: usize) -> Result<(), AllocError>
+    ensures { OnOk result (Grows (string_bytes text.old) (string_bytes text.new) (blanks count)) }
+{
+    let mut more = count;
+    while more > 0 {
+        push_text(text, " ")?;
+        more -= 1;
     }
     Ok(())
 }
@@ -52,41 +62,63 @@ fn column_widths(alloc: Global, lines: &[Line], count: usize) -> Result<Vec<usiz
     Ok(widths)
 }
 
-/// Adds a line: its label to the left, and each text to the right of its column. It ends with its
-/// last text that is not empty.
-fn push_line(
+/// Adds the texts of a line, each to the right of its column, after so many blanks that are due.
+/// It ends with the last text that is not empty.
+fn push_cells(
     text: &mut String,
-    line: &Line,
-    label_width: usize,
+    cells: &[String],
+    due: usize,
     widths: &[usize],
-) -> Result<(), AllocError> {
-    text.push_str("  ")?;
-    text.push_str(line.label.as_str())?;
-    let mut blanks = label_width.saturating_sub(line.label.len());
-    for (column, cell) in line.cells.iter().enumerate() {
+) -> Result<(), AllocError>
+    ensures { OnOk result (GrowsPlaced (string_bytes text.old) (string_bytes text.new)
+        (map string_bytes cells.now)) }
+{
+    let mut due = due;
+    for (column, cell) in cells.iter().enumerate() {
         let width = widths.get(column).copied().unwrap_or(0);
-        blanks = blanks.saturating_add(width.saturating_sub(cell.len()).saturating_add(2));
+        due = due.saturating_add(width.saturating_sub(cell.len()).saturating_add(2));
         if cell.is_empty() {
             continue;
         }
-        push_blanks(text, blanks)?;
-        text.push_str(cell.as_str())?;
-        blanks = 0;
-    }
-    text.push_str("\n")
-}
-
-/// Adds the lines, with their texts in so many columns.
-pub(crate) fn push_lines(
-    alloc: Global,
-    text: &mut String,
-    lines: &[Line],
-    count: usize,
-) -> Result<(), AllocError> {
-    let label_width = label_width(lines);
-    let widths = column_widths(alloc, lines, count)?;
-    for line in lines {
-        push_line(text, line, label_width, widths.as_slice())?;
+        push_blanks(text, due)?;
+        push_text(text, cell.as_str())?;
+        due = 0;
     }
     Ok(())
+}
+
+/// The text of a line: its label to the left, and each text to the right of its column.
+fn line_text(
+    alloc: Global,
+    line: &Line,
+    label_width: usize,
+    widths: &[usize],
+) -> Result<String, AllocError>
+    ensures { IfOk result (λ text. IsLineText (line_data line.now) (string_bytes text)) }
+{
+    let mut text = String::new(alloc);
+    let due = label_width.saturating_sub(line.label.len());
+    push_text(&mut text, "  ")?;
+    push_text(&mut text, line.label.as_str())?;
+    push_cells(&mut text, line.cells.as_slice(), due, widths)?;
+    push_text(&mut text, "\n")?;
+    Ok(text)
+}
+
+/// The texts of lines, with their texts in so many columns.
+pub(crate) fn line_texts(
+    alloc: Global,
+    lines: &[Line],
+    count: usize,
+) -> Result<Vec<String>, AllocError>
+    ensures { IfOk result (λ texts. AllZip
+        (λ line text. IsLineText (line_data line) (string_bytes text)) lines.now texts.items) }
+{
+    let label_width = label_width(lines);
+    let widths = column_widths(alloc, lines, count)?;
+    let mut texts = Vec::with_capacity(alloc, lines.len())?;
+    for line in lines {
+        texts.push(line_text(alloc, line, label_width, widths.as_slice())?)?;
+    }
+    Ok(texts)
 }

@@ -16,8 +16,13 @@ pub(crate) struct Names<'a> {
 }
 
 impl<'a> Names<'a> {
+    ghost use Rattle.std.specs.Prelude.{◌≡◌, slice_get};
+    ghost use Rattle.report_explained.specs.Shown.{path_of};
+
     /// The path of a signal, or nothing where there is none.
-    pub fn signal(self, place: usize) -> &'a str {
+    pub fn signal(self, place: usize) -> &'a str
+        ensures { result.now ≡ path_of (slice_get self.entry.signals.now place) }
+    {
         match self.signals.get(place) {
             None => "",
             Some(signal) => signal.path.as_str(),

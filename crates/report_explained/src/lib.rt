@@ -13,17 +13,18 @@
 //! for, the failed attempts are taken in the report's order: those that began at a clock, or all,
 //! and at most so many. Each has its cause, which is why it failed by the definition of a failure,
 //! and its sheet. A sheet has the clocks from as many before the attempt's first as the booleans
-//! look back up to that of the decision, a row for each signal and counter that the assertion
-//! reads, and one for each of its booleans, with a cell for each clock.
+//! look back up to that of the decision, but not all between the first eight and the last eight; a
+//! row for each signal and counter that the assertion reads, and one for each of its booleans, with
+//! a cell for each clock.
 //!
 //! The definitions: which attempts are asked for, in `specs/Chosen.antt`; what an explanation says,
-//! in `specs/Explained.antt`; where the values of a sheet come from, in `specs/Shown.antt`; what
-//! stands between an assertion's sides, in `specs/Arrows.antt`; what is told of it, in
-//! `specs/Told.antt`; and as text, in `specs/ExplainedText.antt`. Lines are those of
+//! in `specs/Explained.antt`; what a sheet shows, in `specs/Shown.antt`; what stands between an
+//! assertion's sides, in `specs/Arrows.antt`; what is told of it, in `specs/Told.antt`; and as
+//! text, in `specs/ExplainedText.antt` and `specs/SheetText.antt`. Lines are those of
 //! `report_suites`, causes those of `judging`, values those of `expressions`.
 //!
-//! Not promised: that memory suffices, at which clocks a sheet shows a boolean, how a sheet is laid
-//! out, and which brackets the text of an expression has.
+//! Not promised, but tested: what counters and booleans are called, at which clocks a sheet shows a
+//! boolean, how wide its columns are, and the digits of a value of over 64 bits.
 #![tactic(auto)]
 
 mod arrow;
@@ -40,7 +41,7 @@ mod selection;
 mod sheet;
 mod sheet_text;
 mod text;
-mod value_text;
+mod values;
 
 pub use arrow::Arrow;
 pub use cells::RowSource;
@@ -49,5 +50,5 @@ pub use explanation::{Explanation, Judged, Reason, explain};
 pub use failed_attempt::{FailedAttempt, Standing, told_of};
 pub use selection::Wanted;
 pub use sheet::{Sheet, SheetRow};
-pub use text::explained_text;
-pub use value_text::push_value;
+pub use text::{explained_text, push_ends};
+pub use values::value_text;

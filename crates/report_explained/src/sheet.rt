@@ -1,10 +1,11 @@
 //! Sheets: the values that an attempt saw.
 
-ghost use Rattle.std.specs.Prelude.{◌≡◌, ◌++◌, ◌<◌, ◌≤◌, ◌^◌, IfOk, OnOk, map, length};
+ghost use Rattle.std.specs.Prelude.{◌≡◌, ◌++◌, ◌<◌, ◌≤◌, ◌^◌, ◌-◌, IfOk, OnOk, map, length};
+ghost use Rattle.std.specs.Prelude.{string_bytes, false};
 ghost use Rattle.report_explained.specs.declared.cells.RowSource.TheVariants.{Signal, Counter};
 ghost use Rattle.report_explained.specs.Shown.{IsShownRow, ShowsRows, ArePlaces, AreSources};
-ghost use Rattle.report_explained.specs.Shown.{listed_below};
-ghost use Rattle.report_explained.specs.Shown.{IsSheet};
+ghost use Rattle.report_explained.specs.Shown.{listed_below, is_at_end, AreShownIn};
+ghost use Rattle.report_explained.specs.Shown.{IsCalled, bits_of_row, IsSheet};
 
 use crate::asked::{Asked, Attempt};
 use crate::cells::{Read, RowSource, cells_of, has_change};
@@ -42,6 +43,26 @@ const SIDE: usize = 8;
 /// How many of the clocks between are shown, at most.
 const BETWEEN: usize = 8;
 
+/// Whether a clock is one of the first of a run, or of the last before its end.
+fn is_at_end(first: usize, end: usize, clock: usize) -> bool
+    ensures { result ≡ is_at_end first end clock }
+{
+    clock.saturating_sub(first) < SIDE || end.saturating_sub(clock) <= SIDE
+}
+
+/// Whether a clock is shown: each at both ends of a run, and between them the first at which a
+/// boolean of the assertion changes, which are counted.
+fn is_kept(read: &Read<'_>, first: usize, end: usize, clock: usize, between: &mut usize) -> bool
+    ensures { result ≡ false → is_at_end first end clock ≡ false }
+{
+    if is_at_end(first, end, clock) {
+        return true;
+    }
+    let is_new = *between < BETWEEN && has_change(read, clock);
+    *between = between.saturating_add(usize::from(is_new));
+    is_new
+}
+
 /// The clocks from so many before the attempt's first up to its last. Of a long run those at both
 /// ends, and between them the first at which a boolean of the assertion changes.
 fn clocks_of(
@@ -49,17 +70,17 @@ fn clocks_of(
     read: &Read<'_>,
     attempt: Attempt,
     before: usize,
-) -> Result<Vec<usize>, AllocError> {
+) -> Result<Vec<usize>, AllocError>
+    ensures { IfOk result (λ clocks.
+        AreShownIn (attempt.start - before) attempt.end clocks.items) }
+{
     let first = attempt.start.saturating_sub(before);
+    let last = attempt.end.max(first);
     let mut clocks = Vec::new(alloc);
     let mut between = 0usize;
-    for clock in first..attempt.end {
-        let is_side = clock - first < SIDE || attempt.end - clock <= SIDE;
-        if is_side {
+    for clock in first..last {
+        if is_kept(read, first, attempt.end, clock, &mut between) {
             clocks.push(clock)?;
-        } else if between < BETWEEN && has_change(read, clock) {
-            clocks.push(clock)?;
-            between += 1;
         }
     }
     Ok(clocks)
@@ -140,7 +161,10 @@ fn label_of(
     read: &Read<'_>,
     names: Names<'_>,
     source: RowSource,
-) -> Result<String, AllocError> {
+) -> Result<String, AllocError>
+    requires { names.signals.now ≡ read.now.suite.now.names.items }
+    ensures { IfOk result (λ label. IsCalled read.now.suite.now source (string_bytes label)) }
+{
     match source {
         RowSource::Signal(place) => String::from_str(alloc, names.signal(place)),
         RowSource::Counter(place) => String::from_str(alloc, names.counter(place)),
@@ -165,7 +189,9 @@ fn listed_text(
 }
 
 /// How many bits a row has.
-fn width_of_row(read: &Read<'_>, source: RowSource) -> u8 {
+fn width_of_row(read: &Read<'_>, source: RowSource) -> u8
+    ensures { result ≡ bits_of_row read.now.suite.now source }
+{
     match source {
         RowSource::Signal(place) => match read.suite.names.get(place) {
             None => 1,
@@ -197,6 +223,7 @@ fn row_of(
     source: RowSource,
     clocks: &[usize],
 ) -> Result<SheetRow, AllocError>
+    requires { names.signals.now ≡ read.now.suite.now.names.items }
     ensures { IfOk result (IsShownRow read.now.suite.now read.now.assertion.now
         read.now.rows.now clocks.now source) }
 {
@@ -220,6 +247,7 @@ fn rows_of(
     sources: &[RowSource],
     clocks: &[usize],
 ) -> Result<Vec<SheetRow>, AllocError>
+    requires { names.signals.now ≡ read.now.suite.now.names.items }
     ensures { IfOk result (λ rows. ShowsRows read.now.suite.now read.now.assertion.now
         read.now.rows.now clocks.now sources.now rows.items) }
 {
@@ -239,8 +267,8 @@ pub fn sheet_of(
     attempt: Attempt,
     counter_names: &[&str],
 ) -> Result<Sheet, AllocError>
-    ensures { IfOk result
-        (IsSheet read.now.suite.now read.now.assertion.now read.now.rows.now) }
+    ensures { IfOk result (IsSheet read.now.suite.now read.now.assertion.now read.now.rows.now
+        attempt.start attempt.end) }
 {
     let clocks = clocks_of(alloc, read, attempt, reach(read))?;
     let sources = sources_of(alloc, read)?;

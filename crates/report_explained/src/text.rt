@@ -1,18 +1,21 @@
 //! Failed attempts as text.
 
 ghost use Rattle.std.specs.Prelude.{◌≡◌, ◌++◌, ℕ, List, OnOk, IfOk, string_bytes, nat_lt, length};
+ghost use Rattle.std.specs.Prelude.{map};
 ghost use Rattle.std.specs.List.{AllZip, flat_map};
 ghost use Rattle.report_forms.specs.Grown.{Grows};
-ghost use Rattle.report_forms.specs.Provenances.{provenance_of};
+ghost use Rattle.report_forms.specs.Provenances.{provenance_of, time_at};
 ghost use Rattle.report_explained.specs.ExplainedText.{head_text, ends_text, next_end};
 ghost use Rattle.report_explained.specs.ExplainedText.{from_text};
 ghost use Rattle.report_explained.specs.ExplainedText.{IsSection, IsSectionOf, IsExplainedText};
 ghost use Rattle.report_explained.specs.ExplainedText.{cause_text, led_text, alone_text, plural};
+ghost use Rattle.report_explained.specs.SheetText.{line_data, head_lines, IsSheetText};
 
 use crate::arrow::Arrow;
+use crate::columns::{Line, line_texts};
 use crate::failed_attempt::FailedAttempt;
 use crate::sheet::Sheet;
-use crate::sheet_text::push_sheet;
+use crate::sheet_text::{columns_of, numbers_line, push_rows};
 use report_forms::{Provenance, push_clock, push_number, push_text};
 use std::alloc::{AllocError, Global};
 
@@ -61,8 +64,12 @@ fn push_next_ends(text: &mut String, back: usize, ends: &[usize]) -> Result<(), 
 }
 
 /// Adds the ends of the antecedent, so many clocks before those from which the consequent was
-/// asked.
-fn push_ends(text: &mut String, back: usize, ends: &[usize]) -> Result<(), AllocError>
+/// asked, as in ` 40, 41`.
+///
+/// # Errors
+///
+/// Want of memory alone.
+pub fn push_ends(text: &mut String, back: usize, ends: &[usize]) -> Result<(), AllocError>
     ensures { OnOk result (Grows (string_bytes text.old) (string_bytes text.new)
         (ends_text back ends.now)) }
 {
@@ -133,20 +140,57 @@ fn push_cause(text: &mut String, attempt: &FailedAttempt<'_>) -> Result<(), Allo
     }
 }
 
-/// The times of a sheet's clocks.
-fn times_of(alloc: Global, from: &Provenance<'_>, sheet: &Sheet) -> Result<Vec<u64>, AllocError> {
-    let mut times = Vec::with_capacity(alloc, sheet.clocks.len())?;
-    for clock in &sheet.clocks {
+/// The clocks as numbers.
+fn clock_numbers(alloc: Global, clocks: &[usize]) -> Result<Vec<u64>, AllocError>
+    ensures { IfOk result (λ numbers. numbers.items ≡ clocks.now) }
+{
+    let mut numbers = Vec::with_capacity(alloc, clocks.len())?;
+    for clock in clocks {
+        numbers.push(*clock as u64)?;
+    }
+    Ok(numbers)
+}
+
+/// The times of clocks.
+fn times_of(alloc: Global, from: &Provenance<'_>, clocks: &[usize]) -> Result<Vec<u64>, AllocError>
+    ensures { IfOk result (λ times.
+        times.items ≡ map (time_at (provenance_of from.now)) clocks.now) }
+{
+    let mut times = Vec::with_capacity(alloc, clocks.len())?;
+    for clock in clocks {
         times.push(from.time(*clock as u64))?;
     }
     Ok(times)
 }
 
-/// A sheet as text.
-fn sheet_text(alloc: Global, from: &Provenance<'_>, sheet: &Sheet) -> Result<String, AllocError> {
-    let times = times_of(alloc, from, sheet)?;
+/// The lines of the clocks and of their times.
+fn head_lines(
+    alloc: Global,
+    from: &Provenance<'_>,
+    clocks: &[usize],
+) -> Result<Vec<Line>, AllocError>
+    ensures { IfOk result (λ lines. map line_data lines.items
+        ≡ head_lines (provenance_of from.now) clocks.now) }
+{
+    let numbers = clock_numbers(alloc, clocks)?;
+    let times = times_of(alloc, from, clocks)?;
+    let mut lines = Vec::new(alloc);
+    lines.push(numbers_line(alloc, "clock", numbers.as_slice(), clocks)?)?;
+    lines.push(numbers_line(alloc, "time", times.as_slice(), clocks)?)?;
+    Ok(lines)
+}
+
+/// A sheet as text: the clocks, their times, and its rows.
+fn sheet_text(alloc: Global, from: &Provenance<'_>, sheet: &Sheet) -> Result<String, AllocError>
+    ensures { IfOk result (λ text.
+        IsSheetText (provenance_of from.now) sheet.now (string_bytes text)) }
+{
+    let clocks = sheet.clocks.as_slice();
+    let mut lines = head_lines(alloc, from, clocks)?;
+    push_rows(alloc, &mut lines, sheet)?;
+    let texts = line_texts(alloc, lines.as_slice(), columns_of(clocks))?;
     let mut text = String::new(alloc);
-    push_sheet(alloc, &mut text, sheet, times.as_slice())?;
+    push_sections(&mut text, texts.as_slice())?;
     Ok(text)
 }
 

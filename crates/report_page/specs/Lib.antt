@@ -1,1 +1,2 @@
 pub mod PageForm
+pub mod Pictures

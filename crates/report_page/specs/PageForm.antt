@@ -1,9 +1,10 @@
 -- A report as a page of HTML.
-use Rattle.std.specs.Prelude.{◌≡◌, ℕ, List, [], ◌∷◌, ◌++◌, if◌then◌else◌, codes, string_bytes, map}
+use Rattle.std.specs.Prelude.{◌≡◌, ℕ, List, [], ◌++◌, if◌then◌else◌, codes, string_bytes}
 use Rattle.std.specs.Prelude.{flat_map, slice_get, Option, None, Some}
 use Rattle.std.specs.Prelude.{String}
 use Rattle.std.specs.Global.{Global}
-use Rattle.std.specs.List.{AllZip}
+use Rattle.std.specs.Prelude.{Bool, false, ◌||◌, nat_eq, [], ◌∷◌}
+use Rattle.std.specs.List.{AllZip, starts_with}
 use Rattle.report_lines.specs.declared.line.Counts.{Counts}
 use Rattle.report_lines.specs.declared.line.Failure.{Failure}
 use Rattle.report_lines.specs.Lines.{LineData, ReportData}
@@ -12,6 +13,7 @@ use Rattle.report_forms.specs.Outcomes.{has_failed, is_untried}
 use Rattle.report_forms.specs.Escapes.{escaped}
 use Rattle.report_forms.specs.JunitForm.{number_text, clock_text}
 use Rattle.report_explained.specs.declared.failed_attempt.FailedAttempt.{FailedAttempt}
+use Rattle.report_page.specs.Pictures.{IsPicture}
 
 -- where the report comes from, and its sums
 unfoldable pub intro_text : ProvenanceData → ReportData → List ℕ
@@ -88,24 +90,50 @@ section_head p h =
     ++ clock_text p (codes ", decided at clock ") h.failure.clock
     ++ number_text (codes "; failed attempts: ") h.failed ++ codes "</p>\n"
 
--- A section of a failed attempt: its head, and then its picture.
-pub record IsSection (p : ProvenanceData) (h : PictureHead) (section : List ℕ) : Type 0 where
+-- A section of a failed attempt: its head, and then its picture, and why it failed.
+pub record IsSection (p : ProvenanceData) (a : FailedAttempt) (section : List ℕ) : Type 0 where
   pub picture : List ℕ
-  pub is : section ≡ section_head p h ++ picture
+  pub is_picture : IsPicture p a picture
+  pub is : section ≡ section_head p (head_of a) ++ picture
 
 -- the section of a failed attempt in memory
 abbrev pub IsSectionOf : ProvenanceData → FailedAttempt → String Global → Type 0
-IsSectionOf p picture section = IsSection p (head_of picture) (string_bytes section)
+IsSectionOf p a section = IsSection p a (string_bytes section)
 
--- A page: between what all pages have, where the report comes from and its sums, a row for each
--- assertion, and a section for each failed attempt that is shown, in their orders.
+-- whether a text stands somewhere in another one
+unfoldable pub has_text : List ℕ → List ℕ → Bool
+has_text text [] = starts_with nat_eq [] text
+has_text text (b ∷ bs) = starts_with nat_eq (b ∷ bs) text || has_text text bs
+
+-- neither a row of an assertion nor a section stands there
+abbrev pub IsPlain : List ℕ → Type 0
+IsPlain text =
+    (has_text (codes "<tr class") text ≡ false) × (has_text (codes "<section") text ≡ false)
+
+-- what stands between the parts of a page
+pub record Between : Type 0 where
+  pub head : List ℕ
+  pub style : List ℕ
+  pub table : List ℕ
+  pub table_end : List ℕ
+  pub end : List ℕ
+
+pub record ArePlain (b : Between) : Type 0 where
+  pub head : IsPlain b.head
+  pub style : IsPlain b.style
+  pub table : IsPlain b.table
+  pub table_end : IsPlain b.table_end
+  pub end : IsPlain b.end
+
+-- A page: the dump's path as its title, where the report comes from and its sums, a row for each
+-- assertion, and a section for each failed attempt that is shown, in their orders; and no other row
+-- and section.
 pub record IsPage (p : ProvenanceData) (r : ReportData) (pictures : List FailedAttempt)
     (page : List ℕ) : Type 0 where
-  pub front : List ℕ
-  pub before : List ℕ
-  pub after : List ℕ
-  pub end : List ℕ
+  pub between : Between
+  pub plain : ArePlain between
   pub sections : List (List ℕ)
-  pub each : AllZip (λ picture section. IsSection p (head_of picture) section) pictures sections
-  pub is : page ≡ front ++ intro_text p r ++ before ++ flat_map (row_text p) r.lines ++ after
-      ++ flat_map (λ s. s) sections ++ end
+  pub each : AllZip (IsSection p) pictures sections
+  pub is : page ≡ between.head ++ escaped p.dump ++ between.style ++ intro_text p r ++ between.table
+      ++ flat_map (row_text p) r.lines ++ between.table_end ++ flat_map (λ s. s) sections
+      ++ between.end

@@ -1,6 +1,6 @@
 //! Where the columns and rows of a picture stand.
 
-use report_explained::{Sheet, SheetRow, push_value};
+use report_explained::{Sheet, SheetRow, value_text};
 use std::alloc::{AllocError, Global};
 
 /// The height of a row.
@@ -36,19 +36,12 @@ pub(crate) fn number_of_letters(number: u64) -> usize {
     letters
 }
 
-/// The text of a value of so many bits, as `report_explained` writes it.
-pub(crate) fn cell_text(alloc: Global, value: u128, width: u8) -> Result<String, AllocError> {
-    let mut text = String::new(alloc);
-    push_value(&mut text, value, width)?;
-    Ok(text)
-}
-
 /// How many letters the widest value of a row has.
 fn letters_of_row(alloc: Global, row: &SheetRow) -> Result<usize, AllocError> {
     let mut letters = 1usize;
     for cell in &row.cells {
         if let Some(value) = cell {
-            letters = cell_text(alloc, *value, row.width)?.len().max(letters);
+            letters = value_text(alloc, *value, row.width)?.len().max(letters);
         }
     }
     Ok(letters)

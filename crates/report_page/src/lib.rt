@@ -15,11 +15,12 @@
 //! Every text from outside (names, paths, the text of booleans) stands there escaped, as in the
 //! values of attributes that `report_forms` writes.
 //!
-//! The definitions: what stands in the page, and in which order, in `specs/PageForm.antt`; where a
-//! report comes from, and how texts are escaped, in `report_forms`.
+//! The definitions: what stands in the page, and in which order, in `specs/PageForm.antt`; the
+//! marks of a picture and what they are labelled with, in `specs/Pictures.antt`; where a report
+//! comes from, and how texts are escaped, in `report_forms`.
 //!
-//! Not promised: that memory suffices, and what a picture looks like; pages are looked at in a
-//! browser (`docs/TESTED.md`).
+//! Not promised: where the marks of a picture stand, and how a page looks and is sorted; pages are
+//! looked at in a browser (`docs/TESTED.md`).
 #![tactic(auto)]
 
 mod canvas;

@@ -1,17 +1,20 @@
 //! A failed attempt as a section of the page.
 
-ghost use Rattle.std.specs.Prelude.{◌≡◌, ◌++◌, ℕ, List, OnOk, IfOk, string_bytes};
+ghost use Rattle.std.specs.Prelude.{◌≡◌, ◌++◌, [], ◌∷◌, ℕ, List, OnOk, IfOk, string_bytes, decimal};
+ghost use Rattle.std.specs.Prelude.{flat_map};
 ghost use Rattle.report_forms.specs.Grown.{Grows};
 ghost use Rattle.report_forms.specs.Provenances.{provenance_of};
 ghost use Rattle.report_page.specs.PageForm.{head_of, section_head, IsSection};
+ghost use Rattle.report_page.specs.Pictures.{Draws, DrawsRows, DrawsPicture, clock_labels};
+ghost use Rattle.report_page.specs.Pictures.{head_labels, led_text, told_by, told_text};
+ghost use Rattle.report_page.specs.Pictures.{IsPicture};
 
-use crate::canvas::{Anchor, push_begin, push_box, push_end, push_label, push_upright};
+use crate::canvas::{Anchor, Class, push_begin, push_box, push_label, push_upright};
 use crate::grid::Grid;
 use crate::wave::{BASE, push_row};
-use report_explained::{Arrow, FailedAttempt, Sheet};
+use report_explained::{Arrow, FailedAttempt, Sheet, push_ends};
 use report_forms::{Provenance, push_clock, push_escaped, push_number, push_text};
 use std::alloc::{AllocError, Global};
-use std::fmt::Write;
 
 /// Adds what a section begins with: the assertion, its place, and when the attempt began and was
 /// decided.
@@ -59,31 +62,45 @@ fn place_of(sheet: &Sheet, clock: usize) -> usize {
 }
 
 /// Adds the band over the clocks of the attempt.
-fn push_band(
-    text: &mut String,
-    picture: &FailedAttempt<'_>,
-    grid: &Grid,
-) -> Result<(), AllocError> {
+fn push_band(text: &mut String, picture: &FailedAttempt<'_>, grid: &Grid) -> Result<(), AllocError>
+    ensures { OnOk result (Draws (string_bytes text.old) (string_bytes text.new) []) }
+{
     let left = grid.left(place_of(picture.sheet, picture.failure.start as usize));
     let width = grid.end().saturating_sub(left);
-    push_box(text, "at", left, 0, width, grid.height())
+    push_box(text, Class::Attempt, left, 0, width, grid.height())
+}
+
+/// Adds a line at each of these clocks, so many clocks earlier.
+fn push_end_lines(
+    text: &mut String,
+    sheet: &Sheet,
+    back: usize,
+    ends: &[usize],
+    grid: &Grid,
+) -> Result<(), AllocError>
+    ensures { OnOk result (Draws (string_bytes text.old) (string_bytes text.new) []) }
+{
+    for end in ends {
+        let x = grid.right(place_of(sheet, end.saturating_sub(back)));
+        push_upright(text, Class::End, x, 0, grid.height())?;
+    }
+    Ok(())
 }
 
 /// Adds a line at each clock at which the antecedent ended, if there is one.
-fn push_ends(
+fn push_antecedent(
     text: &mut String,
     picture: &FailedAttempt<'_>,
     grid: &Grid,
-) -> Result<(), AllocError> {
-    if picture.arrow == Arrow::Alone {
-        return Ok(());
-    }
-    for end in picture.ends {
-        let end = end.saturating_sub(picture.arrow.back());
-        let x = grid.right(place_of(picture.sheet, end));
-        push_upright(text, "end", x, 0, grid.height())?;
-    }
-    Ok(())
+) -> Result<(), AllocError>
+    ensures { OnOk result (Draws (string_bytes text.old) (string_bytes text.new) []) }
+{
+    let back = picture.arrow.back();
+    let ends = match picture.arrow {
+        Arrow::Alone => &[],
+        _ => picture.ends,
+    };
+    push_end_lines(text, picture.sheet, back, ends, grid)
 }
 
 /// Adds a number at the head of the column at a place.
@@ -94,84 +111,135 @@ fn push_head_number(
     place: usize,
     row: usize,
     number: u64,
-) -> Result<(), AllocError> {
+) -> Result<(), AllocError>
+    ensures { OnOk result
+        (Draws (string_bytes text.old) (string_bytes text.new) (decimal number ∷ [])) }
+{
     let label = format!(in alloc; "{number}")?;
     let base = grid.top(row).saturating_add(BASE);
-    let class = if row == 0 { "clock" } else { "faint" };
-    push_label(
-        text,
-        class,
-        Anchor::Middle,
-        grid.middle(place),
-        base,
-        label.as_str(),
-    )
+    let class = if row == 0 { Class::Clock } else { Class::Faint };
+    let middle = grid.middle(place);
+    push_label(text, class, Anchor::Middle, middle, base, label.as_str())
+}
+
+/// Adds the head of the column at a place: a clock with its time.
+fn push_head(
+    alloc: Global,
+    text: &mut String,
+    from: &Provenance<'_>,
+    grid: &Grid,
+    place: usize,
+    clock: usize,
+) -> Result<(), AllocError>
+    ensures { OnOk result (Draws (string_bytes text.old) (string_bytes text.new)
+        (clock_labels (provenance_of from.now) clock)) }
+{
+    let clock = clock as u64;
+    push_upright(text, Class::Grid, grid.left(place), 0, grid.height())?;
+    push_head_number(alloc, text, grid, place, 0, clock)?;
+    push_head_number(alloc, text, grid, place, 1, from.time(clock))?;
+    Ok(())
+}
+
+/// Adds the heads of the columns of clocks.
+fn push_clock_heads(
+    alloc: Global,
+    text: &mut String,
+    from: &Provenance<'_>,
+    grid: &Grid,
+    clocks: &[usize],
+) -> Result<(), AllocError>
+    ensures { OnOk result (Draws (string_bytes text.old) (string_bytes text.new)
+        (flat_map (clock_labels (provenance_of from.now)) clocks.now)) }
+{
+    for (place, clock) in clocks.iter().enumerate() {
+        push_head(alloc, text, from, grid, place, *clock)?;
+    }
+    Ok(())
 }
 
 /// Adds the heads of the columns: clocks with their times.
 fn push_heads(
     alloc: Global,
     text: &mut String,
-    clocks: &[usize],
-    times: &[u64],
+    from: &Provenance<'_>,
     grid: &Grid,
-) -> Result<(), AllocError> {
-    push_label(text, "faint", Anchor::Start, 0, BASE, "clock")?;
+    clocks: &[usize],
+) -> Result<(), AllocError>
+    ensures { OnOk result (Draws (string_bytes text.old) (string_bytes text.new)
+        (head_labels (provenance_of from.now) clocks.now)) }
+{
     let below = grid.top(1).saturating_add(BASE);
-    push_label(text, "faint", Anchor::Start, 0, below, "time")?;
-    for (place, clock) in clocks.iter().enumerate() {
-        let time = times.get(place).copied().unwrap_or(0);
-        push_upright(text, "grid", grid.left(place), 0, grid.height())?;
-        push_head_number(alloc, text, grid, place, 0, *clock as u64)?;
-        push_head_number(alloc, text, grid, place, 1, time)?;
-    }
+    push_label(text, Class::Faint, Anchor::Start, 0, BASE, "clock")?;
+    push_label(text, Class::Faint, Anchor::Start, 0, below, "time")?;
+    push_clock_heads(alloc, text, from, grid, clocks)?;
     Ok(())
 }
 
 /// Adds the rows of a sheet.
-fn push_rows(
-    alloc: Global,
-    text: &mut String,
-    sheet: &Sheet,
-    grid: &Grid,
-) -> Result<(), AllocError> {
+fn push_rows(alloc: Global, text: &mut String, sheet: &Sheet, grid: &Grid) -> Result<(), AllocError>
+    ensures { OnOk result
+        (DrawsRows sheet.now.rows.items (string_bytes text.old) (string_bytes text.new)) }
+{
     for (number, row) in sheet.rows.iter().enumerate() {
         push_row(alloc, text, row, grid, number)?;
     }
     Ok(())
 }
 
-/// Adds the clocks at which the antecedent ended.
-fn push_end_clocks(text: &mut String, back: usize, ends: &[usize]) -> Result<(), AllocError> {
-    let mut sign = " ";
-    for end in ends {
-        let end = end.saturating_sub(back);
-        write!(text, "{sign}{end}")?;
-        sign = ", ";
-    }
+/// Adds which ends the antecedent had, and from which one the consequent can't match any more.
+fn push_led(text: &mut String, arrow: Arrow, picture: &FailedAttempt<'_>) -> Result<(), AllocError>
+    ensures { OnOk result (Grows (string_bytes text.old) (string_bytes text.new)
+        (led_text arrow picture.now)) }
+{
+    push_text(text, "The antecedent ended at clock")?;
+    push_ends(text, arrow.back(), picture.ends)?;
+    push_number(text, "; from clock ", picture.broken as u64)?;
+    push_text(text, " no match of the consequent is possible")?;
     Ok(())
 }
 
-/// Adds why an attempt failed whose assertion has no antecedent.
-fn push_alone(text: &mut String, clock: u64) -> Result<(), AllocError> {
-    text.push_str("<p class=\"told\">No match is possible after clock ")?;
-    write!(text, "{clock}.</p>\n</section>\n")
+/// Adds why the attempt failed, up to the clock.
+fn push_why(text: &mut String, picture: &FailedAttempt<'_>) -> Result<(), AllocError>
+    ensures { OnOk result (Grows (string_bytes text.old) (string_bytes text.new)
+        (told_by picture.now.arrow picture.now)) }
+{
+    match picture.arrow {
+        Arrow::Alone => push_text(text, "No match is possible"),
+        Arrow::Overlapped => push_led(text, Arrow::Overlapped, picture),
+        Arrow::Following => push_led(text, Arrow::Following, picture),
+    }
 }
 
-/// Adds why the attempt failed, in words.
-fn push_cause(text: &mut String, picture: &FailedAttempt<'_>) -> Result<(), AllocError> {
-    if picture.arrow == Arrow::Alone {
-        return push_alone(text, picture.failure.clock);
-    }
-    text.push_str("<p class=\"told\">The antecedent ended at clock")?;
-    push_end_clocks(text, picture.arrow.back(), picture.ends)?;
-    let broken = picture.broken;
-    let clock = picture.failure.clock;
-    write!(
-        text,
-        "; from clock {broken} no match of the consequent is possible after clock "
-    )?;
-    write!(text, "{clock}.</p>\n</section>\n")
+/// Adds why the attempt failed, in words, and the end of its section.
+fn push_cause(text: &mut String, picture: &FailedAttempt<'_>) -> Result<(), AllocError>
+    ensures { OnOk result (Grows (string_bytes text.old) (string_bytes text.new)
+        (told_text picture.now)) }
+{
+    push_text(text, "<p class=\"told\">")?;
+    push_why(text, picture)?;
+    push_number(text, " after clock ", picture.failure.clock)?;
+    push_text(text, ".</p>\n</section>\n")?;
+    Ok(())
+}
+
+/// Adds the marks of a picture.
+fn push_marks(
+    alloc: Global,
+    text: &mut String,
+    from: &Provenance<'_>,
+    picture: &FailedAttempt<'_>,
+    grid: &Grid,
+) -> Result<(), AllocError>
+    ensures { OnOk result (DrawsPicture (provenance_of from.now) picture.now.sheet.now
+        (string_bytes text.old) (string_bytes text.new)) }
+{
+    let clocks = picture.sheet.clocks.as_slice();
+    push_band(text, picture, grid)?;
+    push_heads(alloc, text, from, grid, clocks)?;
+    push_rows(alloc, text, picture.sheet, grid)?;
+    push_antecedent(text, picture, grid)?;
+    Ok(())
 }
 
 /// The picture and the cause of a failed attempt, with the end of its section.
@@ -179,17 +247,16 @@ fn body_of(
     alloc: Global,
     from: &Provenance<'_>,
     picture: &FailedAttempt<'_>,
-) -> Result<String, AllocError> {
+) -> Result<String, AllocError>
+    ensures { IfOk result (λ body.
+        IsPicture (provenance_of from.now) picture.now (string_bytes body)) }
+{
     let times = times_of(alloc, from, picture.sheet)?;
     let grid = Grid::of(alloc, picture.sheet, times.as_slice())?;
-    let clocks = picture.sheet.clocks.as_slice();
     let mut text = String::new(alloc);
     push_begin(&mut text, grid.end().saturating_add(1), grid.height())?;
-    push_band(&mut text, picture, &grid)?;
-    push_heads(alloc, &mut text, clocks, times.as_slice(), &grid)?;
-    push_rows(alloc, &mut text, picture.sheet, &grid)?;
-    push_ends(&mut text, picture, &grid)?;
-    push_end(&mut text)?;
+    push_marks(alloc, &mut text, from, picture, &grid)?;
+    push_text(&mut text, "</svg></div>\n")?;
     push_cause(&mut text, picture)?;
     Ok(text)
 }
@@ -201,7 +268,7 @@ pub(crate) fn section_of(
     picture: &FailedAttempt<'_>,
 ) -> Result<String, AllocError>
     ensures { IfOk result (λ section.
-        IsSection (provenance_of from.now) (head_of picture.now) (string_bytes section)) }
+        IsSection (provenance_of from.now) picture.now (string_bytes section)) }
 {
     let body = body_of(alloc, from, picture)?;
     let mut section = String::new(alloc);

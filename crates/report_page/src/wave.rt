@@ -1,10 +1,15 @@
 //! The values of a row as a drawing.
 
-use crate::canvas::{Anchor, push_box, push_label};
-use crate::grid::{Grid, ROW, cell_text};
-use report_explained::SheetRow;
+ghost use Rattle.std.specs.Prelude.{◌≡◌, [], ◌∷◌, OnOk, string_bytes};
+ghost use Rattle.report_forms.specs.Grown.{Grows};
+ghost use Rattle.report_page.specs.Pictures.{step_text, Draws, DrawsSteps, DrawsCell, DrawsBoxes};
+ghost use Rattle.report_page.specs.Pictures.{DrawsValues, DrawsRow};
+
+use crate::canvas::{Anchor, Class, push_box, push_label};
+use crate::grid::{Grid, ROW};
+use report_explained::{SheetRow, value_text};
+use report_forms::{push_number, push_text};
 use std::alloc::{AllocError, Global};
-use std::fmt::Write;
 
 /// How far waves and boxes stay from the upper and the lower side of their row.
 const SPACE: usize = 6;
@@ -28,12 +33,17 @@ fn push_step(
     left: usize,
     right: usize,
     level: usize,
-) -> Result<(), AllocError> {
+) -> Result<(), AllocError>
+    ensures { OnOk result (Grows (string_bytes text.old) (string_bytes text.new) (step_text
+        (record { goes_on = goes_on; left = left; right = right; level = level }))) }
+{
     if goes_on {
-        write!(text, "V{level}H{right}")
+        push_number(text, "V", level as u64)?;
     } else {
-        write!(text, "M{left} {level}H{right}")
+        push_number(text, "M", left as u64)?;
+        push_number(text, " ", level as u64)?;
     }
+    push_number(text, "H", right as u64)
 }
 
 /// Whether the column at a place goes on from the one before it: both have a value, and no free
@@ -46,17 +56,68 @@ fn goes_on(row: &SheetRow, grid: &Grid, place: usize) -> bool {
     before.is_some() && grid.right(place - 1) == grid.left(place)
 }
 
+/// Adds the step of a cell, if it has a value.
+fn push_cell_step(
+    text: &mut String,
+    row: &SheetRow,
+    grid: &Grid,
+    place: usize,
+    top: usize,
+) -> Result<(), AllocError>
+    ensures { OnOk result (DrawsSteps (string_bytes text.old) (string_bytes text.new)) }
+{
+    match row.cells.get(place).copied() {
+        Some(Some(value)) => {
+            let level = level_of(top, value);
+            let is_on = goes_on(row, grid, place);
+            push_step(text, is_on, grid.left(place), grid.right(place), level)?;
+            Ok(())
+        }
+        _ => Ok(()),
+    }
+}
+
+/// Adds the steps of a row of one bit.
+fn push_steps(text: &mut String, row: &SheetRow, grid: &Grid, top: usize) -> Result<(), AllocError>
+    ensures { OnOk result (DrawsSteps (string_bytes text.old) (string_bytes text.new)) }
+{
+    for place in 0..row.cells.len() {
+        push_cell_step(text, row, grid, place, top)?;
+    }
+    Ok(())
+}
+
 /// Adds the wave of a row of one bit.
-fn push_wave(text: &mut String, row: &SheetRow, grid: &Grid, top: usize) -> Result<(), AllocError> {
-    text.push_str("<path class=\"wave\" d=\"")?;
-    for (place, cell) in row.cells.iter().enumerate() {
-        if let Some(value) = cell {
-            let level = level_of(top, *value);
-            let anew = goes_on(row, grid, place);
-            push_step(text, anew, grid.left(place), grid.right(place), level)?;
+fn push_wave(text: &mut String, row: &SheetRow, grid: &Grid, top: usize) -> Result<(), AllocError>
+    ensures { OnOk result (Draws (string_bytes text.old) (string_bytes text.new) []) }
+{
+    push_text(text, "<path class=\"wave\" d=\"")?;
+    push_steps(text, row, grid, top)?;
+    push_text(text, "\"/>\n")?;
+    Ok(())
+}
+
+/// Adds the box of a cell with its value, if it has one.
+fn push_cell_box(
+    alloc: Global,
+    text: &mut String,
+    grid: &Grid,
+    place: usize,
+    top: usize,
+    cell: Option<u128>,
+    width: u8,
+) -> Result<(), AllocError>
+    ensures { OnOk result
+        (DrawsCell width cell (string_bytes text.old) (string_bytes text.new)) }
+{
+    match cell {
+        None => Ok(()),
+        Some(value) => {
+            let value = value_text(alloc, value, width)?;
+            push_value_box(text, grid, place, top, value.as_str())?;
+            Ok(())
         }
     }
-    text.push_str("\"/>\n")
 }
 
 /// Adds the boxes of a row of several bits, each with its value.
@@ -66,12 +127,12 @@ fn push_boxes(
     row: &SheetRow,
     grid: &Grid,
     top: usize,
-) -> Result<(), AllocError> {
+) -> Result<(), AllocError>
+    ensures { OnOk result (DrawsBoxes row.now.width row.now.cells.items
+        (string_bytes text.old) (string_bytes text.new)) }
+{
     for (place, cell) in row.cells.iter().enumerate() {
-        if let Some(value) = cell {
-            let value = cell_text(alloc, *value, row.width)?;
-            push_value_box(text, grid, place, top, value.as_str())?;
-        }
+        push_cell_box(alloc, text, grid, place, top, *cell, row.width)?;
     }
     Ok(())
 }
@@ -83,19 +144,35 @@ fn push_value_box(
     place: usize,
     top: usize,
     value: &str,
-) -> Result<(), AllocError> {
+) -> Result<(), AllocError>
+    ensures { OnOk result
+        (Draws (string_bytes text.old) (string_bytes text.new) (value.now ∷ [])) }
+{
     let upper = top.saturating_add(SPACE - 2);
     let height = ROW - 2 * (SPACE - 2);
-    push_box(text, "box", grid.left(place), upper, grid.width, height)?;
-    let base = top.saturating_add(BASE);
-    push_label(
-        text,
-        "value",
-        Anchor::Middle,
-        grid.middle(place),
-        base,
-        value,
-    )
+    let left = grid.left(place);
+    push_box(text, Class::Frame, left, upper, grid.width, height)?;
+    let (middle, base) = (grid.middle(place), top.saturating_add(BASE));
+    push_label(text, Class::Value, Anchor::Middle, middle, base, value)?;
+    Ok(())
+}
+
+/// Adds the values of a row: a wave of one bit, and boxes of several.
+fn push_values(
+    alloc: Global,
+    text: &mut String,
+    row: &SheetRow,
+    grid: &Grid,
+    top: usize,
+) -> Result<(), AllocError>
+    ensures { OnOk result (DrawsValues row.now (string_bytes text.old) (string_bytes text.new)) }
+{
+    if row.width == 1 {
+        push_wave(text, row, grid, top)?;
+    } else {
+        push_boxes(alloc, text, row, grid, top)?;
+    }
+    Ok(())
 }
 
 /// Adds a row of a sheet: its label, and its values.
@@ -105,13 +182,19 @@ pub(crate) fn push_row(
     row: &SheetRow,
     grid: &Grid,
     number: usize,
-) -> Result<(), AllocError> {
+) -> Result<(), AllocError>
+    ensures { OnOk result (DrawsRow row.now (string_bytes text.old) (string_bytes text.new)) }
+{
     let top = grid.row_top(number);
     let base = top.saturating_add(BASE);
-    push_label(text, "name", Anchor::Start, 0, base, row.label.as_str())?;
-    if row.width == 1 {
-        push_wave(text, row, grid, top)
-    } else {
-        push_boxes(alloc, text, row, grid, top)
-    }
+    push_label(
+        text,
+        Class::Name,
+        Anchor::Start,
+        0,
+        base,
+        row.label.as_str(),
+    )?;
+    push_values(alloc, text, row, grid, top)?;
+    Ok(())
 }

@@ -2,7 +2,6 @@ use Rattle.std.proofs.Common.{◌≡◌, ◌∙◌, Some, sym, ap, subst}
 use Rattle.std.proofs.lemmas.Option.{get_or_from_slice_get}
 use Rattle.assertions.specs.declared.assertion.Assertion.{Assertion}
 use Rattle.report_explained.specs.Failed.{HasFailed}
-use Rattle.report_explained.specs.Explained.{IsReason}
 use Rattle.report_explained.proofs.explanation.explanation_of.Goals as goal
 
 pub reason_of-requires : goal.reason_of-requires

@@ -1,11 +1,10 @@
-use Rattle.std.proofs.Common.{◌+◌, ℕ, sym, subst}
+use Rattle.std.proofs.Common.{ℕ, sym, subst}
 use Rattle.std.proofs.lemmas.Option.{MatchOption-at_none, MatchOption-at_some}
 use Rattle.assertions.specs.Attempts.{Fails}
 use Rattle.assertions.specs.Shapes.{shape}
 use Rattle.assertions.specs.Verdicts.{antecedent_of}
 use Rattle.judging.specs.Causes.{IsCause}
 use Rattle.judging.specs.Courses.{value_over}
-use Rattle.judging.specs.declared.cause.Cause.{Cause}
 use Rattle.report_explained.proofs.explanation.reason_of.Goals as goal
 
 pub unreachable-requires : goal.unreachable-requires

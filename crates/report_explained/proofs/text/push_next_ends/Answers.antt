@@ -1,5 +1,4 @@
-use Rattle.std.proofs.Common.{◌≡◌, [], ℕ, length, string_bytes, sym, subst, arith, append-nil}
-use Rattle.report_forms.specs.Grown.{Grows}
+use Rattle.std.proofs.Common.{◌≡◌, [], length, string_bytes, sym, arith, append-nil}
 use Rattle.report_forms.proofs.PieceLaws.{piece_more, pieces_all}
 use Rattle.report_explained.specs.ExplainedText.{next_end}
 use Rattle.report_explained.proofs.text.push_next_ends.Goals as goal

@@ -1,5 +1,5 @@
 use Rattle.std.proofs.Common.{string_bytes, take}
-use Rattle.std.specs.Prelude.{flat_map, String}
+use Rattle.std.specs.Prelude.{flat_map}
 use Rattle.report_forms.specs.Grown.{Grows}
 use Rattle.report_explained.proofs.text.push_sections.Given as goal
 

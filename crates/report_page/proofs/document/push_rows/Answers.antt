@@ -1,5 +1,4 @@
 use Rattle.std.proofs.Common.{◌≡◌, ◌++◌, ◌∙◌, [], ℕ, List, length, string_bytes, sym, ap, subst, arith, append-nil}
-use Rattle.std.specs.Prelude.{flat_map}
 use Rattle.report_lines.specs.declared.line.Line.{Line}
 use Rattle.report_lines.specs.Lines.{line}
 use Rattle.report_forms.specs.Grown.{Grows}
