@@ -26,7 +26,7 @@ DIGITS = set("0123456789'")
 
 def unit(word):
     """An expression without brackets, braces and blanks, in one spelling."""
-    return re.sub(r'[(){}\s]', '', word).replace('~|', '!')
+    return re.sub(r'[(){}\s]', '', word.replace('~|', '!'))
 
 
 def number_text(bits, number):

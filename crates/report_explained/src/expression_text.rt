@@ -155,6 +155,16 @@ fn needs_brackets(node: &Node) -> bool {
     }
 }
 
+/// Whether an operand needs brackets after an operator of one operand: that stands before a primary
+/// alone (A.8.3), and might make another operator with what begins the operand, as `~` and `|`.
+fn needs_brackets_after_sign(node: &Node) -> bool {
+    match node {
+        Node::Complement(_, _) => true,
+        Node::Reduce(op, _) => !is_function(*op),
+        _ => needs_brackets(node),
+    }
+}
+
 /// Adds an expression.
 #[cycle(text)]
 fn push_node(text: &mut String, node: &Node, names: Names<'_>) -> Result<(), AllocError> {
@@ -175,41 +185,46 @@ fn push_node(text: &mut String, node: &Node, names: Names<'_>) -> Result<(), All
         }
         Node::Complement(_, operand) => {
             text.push_str("~")?;
-            push_operand(text, operand, names)
+            push_operand(text, operand, needs_brackets_after_sign(operand), names)
         }
         Node::Reduce(op, operand) => push_reduction(text, *op, operand, names),
         Node::Arithmetic(_, first, steps) => {
-            push_operand(text, first, names)?;
+            push_operand(text, first, needs_brackets(first), names)?;
             push_sums(text, steps, names)
         }
         Node::Shift(_, first, steps) => {
-            push_operand(text, first, names)?;
+            push_operand(text, first, needs_brackets(first), names)?;
             push_shifts(text, steps, names)
         }
         Node::Compare(_, first, steps) => {
-            push_operand(text, first, names)?;
+            push_operand(text, first, needs_brackets(first), names)?;
             push_comparisons(text, steps, names)
         }
         Node::Connect(first, steps) => {
-            push_operand(text, first, names)?;
+            push_operand(text, first, needs_brackets(first), names)?;
             push_connections(text, steps, names)
         }
         Node::Choose(_, condition, first, second) => {
-            push_operand(text, condition, names)?;
+            push_operand(text, condition, needs_brackets(condition), names)?;
             text.push_str(" ? ")?;
-            push_operand(text, first, names)?;
+            push_operand(text, first, needs_brackets(first), names)?;
             text.push_str(" : ")?;
-            push_operand(text, second, names)
+            push_operand(text, second, needs_brackets(second), names)
         }
         Node::Past(_, operand, ticks) => push_past(text, operand, *ticks, names),
         Node::Change(op, operand) => push_call(text, change_word(*op), operand, names),
     }
 }
 
-/// Adds an operand, in brackets where it needs them.
+/// Adds an operand, in brackets where it is to have them.
 #[cycle(text)]
-fn push_operand(text: &mut String, node: &Node, names: Names<'_>) -> Result<(), AllocError> {
-    if !needs_brackets(node) {
+fn push_operand(
+    text: &mut String,
+    node: &Node,
+    is_bracketed: bool,
+    names: Names<'_>,
+) -> Result<(), AllocError> {
+    if !is_bracketed {
         return push_node(text, node, names);
     }
     text.push_str("(")?;
@@ -259,7 +274,7 @@ fn push_reduction(
         return push_call(text, reduction_word(op), operand, names);
     }
     text.push_str(reduction_word(op))?;
-    push_operand(text, operand, names)
+    push_operand(text, operand, needs_brackets_after_sign(operand), names)
 }
 
 /// Adds further parts of a concatenation.
@@ -281,7 +296,7 @@ fn push_sums(
 ) -> Result<(), AllocError> {
     for step in steps {
         text.push_str(arithmetic_sign(step.0))?;
-        push_operand(text, &step.1, names)?;
+        push_operand(text, &step.1, needs_brackets(&step.1), names)?;
     }
     Ok(())
 }
@@ -295,7 +310,7 @@ fn push_shifts(
 ) -> Result<(), AllocError> {
     for step in steps {
         text.push_str(shift_sign(step.0))?;
-        push_operand(text, &step.1, names)?;
+        push_operand(text, &step.1, needs_brackets(&step.1), names)?;
     }
     Ok(())
 }
@@ -309,7 +324,7 @@ fn push_comparisons(
 ) -> Result<(), AllocError> {
     for step in steps {
         text.push_str(comparison_sign(step.0))?;
-        push_operand(text, &step.1, names)?;
+        push_operand(text, &step.1, needs_brackets(&step.1), names)?;
     }
     Ok(())
 }
@@ -323,7 +338,7 @@ fn push_connections(
 ) -> Result<(), AllocError> {
     for step in steps {
         text.push_str(connective_sign(step.0))?;
-        push_operand(text, &step.1, names)?;
+        push_operand(text, &step.1, needs_brackets(&step.1), names)?;
     }
     Ok(())
 }
