@@ -18,10 +18,10 @@ fn number_of(claimed: &Option<Numbered>) -> Option<usize> {
     }
 }
 
-/// The numbers of the monitors that four claims answered.
-type Claimed = [Option<usize>; 4];
+/// The numbers of the monitors that three claims answered.
+type Claimed = [Option<usize>; 3];
 
-/// Four claims from a bench with all monitors of a job.
+/// Three claims from a bench with all monitors of a job.
 fn claims_of(rt: &impl Wait, alloc: Global, job: &Job) -> Result<Claimed, AllocError> {
     let monitors = first_monitors(alloc, job)?;
     let (bench, pass, mut passes) = Bench::new(alloc, job, 0, monitors.len(), 1)?;
@@ -31,23 +31,17 @@ fn claims_of(rt: &impl Wait, alloc: Global, job: &Job) -> Result<Claimed, AllocE
     };
     let (taking, first) = bench.claim(rt, taking);
     let (taking, second) = bench.claim(rt, taking);
-    let (taking, third) = bench.claim(rt, taking);
-    let (_, fourth) = bench.claim(rt, taking);
-    Ok([
-        number_of(&first),
-        number_of(&second),
-        number_of(&third),
-        number_of(&fourth),
-    ])
+    let (_, third) = bench.claim(rt, taking);
+    Ok([number_of(&first), number_of(&second), number_of(&third)])
 }
 
 /// A bench gives its monitors in the order in which they were put, and then none.
 #[test]
 fn claims_in_order(rt: HostRuntime) -> Result<(), Fail> {
-    let codes = [OVERLAPPED, TWO_POSITIONS, OVERLAPPED];
+    let codes = [OVERLAPPED, TWO_POSITIONS];
     let job = job_of(rt.alloc(), THREE, codes.as_slice())?;
     let numbers = claims_of(&rt, rt.alloc(), &job)?;
-    let wanted = [Some(0), Some(1), Some(2), None];
+    let wanted = [Some(0), Some(1), None];
     assert!(rt; numbers.as_slice() == wanted.as_slice());
     Ok(())
 }
