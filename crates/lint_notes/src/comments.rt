@@ -3,16 +3,6 @@
 use crate::note::Note;
 use std::alloc::{AllocError, Global};
 
-/// Where a byte stands among bytes; their end if it doesn't.
-fn place_in(bytes: &[u8], wanted: u8) -> usize {
-    for (at, byte) in bytes.iter().enumerate() {
-        if *byte == wanted {
-            return at;
-        }
-    }
-    bytes.len()
-}
-
 /// How many bytes the comment in the form `/* .. */` has at the front.
 fn block_length(bytes: &[u8]) -> usize {
     let Some(inside) = bytes.get(2..) else {
@@ -33,7 +23,7 @@ fn is_blank(bytes: &[u8]) -> bool {
 
 /// The first carriage return of a line, if more than white space stands behind it.
 fn lone_return(line: &[u8]) -> Option<usize> {
-    let at = place_in(line, b'\r');
+    let at = line.iter().position(|byte| *byte == b'\r')?;
     match line.get(at..) {
         Some(behind) if !is_blank(behind) => Some(at),
         _ => None,
@@ -66,9 +56,8 @@ pub fn comment_notes(alloc: Global, text: &str) -> Result<Vec<Note>, AllocError>
             next = at.saturating_add(block_length(rest));
         }
         if rest.starts_with(b"//".as_slice()) {
-            let Some(line) = rest.get(..place_in(rest, b'\n')) else {
-                continue;
-            };
+            let length = rest.iter().position(|byte| *byte == b'\n');
+            let line = length.and_then(|length| rest.get(..length)).unwrap_or(rest);
             next = at.saturating_add(line.len());
             if let Some(back) = lone_return(line) {
                 notes.push(note_at(alloc, at.saturating_add(back))?)?;

@@ -1,6 +1,7 @@
 //! Where the columns and rows of a picture stand.
 
 use report_explained::{Sheet, SheetRow, value_text};
+use report_forms::Provenance;
 use std::alloc::{AllocError, Global};
 
 /// The height of a row.
@@ -48,10 +49,14 @@ fn letters_of_row(alloc: Global, row: &SheetRow) -> Result<usize, AllocError> {
 }
 
 /// How many letters the widest text of a column has.
-fn letters_of_cells(alloc: Global, sheet: &Sheet, times: &[u64]) -> Result<usize, AllocError> {
+fn letters_of_cells(
+    alloc: Global,
+    from: &Provenance<'_>,
+    sheet: &Sheet,
+) -> Result<usize, AllocError> {
     let mut letters = 3usize;
-    for time in times {
-        letters = number_of_letters(*time).max(letters);
+    for clock in &sheet.clocks {
+        letters = number_of_letters(from.time(*clock as u64)).max(letters);
     }
     letters_of_rows(alloc, sheet, letters)
 }
@@ -110,9 +115,9 @@ fn columns_from(
 }
 
 impl Grid {
-    /// The grid of a sheet whose clocks have these times.
-    pub fn of(alloc: Global, sheet: &Sheet, times: &[u64]) -> Result<Grid, AllocError> {
-        let width = width_of(letters_of_cells(alloc, sheet, times)?);
+    /// The grid of a sheet.
+    pub fn of(alloc: Global, from: &Provenance<'_>, sheet: &Sheet) -> Result<Grid, AllocError> {
+        let width = width_of(letters_of_cells(alloc, from, sheet)?);
         let left = width_of(letters_of_labels(sheet));
         let columns = columns_from(alloc, sheet.clocks.as_slice(), left, width)?;
         let rows = sheet.rows.len().saturating_add(HEADS);

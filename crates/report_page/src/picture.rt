@@ -42,15 +42,6 @@ fn push_section_head(
     Ok(())
 }
 
-/// The times of a sheet's clocks.
-fn times_of(alloc: Global, from: &Provenance<'_>, sheet: &Sheet) -> Result<Vec<u64>, AllocError> {
-    let mut times = Vec::with_capacity(alloc, sheet.clocks.len())?;
-    for clock in &sheet.clocks {
-        times.push(from.time(*clock as u64))?;
-    }
-    Ok(times)
-}
-
 /// The place of a clock among those of a sheet, or the last place.
 fn place_of(sheet: &Sheet, clock: usize) -> usize {
     for (place, other) in sheet.clocks.iter().enumerate() {
@@ -251,8 +242,7 @@ fn body_of(
     ensures { IfOk result (λ body.
         IsPicture (provenance_of from.now) picture.now (string_bytes body)) }
 {
-    let times = times_of(alloc, from, picture.sheet)?;
-    let grid = Grid::of(alloc, picture.sheet, times.as_slice())?;
+    let grid = Grid::of(alloc, from, picture.sheet)?;
     let mut text = String::new(alloc);
     push_begin(&mut text, grid.end().saturating_add(1), grid.height())?;
     push_marks(alloc, &mut text, from, picture, &grid)?;
