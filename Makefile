@@ -11,7 +11,7 @@ PROVED ?= crates/svamon/out/svamon
 GATE ?= out/gate.txt
 
 BYTECODE := crates/answers_bytecode/out/answers_bytecode
-CORE := crates/answers_workers_core/out/answers_workers_core
+CASES_OF_CORES := crates/answers_bytecode/data/core_cases.txt
 REPORTS := crates/answers_reports/out/answers_reports
 REFUSING := scripts/tools/fail_alloc 3 crates/svamon/out/svamon
 PROGRAM := examples/fails_at_its_tick/program.svm
@@ -79,7 +79,7 @@ install:
 svamon:
 	@scripts/tools/built $@ || { cd crates/$@ && rm -f out/$@ && { rt run -- help; test -x out/$@; }; }
 
-answers_bytecode answers_texts answers_workers_core answers_reports bench_reader:
+answers_bytecode answers_texts answers_reports bench_reader:
 	@scripts/tools/built $@ || { cd crates/$@ && rm -f out/$@ && { rt run > /dev/null 2>&1; test -x out/$@; }; }
 
 bench: svamon answers_bytecode answers_texts bench_reader
@@ -97,7 +97,7 @@ bench: svamon answers_bytecode answers_texts bench_reader
 	bench/core
 	bench/threads
 
-allocations: svamon answers_bytecode answers_workers_core
+allocations: svamon answers_bytecode
 	scripts/tools/bytecode_memory.py $(BYTECODE)
 	scripts/tools/verifier_memory $(BYTECODE)
 	$(REFUSING) check $(call FILES,fails_at_its_tick) --workers 2
@@ -110,8 +110,8 @@ allocations: svamon answers_bytecode answers_workers_core
 	$(REFUSING) verify $(PROGRAM)
 	$(REFUSING) upgrade $(PROGRAM) --out /dev/null
 	$(REFUSING) run --vcd examples/fails_at_its_tick/dump.vcd --code $(PROGRAM)
-	awk 'BEGIN { RS = "\001"; ORS = "" } NR == 3' crates/answers_workers_core/stdin > $(CORE).case
-	scripts/tools/fail_alloc -i $(CORE).case 1 $(CORE)
+	awk 'BEGIN { RS = "\001"; ORS = "" } NR == 3' $(CASES_OF_CORES) > $(BYTECODE).case
+	scripts/tools/fail_alloc -i $(BYTECODE).case 1 $(BYTECODE) cores
 
 random: svamon answers_bytecode answers_reports
 	scripts/random/mangled_dumps.py $(REPORTS) $(MUTANTS) $(SEED)
@@ -140,4 +140,4 @@ soak: svamon
 
 .PHONY: help demo quick verify-quick dist test test-all test-day edits install svamon bench allocations random fuzz soak
 .PHONY: wrong-threads
-.PHONY: answers_bytecode answers_texts answers_workers_core answers_reports bench_reader
+.PHONY: answers_bytecode answers_texts answers_reports bench_reader

@@ -1,10 +1,10 @@
 #!/usr/bin/env python3
-"""Makes lists of steps for the program answers_workers_core with the answers of an independent core.
+"""Makes lists of steps for the program answers_bytecode with the answers of an independent core.
 
-`scripts/models/core_cases.py FOLDER` writes FOLDER/stdin and FOLDER/stdout. Between two cases in stdin byte 1
-stands, and in a case byte 2 between its four parts: a dump, whose clock is `clk`; the files of bytecode
-of its monitors in hexadecimal digits, one a line; a line with how many workers there are and how many
-clocks a window has; and the steps, one a line: `slide`, `claim W`, `advance W K`, `publish W`, `gather`.
+`scripts/models/core_cases.py FOLDER` writes FOLDER/data/core_cases.txt, and the part `cores` of FOLDER/stdout. Between
+two cases byte 1 stands, and in a case byte 2 between its four parts: a dump, whose clock is `clk`; the files of
+bytecode of its monitors in hexadecimal digits, one a line; a line with how many workers there are and how many clocks a
+window has; and the steps, one a line: `slide`, `claim W`, `advance W K`, `publish W`, `gather`.
 Its answer is a line `replies` with a letter for each step, D for one that was done and R for a refused
 one, and what is on the board after the last one: a line `batch M A B (START VERDICT CLOCK) ..` for each
 batch, in the order in which they were published, or, where a list is long, how many there are and a sum
@@ -17,6 +17,7 @@ from dataclasses import dataclass, field
 
 from machine_makers import accepting, over_bits, placed, some_column, some_program, step as block_of
 from machine_model import Machine
+from stored_parts import write_part
 from verifier_model import encode
 
 SHORT, STEPS = 40, 10_000
@@ -213,11 +214,11 @@ def cases():
 
 
 def main(folder):
-    os.makedirs(folder, exist_ok=True)
+    os.makedirs(f"{folder}/data", exist_ok=True)
     made = list(cases())
-    for name, text in (("stdin", "\x01".join(it for it, _ in made)), ("stdout", "".join(it for _, it in made))):
-        with open(f"{folder}/{name}", "w", newline="") as out:
-            out.write(text)
+    with open(f"{folder}/data/core_cases.txt", "w", newline="") as out:
+        out.write("\x01".join(it for it, _ in made))
+    write_part(f"{folder}/stdout", "cores", "".join(it for _, it in made))
 
 
 if __name__ == "__main__":

@@ -4,7 +4,7 @@ It is for `stdout` of crates whose program has several parts; a part's answers h
 """
 import re
 
-NAMES = ("texts", "types", "tokens", "bytecode", "verifier", "machine", "dumps", "reports", "calls")
+NAMES = ("texts", "types", "tokens", "values", "bytecode", "verifier", "machine", "cores", "dumps", "reports", "calls")
 HEAD = re.compile(rf"^== ({'|'.join(NAMES)})\n", re.MULTILINE)
 
 

@@ -27,7 +27,7 @@
 //! report says is the contract of `cli::check_one`, `check_all` and `judge_one`; the definitions
 //! stand in `cli/specs/Reported.antt`.
 //!
-//! Not promised: that each form of a dump or of a text occurs; `tests_dumps` has other dumps, and
+//! Not promised: that each form of a dump or of a text occurs; `tests_parts` has other dumps, and
 //! `make random` draws both.
 #![tactic(auto)]
 

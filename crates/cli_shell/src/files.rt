@@ -25,18 +25,23 @@ fn reason_of(kind: ErrorKind) -> &'static str {
     }
 }
 
+/// Why a text is refused that has more bytes than one may have.
+const TOO_LARGE: &str = "it has over 64 MB";
+
+/// The fault of a file that can't be used.
+fn bad_file(alloc: Global, path: &str, why: &'static str) -> Fault<'static> {
+    match String::from_str(alloc, path) {
+        Ok(path) => Fault::File(BadFile { path, why }),
+        Err(_) => Fault::Memory,
+    }
+}
+
 /// The fault of a file that could not be opened, read or made.
 fn file_fault(alloc: Global, path: &str, error: io::Error) -> Fault<'static> {
     if error.kind() == ErrorKind::OutOfMemory {
         return Fault::Memory;
     }
-    match String::from_str(alloc, path) {
-        Ok(path) => Fault::File(BadFile {
-            path,
-            why: reason_of(error.kind()),
-        }),
-        Err(_) => Fault::Memory,
-    }
+    bad_file(alloc, path, reason_of(error.kind()))
 }
 
 /// An opened file.
@@ -47,14 +52,19 @@ pub fn open<R: Files + AllocGlobal>(rt: &R, path: &str) -> Result<R::File, Fault
     }
 }
 
-/// All of an opened file.
+/// The most bytes of a text.
+const MOST_BYTES: u64 = 64 << 20;
+
+/// All of an opened text. One of over 64 MB is refused as a file, once so much of it was read: it
+/// is a dump in a text's place, or no text at all.
 pub(crate) fn read_opened<F: Read>(
     alloc: Global,
     file: &mut F,
     path: &str,
 ) -> Result<Vec<u8>, Fault<'static>> {
     let mut bytes = Vec::new(alloc);
-    match file.read_to_end(&mut bytes) {
+    match file.take(MOST_BYTES + 1).read_to_end(&mut bytes) {
+        Ok(_) if bytes.len() as u64 > MOST_BYTES => Err(bad_file(alloc, path, TOO_LARGE)),
         Ok(_) => Ok(bytes),
         Err(error) => Err(file_fault(alloc, path, error)),
     }
@@ -107,7 +117,9 @@ pub(crate) fn read_text<R: Files + AllocGlobal>(
     rt: &R,
     path: &str,
 ) -> Result<String, Fault<'static>> {
-    text_of(rt.alloc(), read_bytes(rt, path)?, path)
+    let mut file = open(rt, path)?;
+    let bytes = read_opened(rt.alloc(), &mut file, path)?;
+    text_of(rt.alloc(), bytes, path)
 }
 
 /// Makes a file of these bytes, or puts them in the place of what it held: a plain file whole or

@@ -31,14 +31,15 @@ use Rattle.verdicts.specs.Receipts.{shown_by}
 use Rattle.workers.specs.declared.worker.Published.{Published}
 use Rattle.workers.specs.Works.{IsPublished}
 use Rattle.workers.specs.Runs.{upto}
+use Rattle.workers.specs.ThreadRounds.{taken_by, IsThreadRound}
 use Rattle.workers.proofs.Telling.{program-of, placed-number, length-published, all-at, some-is}
 use Rattle.laws_headline.specs.Steps.{owned_lists}
 use Rattle.laws_headline.specs.Rounds.{IsWaiting, AreOwners, next_end, next_clocks, further}
 use Rattle.laws_headline.specs.Rounds.{all_further, batches_from}
 use Rattle.laws_headline.specs.Owners.{AreRisingFrom, total}
 use Rattle.laws_headline.specs.RoundTheorems.{IsRound}
-use Rattle.laws_headline.specs.ThreadRounds.{batch_told, monitor_told, programs_of, in_order, taken_by}
-use Rattle.laws_headline.specs.ThreadRounds.{run_lists, setting_over, IsNextWindow, IsThreadRound, IsSameRound}
+use Rattle.laws_headline.specs.ThreadRounds.{batch_told, monitor_told, programs_of, in_order}
+use Rattle.laws_headline.specs.ThreadRounds.{run_lists, setting_over, IsNextWindow, IsSameRound}
 use Rattle.laws_headline.proofs.OwnedLaws.{dealt-have-owners}
 use Rattle.laws_headline.proofs.RoundLaws.{is-round}
 use Rattle.laws_headline.proofs.SourceOrder.{in-order-keeps, dealt-in-order}
@@ -156,9 +157,14 @@ same-monitor x y program state since decided =
     ∙ ap (λ (ds : List Decided). monitor_as y.program y.state y.since ds) decided
 
 module _ (j : Job) (c : Contents) (size : ℕ) (s : CoreState) (w : Window) (board : Board)
-    (putting : Pass Numbered Hand) (passes : List (Pass Numbered Hand)) (rest : List Numbered)
-    (ps : List Published) (before : IsNextWindow j c size (length passes) s w)
-    (h : IsThreadRound j w board putting passes rest ps) where
+    (crew : ℕ) (ps : List Published) (before : IsNextWindow j c size crew s w)
+    (h : IsThreadRound j w board crew ps) where
+  abbrev passes : List (Pass Numbered Hand)
+  passes = h.passes
+
+  abbrev rest : List Numbered
+  rest = h.rest
+
   abbrev g : Setting
   g = setting_over j c size s
 
@@ -172,16 +178,19 @@ module _ (j : Job) (c : Contents) (size : ℕ) (s : CoreState) (w : Window) (boa
   abbrev ran : List (List ℕ)
   ran = run_lists passes (numbers rest)
 
+  some-pass : 0 < length passes
+  some-pass = omega (arith, before.sizes.1, h.each)
+
   all-ran : (f : ℕ → ℕ) → total (total f) ran ≡ total f (range_with_len 0 (length s.monitors))
   all-ran f =
-      let none : taken_of f putting ≡ 0 = ap (hands.total f) h.none in
-      let put : hands.total f (view putting).put ≡ total f (range_with_len 0 (length s.monitors)) =
+      let none : taken_of f h.putting ≡ 0 = ap (hands.total f) h.none in
+      let put : hands.total f (view h.putting).put ≡ total f (range_with_len 0 (length s.monitors)) =
       ap (hands.total f) (h.put ∙ ap (upto 0) (sym many) ∙ upto-range 0 (length s.monitors))
       ∙ same-total f (range_with_len 0 (length s.monitors)) in
-      omega (arith, run-weighs f passes (numbers rest) before.sizes.1, h.taken f, none, put)
+      omega (arith, run-weighs f passes (numbers rest) some-pass, h.taken f, none, put)
 
-  counted : length (map in_order ran) ≡ length passes
-  counted = length-map ran in_order ∙ length-run passes (numbers rest)
+  counted : length (map in_order ran) ≡ crew
+  counted = length-map ran in_order ∙ length-run passes (numbers rest) ∙ h.each
 
   owned : (owners : List ℕ) × AreOwners (length s.monitors) (length (map in_order ran)) owners
       × (owned_lists owners (length (map in_order ran)) ≡ map in_order ran)
@@ -192,11 +201,11 @@ module _ (j : Job) (c : Contents) (size : ℕ) (s : CoreState) (w : Window) (boa
   abbrev owners : List ℕ
   owners = owned.0
 
-  known : AreOwners (length s.monitors) (length passes) owners
+  known : AreOwners (length s.monitors) crew owners
   known = subst (λ (n : ℕ). AreOwners (length s.monitors) n owners) counted owned.1
 
-  round : IsRound g (length passes) owners s
-  round = is-round g (length passes) owners s before.rests known before.more before.sizes.0
+  round : IsRound g crew owners s
+  round = is-round g crew owners s before.rests known before.more before.sizes.0
 
   -- one monitor, and what was published of it
   module _ (i : ℕ) (m : MonitorState) (p : Published) (at : slice_get s.monitors i ≡ Some m)
@@ -252,7 +261,7 @@ module _ (j : Job) (c : Contents) (size : ℕ) (s : CoreState) (w : Window) (boa
   same-count : length s.monitors ≡ length ps
   same-count = many ∙ sym (length-published ps (length j.programs.items) h.order)
 
-  pub same-round : IsSameRound g (length passes) s ran ps
+  pub same-round : IsSameRound g crew s ran ps
   same-round =
       record {
         owners = owners;

@@ -1,7 +1,7 @@
 -- A round by threads, as a round of the core.
-use Rattle.std.specs.Prelude.{◌≡◌, ℕ, ◌+◌, ◌<◌, ◌≤◌, List, [], ◌∷◌, ◌++◌, All, length, map}
+use Rattle.std.specs.Prelude.{◌≡◌, ℕ, ◌<◌, ◌≤◌, List, [], ◌∷◌, ◌++◌, length, map}
 use Rattle.bytecode_programs.specs.Values.{ProgramData}
-use Rattle.crossbeam_queue.specs.Passes.{Pass, view}
+use Rattle.crossbeam_queue.specs.Passes.{Pass}
 use Rattle.vcd_reader.specs.Dump.{Contents}
 use Rattle.cycle_window.specs.declared.window.Window.{Window}
 use Rattle.cycle_window.specs.Held.{first_in, end_in}
@@ -13,12 +13,10 @@ use Rattle.workers_core.specs.Values.{Says, job_value, setting_of}
 use Rattle.verdicts.specs.declared.board.Board.{Board}
 use Rattle.workers_bench.specs.declared.numbered.Numbered.{Numbered}
 use Rattle.workers_bench.specs.declared.passes.Hand.{Hand}
-use Rattle.workers_bench.specs.Hands.{total, numbers, NumbersRise}
-use Rattle.workers_bench.specs.Passes.{taken_of}
+use Rattle.workers_bench.specs.Hands.{numbers, NumbersRise}
 use Rattle.verdicts.specs.Receipts.{shown_by}
 use Rattle.workers.specs.declared.worker.Published.{Published}
-use Rattle.workers.specs.Works.{IsPublished}
-use Rattle.workers.specs.Runs.{upto, published_numbers}
+use Rattle.workers.specs.ThreadRounds.{taken_by, IsThreadRound}
 use Rattle.laws_headline.specs.Steps.{owned_lists}
 use Rattle.laws_headline.specs.Rounds.{IsAtRest, AreOwners, gathered, next_end}
 use Rattle.laws_headline.specs.RoundTheorems.{IsRound}
@@ -37,25 +35,11 @@ programs_of monitors = map (λ (m : MonitorState). m.program) monitors
 abbrev pub in_order : List ℕ → List ℕ
 in_order xs = put_each xs []
 
-abbrev pub taken_by : Pass Numbered Hand → List ℕ
-taken_by pass = (view pass).taken
-
 -- The numbers of the monitors that each worker ran, worker by worker: those that its pass took. The
 -- first one also ran what the bench still held.
 abbrev pub run_lists : List (Pass Numbered Hand) → List ℕ → List (List ℕ)
 run_lists [] rest = []
 run_lists (pass ∷ passes) rest = (taken_by pass ++ rest) ∷ map taken_by passes
-
--- What a round by threads is by what its calls ensure, where memory was not refused: `put_all` and
--- `Bench::finish` of what was put, taken and still held, `round` of what was published.
-pub record IsThreadRound (j : Job) (w : Window) (board : Board) (putting : Pass Numbered Hand)
-    (passes : List (Pass Numbered Hand)) (rest : List Numbered) (ps : List Published) : Type 0 where
-  pub put : (view putting).put ≡ upto 0 (length j.programs.items)
-  pub none : taken_by putting ≡ []
-  pub taken : (h : ℕ → ℕ) → total h (view putting).put
-      ≡ (taken_of h putting + total (taken_of h) passes) + total h (numbers rest)
-  pub order : published_numbers ps ≡ upto 0 (length j.programs.items)
-  pub published : All (IsPublished j w board) ps
 
 -- The core's round with these owners: before its last step each worker's done list is what it ran,
 -- in source order, and after it the monitors and the new batches are those of the threads.
@@ -88,10 +72,9 @@ pub record IsNextWindow (j : Job) (c : Contents) (size crew : ℕ) (s : CoreStat
 abbrev pub ThreadRoundsAreSteps : Type 0
 ThreadRoundsAreSteps =
     (j : Job) (c : Contents) (size : ℕ) (s : CoreState) (w : Window) (board : Board)
-    (putting : Pass Numbered Hand) (passes : List (Pass Numbered Hand)) (rest : List Numbered)
-    (ps : List Published) → IsNextWindow j c size (length passes) s w →
-    IsThreadRound j w board putting passes rest ps →
-    IsSameRound (setting_over j c size s) (length passes) s (run_lists passes (numbers rest)) ps
+    (crew : ℕ) (ps : List Published) → IsNextWindow j c size crew s w →
+    (round : IsThreadRound j w board crew ps) →
+    IsSameRound (setting_over j c size s) crew s (run_lists round.passes (numbers round.rest)) ps
 
 -- What a pass took is in order: it rises, as `work` ensures.
 abbrev pub TakenIsInOrder : Type 0

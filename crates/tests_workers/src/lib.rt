@@ -13,7 +13,7 @@
 //! and faults. The definitions that the contract of a run cites stand in `workers`, in `specs/`.
 //!
 //! Not promised: that these are all reports that matter. More, by other means, are in the tables of
-//! the programs `answers_reports` and `answers_workers_core`; this crate has no public functions.
+//! the programs `answers_reports` and `answers_bytecode`; this crate has no public functions.
 #![tactic(auto)]
 
 #[cfg(test)]

@@ -7,9 +7,9 @@ ghost use Rattle.types_names.specs.Faults.{least};
 ghost use Rattle.types.specs.Texts.{label_byte, name_made, assertions_after, duplicates};
 
 use crate::label::label_string;
-use indexmap::IndexSet;
 use parser_grammar::{AssertionTree, ItemTree};
 use std::alloc::{AllocError, Global};
+use std::collections::BTreeSet;
 use types_signals::earlier;
 
 /// A name with the byte where it stands.
@@ -71,7 +71,7 @@ pub(crate) fn first_duplicate(
 ) -> Result<Option<usize>, AllocError>
     ensures { IfOk result (λ r. r ≡ least (duplicates (map item_of items.now))) }
 {
-    let mut known = IndexSet::new(alloc);
+    let mut known = BTreeSet::new(alloc);
     let mut before = 0usize;
     let mut fault = None;
     for item in items {

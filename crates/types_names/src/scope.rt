@@ -1,13 +1,13 @@
 //! What names stand for in a text.
 
-ghost use Rattle.std.specs.Prelude.{◌≡◌, map, option_map, IfOk, OnOk, IsTrue};
+ghost use Rattle.std.specs.Prelude.{◌≡◌, [], ◌∷◌, map, option_map, IfOk, OnOk, IsTrue, List, ℕ};
 ghost use Rattle.parser_grammar.specs.Views.{path_of, tree_of, item_of};
 ghost use Rattle.types_names.specs.Scopes.{look_up, owns, is_narrow, bits_of, meaning};
 ghost use Rattle.types_names.specs.Scopes.{meaning_by, sequence_named};
 ghost use Rattle.types_names.specs.Asked.{scope_over_any};
 ghost use Rattle.types_names.specs.Scopes.{meaning_place};
-ghost use Rattle.types_names.specs.Entries.{with_entry};
-ghost use Rattle.types_names.specs.Views.{names_in, entries_in, scope_of};
+ghost use Rattle.types_names.specs.Entries.{first_of};
+ghost use Rattle.types_names.specs.Views.{widths_of, own_in, scope_of};
 
 use crate::declared::OwnName;
 use crate::names::Names;
@@ -15,27 +15,27 @@ use crate::own::{Meaning, Own};
 use crate::path::path_string;
 use crate::paths::Paths;
 use crate::width::Width;
-use indexmap::IndexMap;
 use parser_grammar::{ExprTree, ItemTree, Path};
 use std::alloc::{AllocError, Global};
+use std::collections::BTreeMap;
 
 /// The names of a text, and the paths that it can read as signals. The text's own names come before
 /// them, and with a name declared twice the first declaration counts.
 #[derive(Drop)]
 pub struct Scope {
-    pub(crate) own: IndexMap<String, OwnName>,
+    pub(crate) own: BTreeMap<String, OwnName>,
     pub(crate) paths: Paths,
 }
 
 /// Adds a name, unless it is there.
 fn declare(
     alloc: Global,
-    names: &mut IndexMap<String, OwnName>,
+    names: &mut BTreeMap<String, OwnName>,
     name: &str,
     declared: OwnName,
 ) -> Result<(), AllocError>
-    ensures { OnOk result (entries_in names.new
-        ≡ with_entry (entries_in names.old) name.now declared.own) }
+    ensures { OnOk result ((q : List ℕ) → own_in names.new q
+        ≡ first_of (own_in names.old q) (look_up ((name.now, declared.own) ∷ []) q)) }
 {
     if names.contains_key(name) {
         return Ok(());
@@ -46,10 +46,10 @@ fn declare(
 }
 
 /// The names that the items declare.
-fn owns_of(alloc: Global, items: &[ItemTree]) -> Result<IndexMap<String, OwnName>, AllocError>
-    ensures { IfOk result (λ m. look_up (entries_in m) ≡ look_up (owns (map item_of items.now))) }
+fn owns_of(alloc: Global, items: &[ItemTree]) -> Result<BTreeMap<String, OwnName>, AllocError>
+    ensures { IfOk result (λ m. own_in m ≡ look_up (owns (map item_of items.now))) }
 {
-    let mut names = IndexMap::new(alloc);
+    let mut names = BTreeMap::new(alloc);
     let mut counters = 0usize;
     let mut sequences = 0usize;
     for item in items {
@@ -109,7 +109,7 @@ impl Scope {
 
     /// These names over the paths of a list.
     pub fn over(self, names: Names) -> Scope
-        ensures { scope_of result ≡ record (scope_of self) { dump = look_up (names_in names) } }
+        ensures { scope_of result ≡ record (scope_of self) { dump = widths_of names } }
     {
         Scope {
             paths: Paths::Listed(names),

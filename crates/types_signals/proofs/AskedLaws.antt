@@ -9,9 +9,8 @@ use Rattle.std.specs.Cmp.Lexicographic.{bytes_decides}
 use Rattle.parser_grammar.specs.Trees.{ItemForm}
 use Rattle.types_names.specs.Scopes.{Scope, look_up, owns}
 use Rattle.types_names.specs.Columns.{is_listed, columns_of}
-use Rattle.types_names.specs.Entries.{with_entry}
+use Rattle.types_names.specs.Entries.{first_of}
 use Rattle.types_names.specs.Asked.{widths_among, scope_over_any, scope_for}
-use Rattle.types_names.proofs.EntryLaws.{first_of, first-none, found-with_entry}
 
 -- one path more, which is there, and one that isn't
 one-there : (a b : Bool) (o : Option ℕ) (w : ℕ) → (b ≡ true → o ≡ Some w)
@@ -35,21 +34,20 @@ module _ (widths : List ℕ → Option ℕ) (ps : List (List ℕ)) (p : List ℕ
       ≡ widths_among (ps ++ p ∷ []) widths q
   listed-more q = sym (ap (λ b. cond b (widths q) None) (list_any-append (bytes_eq q) ps (p ∷ [])))
 
-  pub among-more : (es fs : List (List ℕ × ℕ)) (w : ℕ) → widths p ≡ Some w → fs ≡ with_entry es p w
-      → ((q : List ℕ) → look_up es q ≡ widths_among ps widths q) → (q : List ℕ)
-      → look_up fs q ≡ widths_among (ps ++ p ∷ []) widths q
-  among-more es fs w is added h q =
-      ap (λ (gs : List (List ℕ × ℕ)). look_up gs q) added
-      ∙ sym (first-none (look_up (with_entry es p w) q))
-      ∙ found-with_entry es p w [] q
+  pub among-more : (found grown : List ℕ → Option ℕ) (w : ℕ) → widths p ≡ Some w
+      → ((q : List ℕ) → grown q ≡ first_of (found q) (look_up ((p, w) ∷ []) q))
+      → ((q : List ℕ) → found q ≡ widths_among ps widths q) → (q : List ℕ)
+      → grown q ≡ widths_among (ps ++ p ∷ []) widths q
+  among-more found grown w is added h q =
+      added q
       ∙ ap (λ (o : Option ℕ). first_of o (look_up ((p, w) ∷ []) q)) (h q)
       ∙ one-there (is_listed ps q) (bytes_eq q p) (widths q) w (at-path q (Some w) is)
       ∙ listed-more q
 
-  pub among-none : (es : List (List ℕ × ℕ)) → widths p ≡ None
-      → ((q : List ℕ) → look_up es q ≡ widths_among ps widths q) → (q : List ℕ)
-      → look_up es q ≡ widths_among (ps ++ p ∷ []) widths q
-  among-none es is h q =
+  pub among-none : (found : List ℕ → Option ℕ) → widths p ≡ None
+      → ((q : List ℕ) → found q ≡ widths_among ps widths q) → (q : List ℕ)
+      → found q ≡ widths_among (ps ++ p ∷ []) widths q
+  among-none found is h q =
       h q ∙ none-there (is_listed ps q) (bytes_eq q p) (widths q) (at-path q None is) ∙ listed-more q
 
 -- what agrees at each path is one

@@ -2,9 +2,8 @@
 
 ghost use Rattle.std.specs.Prelude.{◌≡◌, map, IfOk};
 ghost use Rattle.parser_grammar.specs.Views.{item_of};
-ghost use Rattle.types_names.specs.Scopes.{look_up};
 ghost use Rattle.types_names.specs.Asked.{widths_among, scope_for};
-ghost use Rattle.types_names.specs.Views.{names_in, scope_of, columns_in};
+ghost use Rattle.types_names.specs.Views.{widths_of, scope_of, columns_in};
 
 use crate::columns::columns_of;
 use parser_grammar::ItemTree;
@@ -17,7 +16,7 @@ fn names_among<W: PathWidths>(
     asked: &SignalPaths,
     widths: &W,
 ) -> Result<Names, AllocError>
-    ensures { IfOk result (λ names. look_up (names_in names)
+    ensures { IfOk result (λ names. widths_of names
         ≡ widths_among (columns_in asked.now) (W.widths widths.now)) }
 {
     let mut names = Names::new(alloc);

@@ -7,3 +7,4 @@ pub mod Works
 pub mod Crews
 pub mod Runs
 pub mod Adding
+pub mod ThreadRounds

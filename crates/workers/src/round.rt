@@ -17,6 +17,7 @@ ghost use Rattle.workers.specs.Adding.{added_by_tasks};
 ghost use Rattle.workers.specs.Adding.{added_by_worked, kind_counted};
 ghost use Rattle.workers.specs.Runs.{upto, published_numbers, IsMember, Begins, EndsRound};
 ghost use Rattle.workers.specs.Runs.{TakenIs};
+ghost use Rattle.workers.specs.ThreadRounds.{IsThreadRound};
 
 use crate::beside::Beside;
 use crate::crew::{Task, work_all};
@@ -117,6 +118,7 @@ fn gathered<L: Tallying>(
     requires { All (EndsRound bench.now board.now window.now) all.items }
     ensures of { IfOk result (λ r. All (IsPassOfBench bench.now) r.passes.items) }
     ensures parts { IfOk result (λ r. total pass_parts r.passes.items ≡ vec_len all) }
+    ensures each { IfOk result (λ r. vec_len r.passes ≡ vec_len all) }
     ensures taken { IfOk result (λ r. TakenIs r.passes.items r.published.items) }
     ensures at_end { IfOk result (λ r.
         All (IsPublished bench.now.job.now window.now board.now) r.published.items) }
@@ -240,6 +242,9 @@ pub fn round<
     ensures published { IfOk result (λ r.
         All (IsPublished job.now window.now board.now) r.1.items) }
     ensures beside { IfOk result (λ r. B.tells beside r.2) }
+    // Who took what: what the workers' passes took and what the first of them ran after that.
+    ensures threads { IfOk result (λ r.
+        IsThreadRound job.now window.now board.now (vec_len members) r.1.items) }
 {
     let room = monitors.len();
     let (first, _) = window.bounds();

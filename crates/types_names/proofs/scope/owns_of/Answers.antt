@@ -1,11 +1,11 @@
-use Rattle.std.proofs.Common.{◌≡◌, ◌+◌, ℕ, List, ◌∷◌, map, drop, sym, ap, ◌∙◌, arith}
+use Rattle.std.proofs.Common.{◌≡◌, ◌+◌, ℕ, List, ◌∷◌, map, drop, refl, sym, ap, ◌∙◌, arith}
 use Rattle.parser_grammar.specs.Trees as trees
 use Rattle.parser_grammar.specs.declared.item.ItemTree.{ItemTree}
 use Rattle.parser_grammar.specs.Views.{item_of}
 use Rattle.types_names.specs.declared.own.Own.TheVariants.{Counter, Sequence}
 use Rattle.types_names.specs.Scopes.{look_up, owns, owns_from}
-use Rattle.types_names.specs.Views.{entries_in}
-use Rattle.types_names.proofs.EntryLaws.{left-step, left-end}
+use Rattle.types_names.specs.Views.{own_in}
+use Rattle.types_names.proofs.EntryLaws.{left-step, left-end, same-found}
 use Rattle.types_names.proofs.Lists.{at, past_end}
 use Rattle.types_names.proofs.scope.owns_of.Goals as goal
 
@@ -26,7 +26,7 @@ loop-item-preserved-in-Counter c =
       counters = omega (arith, c.loop-item.invariant.counters);
       sequences = omega (arith, c.loop-item.invariant.sequences);
       left =
-          left-step (entries_in c.loop-item.names) _ k.name.text.now
+          left-step (own_in c.loop-item.names) _ k.name.text.now
           (Counter c.loop-item.counters c.within-width.result.bits) _ _ (look_up (owns (map item_of xs)))
           c.in_ok-declare-in-Counter.ensures begins c.loop-item.invariant.left;
     }
@@ -46,15 +46,24 @@ loop-item-preserved-in-Declaration c =
       counters = omega (arith, c.loop-item.invariant.counters);
       sequences = omega (arith, c.loop-item.invariant.sequences);
       left =
-          left-step (entries_in c.loop-item.names) _ k.name.text.now (Sequence c.loop-item.sequences) _ _
+          left-step (own_in c.loop-item.names) _ k.name.text.now (Sequence c.loop-item.sequences) _ _
           (look_up (owns (map item_of xs))) c.in_ok-declare-in-Declaration.ensures begins c.loop-item.invariant.left;
     }
 
 pub returns : goal.returns
 returns c =
-    left-end (entries_in c.loop-item.names)
+    same-found (own_in c.loop-item.names) (look_up (owns (map item_of c.args.items.now)))
+    (left-end (own_in c.loop-item.names)
     (owns_from c.loop-item.counters c.loop-item.sequences
-    (map item_of (drop c.loop-item.item-index c.args.items.now))) (owns (map item_of c.args.items.now))
+    (map item_of (drop c.loop-item.item-index c.args.items.now))) (look_up (owns (map item_of c.args.items.now)))
     (ap (owns_from c.loop-item.counters c.loop-item.sequences)
     (past_end trees.ItemForm item_of c.args.items.now c.loop-item.item-index c.loop-item-test.false))
-    c.loop-item.invariant.left
+    c.loop-item.invariant.left)
+
+pub loop-item-init : goal.loop-item-init
+unfolding own_in
+loop-item-init c = record {
+  counters = omega arith;
+  sequences = omega arith;
+  left = λ q. rw c.new-names.ensures.empty refl;
+}

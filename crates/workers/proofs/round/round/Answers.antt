@@ -77,3 +77,19 @@ returns-clause-added g c = λ k.
     let same : published_count is c.put_in_order.new.published.items
     ≡ published_count is c.run_rest.new.published.items = counts-moved is _ _ c.put_in_order.ensures.moved in
     omega arith
+
+pub returns-clause-threads : goal.returns-clause-threads
+returns-clause-threads g c =
+    record {
+      putting = c.put_all-pass.result;
+      passes = c.in_ok-passes.field-0.passes.items;
+      rest = c.finish-rest.result.items;
+      each = c.in_ok-passes.ensures.each ∙ c.in_ok-all.ensures.count ∙ c.in_ok-tasks.ensures.count;
+      put = ap (λ (v : Hand). v.put) c.put_all-pass.ensures.put ∙ c.requires.order
+          ∙ ap (upto 0) c.requires.count;
+      none = ap (λ (v : Hand). v.taken) c.put_all-pass.ensures.put
+          ∙ ap (λ (v : Hand). v.taken) c.in_ok-bench.ensures.putting.1;
+      taken = c.finish-rest.ensures.rest;
+      order = returns-clause-order g c ∙ ap (upto 0) c.requires.count;
+      published = returns-clause-published g c;
+    }

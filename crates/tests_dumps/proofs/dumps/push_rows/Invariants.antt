@@ -1,5 +1,0 @@
-use Rattle.cycle_window.specs.Shown.{IsSameWindow}
-use Rattle.tests_dumps.proofs.dumps.push_rows.Given as goal
-
-abbrev pub invariant-loop-tick : goal.invariant-loop-tick
-invariant-loop-tick l = IsSameWindow l.fn.window l.window

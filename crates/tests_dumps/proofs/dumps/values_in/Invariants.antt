@@ -1,5 +1,0 @@
-use Rattle.cycle_window.specs.Held.{IsWindowOf}
-use Rattle.tests_dumps.proofs.dumps.values_in.Given as goal
-
-abbrev pub invariant-loop : goal.invariant-loop
-invariant-loop l = IsWindowOf l.window l.dump l.clocks

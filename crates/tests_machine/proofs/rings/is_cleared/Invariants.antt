@@ -1,5 +1,0 @@
-use Rattle.std.proofs.Common.{◌≡◌}
-use Rattle.tests_machine.proofs.rings.is_cleared.Given as goal
-
-abbrev pub invariant-loop : goal.invariant-loop
-invariant-loop l = (l.used.depth ≡ l.depth) × (l.used.slots ≡ l.slots)

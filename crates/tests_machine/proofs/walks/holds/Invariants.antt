@@ -1,5 +1,0 @@
-use Rattle.tests_machine.proofs.ReadLaws.{Reading}
-use Rattle.tests_machine.proofs.walks.holds.Given as goal
-
-abbrev pub invariant-loop-record : goal.invariant-loop-record
-invariant-loop-record l = Reading l.pool.live l.at
