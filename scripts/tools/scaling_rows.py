@@ -1,8 +1,8 @@
 """How time and memory grow with the input: each command over a text, a dump or a team's file of one shape, at a size
 and at twice as much. `outside` imports it.
 
-Not among them are shapes that still grow faster than they should: packages that a file uses again and again, sequences
-that repeat one another, texts of which `lint` refuses thousands of items, scopes inside one another.
+Not among them are shapes that still grow faster than they should: texts of which `lint` refuses thousands of items,
+scopes inside one another, packages that hand on names of thousands of others.
 """
 import os
 import subprocess
@@ -10,8 +10,8 @@ import sys
 
 # What twice as much may take at the most, and the seconds and megabytes below which nothing is compared.
 MOST, LEAST_SECONDS, LEAST_MEGABYTES = 2.6, 0.08, 40
-# What the names that are meant may take, on a machine many times slower than those of today.
-MOST_SECONDS = 4
+# What the names that are meant, and doubled sequences may take, on a machine many times slower than those of today.
+MOST_SECONDS, MOST_MEGABYTES = 4, 100
 HEAD = """$timescale 1ns $end
 $scope module tb $end
 $var wire 1 ! clk $end
@@ -24,10 +24,20 @@ $enddefinitions $end
 CLOCKS = "".join(f'#{10 * at}\n0!\n{at & 1}"\n{at >> 1 & 1}#\nb{at:b} %\n#{10 * at + 5}\n1!\n' for at in range(10))
 RULE = "r{}: assert property (@(posedge tb.clk) {});\n"
 OWN = "p{}: assert property (@(posedge clk) {});\n"
+KNOWN = "p{0}: assert property (@(posedge clk) a == X{0});\n"
 
 
 def many(form, count, *more):
     return "".join(form.format(at, *more) for at in range(count))
+
+
+def within(items):
+    return f"module m;\n{items}endmodule\n"
+
+
+def doubled(line, count):
+    """Declarations of which each is two of the one before it."""
+    return "".join(line.format(at, at - 1) for at in range(1, count))
 
 
 def declared(lines):
@@ -59,11 +69,31 @@ TEAMS = {
     "conditionals": (("import",), 20_000, lambda n: "`ifdef A\n" * n + "`endif\n" * n + OWN.format(1, "a")),
     "blocks": (("import",), 20_000,
                lambda n: f"module m; initial {'begin ' * n}{'end ' * n}endmodule\n{OWN.format(1, 'a')}"),
+    "packages": (("import",), 1000, lambda n: many("package k{0}; localparam X{0} = 1; endpackage\n", n)
+                 + within(many("import k{}::*;\n", n) + many(KNOWN, n))),
+    "packages of one module each": (("import",), 2000, lambda n: many(
+        "package k{0}; localparam X = 1; endpackage module m{0}; import k{0}::*;\n"
+        "p{0}: assert property (@(posedge clk) a == X); endmodule\n", n)),
+    "names of packages": (("import",), 4000, lambda n: many("package k{0}; localparam X{0} = 1; endpackage\n", n)
+                          + within(many("import k{0}::X{0};\n", n) + many(KNOWN, n))),
+    "packages without a name that is used": (("import",), 1000, lambda n: many("package k{}; endpackage\n", n)
+                                             + f"package q; {many('export k{}::*; ', n)}endpackage\n"
+                                             + within("import q::*;\n" + many(OWN, n, "a"))),
+    "lets of a declared signal": (("import",), 8192, lambda n: within(
+        f"logic a; let s0 = a;\n{doubled('let s{0} = s{1} ^ s{1};' + chr(10), n.bit_length())}"
+        f"{OWN.format(1, f's{n.bit_length() - 1}')}")),
     "ports": (("import",), 10_000, lambda n: f"module m({','.join(f'input logic x{at}' for at in range(n))});\n"
               f"{OWN.format(1, 'a')}endmodule\n"),
 }
+# Without a dump.
+ALONE = {
+    "assertions of a file": (("import",), 20_000, lambda n: many(OWN, n, "a |-> b")),
+    "declared signals": (("import",), 10_000, lambda n: within(many("logic v{};\n", n) + many(
+        "p{0}: assert property (@(posedge clk) v{0});\n", n))),
+}
 KINDS = ((TEXTS, "t.sva", "--vcd plain.vcd --sva t.sva"), (DUMPS, "x.vcd", "--vcd x.vcd --sva one.sva"),
-         (TEAMS, "t.sv", "--vcd plain.vcd --sv t.sv --scope tb --bound 5"))
+         (TEAMS, "t.sv", "--vcd plain.vcd --sv t.sv --scope tb --bound 5"),
+         (ALONE, "t.sv", "--sv t.sv --scope tb --bound 5"))
 
 
 def used(program, words):
@@ -118,9 +148,27 @@ def try_wrong_scopes(shell):
     shell.tally.note(f"names that are meant: {seconds:.1f} seconds", True, seconds < MOST_SECONDS)
 
 
+def try_doubled_sequences(shell):
+    """A sequence of 2^38 booleans that a thousand assertions use: the first are too heavy, for the others no work is
+    left, and who took the most is told."""
+    with open("t.sv", "w") as text:
+        text.write(doubled("sequence s{0}; s{1} or s{1}; endsequence\n", 39) + "sequence s0; a; endsequence\n"
+                   + many("p{0}: assert property (@(posedge clk) s38);\n", 1000))
+    status, out, said = shell.run("import t.sv")
+    lines = said.decode().splitlines()
+    heavy, much = (sum(it.split(" ", 3)[3].startswith(code) for it in lines) for code in ("TooHeavy:", "TooMuch:"))
+    told = any(it.startswith("t.sv:40:1: refused p999 TooMuch: ") for it in lines)
+    shell.tally.note("doubled sequences", (2, b"", 1000, True, True),
+                     (status, out, heavy + much, 0 < heavy < 100, told))
+    seconds, megabytes, _ = used(shell.program, "import t.sv")
+    shell.tally.note(f"doubled sequences: {seconds:.1f} seconds, {megabytes:.0f} megabytes", (True, True),
+                     (seconds < MOST_SECONDS, megabytes < MOST_MEGABYTES))
+
+
 def try_scaling(shell):
     os.chdir(shell.folder)
     try_wrong_scopes(shell)
+    try_doubled_sequences(shell)
     for name, data in (("plain.vcd", HEAD + CLOCKS), ("one.sva", RULE.format(1, "tb.a"))):
         with open(name, "w") as it:
             it.write(data)

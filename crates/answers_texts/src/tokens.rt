@@ -57,7 +57,7 @@ fn written_out(alloc: Global, text: &str, digits: &[u8]) -> Result<String, Token
     let expansions = Expansions::of(alloc, text.as_bytes(), &mut macros)?;
     let tokens = expansions.tokens(alloc)?;
     let numbers = numbers_of(alloc, digits)?;
-    let all = unrolled(alloc, tokens.as_slice(), numbers.as_slice())?;
+    let all = unrolled(alloc, tokens, numbers.as_slice())?;
     Ok(joined(alloc, all.as_slice())?)
 }
 

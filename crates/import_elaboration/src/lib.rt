@@ -21,7 +21,8 @@
 //!
 //! A refusal has its code and a byte: that of the part at fault, or of the assertion. Work is
 //! bounded: declarations use one another at most `MOST_OPENED` deep, and an assertion comes to at
-//! most `MOST_PARTS` values and parts, a constant to at most `MOST_VALUES`.
+//! most `MOST_PARTS` values, parts and instances, a constant to at most `MOST_VALUES`.
+//! `opener.work()` says how much was made.
 //!
 //! Not promised, but tested: what an assertion is opened to.
 #![tactic(auto)]

@@ -15,10 +15,10 @@ use std::alloc::{AllocError, Global};
 /// How deep declarations may use one another.
 pub const MOST_OPENED: usize = 40;
 
-/// How many values and parts an assertion may come to.
+/// How many values, parts and instances an assertion may come to.
 pub const MOST_PARTS: usize = 100_000;
 
-/// How many values a constant may come to.
+/// How many values and instances a constant may come to.
 pub const MOST_VALUES: usize = 1_000;
 
 /// What is known of the type of a signal that the file declares.
@@ -79,7 +79,7 @@ pub struct Opener<'f, 't> {
     pub(crate) disable: Option<(ExpressionId, EnvironmentId)>,
     /// How many local variables there are.
     pub(crate) locals: usize,
-    /// How many values and parts may still be made.
+    /// How many values, parts and instances may still be made.
     left: usize,
     /// The value that was kept last of a constant whose bits aren't counted from 0 at the right.
     pub(crate) ranged_constant: Option<ValueId>,
@@ -123,8 +123,17 @@ impl<'f, 't> Opener<'f, 't> {
         &self.made
     }
 
-    /// Begins an assertion in a scope, with its local variables; it may come to so many values and
-    /// parts.
+    /// How much was made so far: values and parts, instances, and trees that were read.
+    pub fn work(&self) -> usize {
+        let trees = self.parser.trees();
+        let read = trees.expressions.len().saturating_add(trees.forms.len());
+        let made = self.made.values.len().saturating_add(self.made.parts.len());
+        read.saturating_add(made)
+            .saturating_add(self.environments.len())
+    }
+
+    /// Begins an assertion in a scope, with its local variables; it may come to so many values,
+    /// parts and instances.
     pub(crate) fn begin(
         &mut self,
         scope: ScopeId,
@@ -147,6 +156,7 @@ impl<'f, 't> Opener<'f, 't> {
         &mut self,
         environment: Environment<'t>,
     ) -> Result<EnvironmentId, Refused> {
+        self.left = self.left.saturating_sub(1);
         let place = self.environments.len();
         let first_local = self.locals;
         self.locals = first_local.saturating_add(environment.locals.len());

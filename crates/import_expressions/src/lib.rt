@@ -26,6 +26,8 @@
 //! Work is bounded: an assertion comes to so many values and terms, and values lie so deep in one
 //! another; what passes that is `TooHeavy`.
 //!
+//! The definition: a path as rules spell it, in `specs/Paths.antt`.
+//!
 //! Not promised, but tested (`scripts/tools/team_texts.py`): that a term is worth what its value
 //! is.
 #![tactic(auto)]

@@ -1,5 +1,11 @@
 //! Paths, as rules spell them.
 
+ghost use Rattle.std.specs.Prelude.{◌≡◌, ◌++◌, [], OnOk, IfSome, IfNone, flat_map, option_map};
+ghost use Rattle.std.specs.Prelude.{codes};
+ghost use Rattle.import_expressions.specs.Paths.{word_of, first_of, is_rooted};
+ghost use Rattle.import_expressions.specs.Paths.{from_root, is_dot_or_end, has_first};
+ghost use Rattle.import_expressions.specs.Paths.{before, spelled_path};
+
 use crate::reason::Reason;
 use import_tokens::{Kind, Symbol, Token};
 use import_trees::{Path, Refusal, plain_name};
@@ -19,14 +25,24 @@ pub fn is_free_word(text: &[u8]) -> bool {
     }
 }
 
-/// The tokens of a path without `$root.` before them, and whether that is there.
-fn from_root<'t>(path: Path<'t>) -> (&'t [Token<'t>], bool) {
-    match path.tokens.first() {
-        Some(token) if token.text == b"$root".as_slice() => {
-            (path.tokens.get(2..).unwrap_or(&[]), true)
-        }
-        _ => (path.tokens, false),
+/// Whether `$root` stands before the names of a path.
+fn is_rooted(tokens: &[Token]) -> bool
+    ensures { result ≡ is_rooted tokens.now }
+{
+    match tokens.first() {
+        Some(token) => token.text == b"$root".as_slice(),
+        None => false,
     }
+}
+
+/// The tokens of a path without `$root.` before them.
+fn from_root<'t>(tokens: &'t [Token<'t>]) -> &'t [Token<'t>]
+    ensures { result.now ≡ from_root tokens.now }
+{
+    if is_rooted(tokens) {
+        return &tokens[2.min(tokens.len())..];
+    }
+    tokens
 }
 
 /// The first word of a path with dots.
@@ -39,34 +55,61 @@ fn first_word(path: &[u8]) -> &[u8] {
     path
 }
 
-fn word_of<'t>(token: Option<&Token<'t>>) -> &'t [u8] {
-    match token {
+/// The first word of a path; nothing of a path of nothing.
+fn first_of<'t>(tokens: &[Token<'t>]) -> &'t [u8]
+    ensures { result.now ≡ first_of tokens.now }
+{
+    match tokens.first() {
         Some(token) => plain_name(token.text),
         None => b"",
     }
 }
 
-/// What stands before a path, if something does.
-fn scope_before<'p>(path: Path, scope: Option<&'p [u8]>) -> Option<&'p [u8]> {
-    let (tokens, rooted) = from_root(path);
-    match scope {
-        Some(scope) if !rooted && first_word(scope) != word_of(tokens.first()) => Some(scope),
-        _ => None,
+/// Whether a path ends here, or goes on with a dot.
+fn is_dot_or_end(rest: &[u8]) -> bool
+    ensures { result ≡ is_dot_or_end rest.now }
+{
+    match rest.first() {
+        Some(byte) => *byte == b'.',
+        None => true,
     }
+}
+
+/// Whether this is the first word of a path.
+fn has_first(word: &[u8], path: &[u8]) -> bool
+    ensures { result ≡ has_first word.now path.now }
+{
+    if !path.starts_with(word) {
+        return false;
+    }
+    is_dot_or_end(&path[word.len()..])
+}
+
+/// The scope that stands before a path, if one does.
+fn scope_before<'p>(tokens: &[Token], scope: Option<&'p [u8]>) -> Option<&'p [u8]>
+    ensures some { IfSome result
+        (λ own. before (option_map (λ s. s.now) scope.entry) tokens.now ≡ own.now ++ codes ".") }
+    ensures none { IfNone result
+        (before (option_map (λ s. s.now) scope.entry) tokens.now ≡ []) }
+{
+    let scope = scope?;
+    if is_rooted(tokens) || has_first(first_of(tokens), scope) {
+        return None;
+    }
+    Some(scope)
 }
 
 /// Refuses a path that no rule can spell.
 pub(crate) fn check_path(path: Path, scope: Option<&[u8]>) -> Result<(), Reason> {
-    let (tokens, _) = from_root(path);
-    for token in tokens {
+    for token in from_root(path.tokens) {
         match token.kind {
             Kind::Word | Kind::Escaped | Kind::Symbol(Symbol::Dot) => {}
             _ => return Err(Reason::OUTSIDE),
         }
     }
-    let first = match scope_before(path, scope) {
+    let first = match scope_before(path.tokens, scope) {
         Some(scope) => first_word(scope),
-        None => word_of(tokens.first()),
+        None => first_of(from_root(path.tokens)),
     };
     if is_free_word(first) {
         return Ok(());
@@ -74,18 +117,36 @@ pub(crate) fn check_path(path: Path, scope: Option<&[u8]>) -> Result<(), Reason>
     Err(Reason::Known(Refusal::NoWord))
 }
 
-/// Adds a path; a scope, where one is given, stands before a path whose first word isn't the
-/// scope's first.
-pub fn push_path(out: &mut Vec<u8>, path: Path, scope: Option<&[u8]>) -> Result<(), AllocError> {
-    if let Some(scope) = scope_before(path, scope) {
+/// Adds what stands before a path.
+fn push_scope(out: &mut Vec<u8>, tokens: &[Token], scope: Option<&[u8]>) -> Result<(), AllocError>
+    ensures { OnOk result (out.new.items
+        ≡ out.old.items ++ before (option_map (λ s. s.now) scope.entry) tokens.now) }
+{
+    if let Some(scope) = scope_before(tokens, scope) {
         out.extend_from_slice(scope)?;
         out.extend_from_slice(b".")?;
     }
-    let (tokens, _) = from_root(path);
+    Ok(())
+}
+
+/// Adds names and dots.
+fn push_words(out: &mut Vec<u8>, tokens: &[Token]) -> Result<(), AllocError>
+    ensures { OnOk result (out.new.items ≡ out.old.items ++ flat_map word_of tokens.now) }
+{
     for token in tokens {
         out.extend_from_slice(plain_name(token.text))?;
     }
     Ok(())
+}
+
+/// Adds a path; a scope, where one is given, stands before a path whose first word isn't the
+/// scope's first.
+pub fn push_path(out: &mut Vec<u8>, path: Path, scope: Option<&[u8]>) -> Result<(), AllocError>
+    ensures { OnOk result (out.new.items ≡ out.old.items
+        ++ spelled_path (option_map (λ s. s.now) scope.entry) path.entry.tokens.now) }
+{
+    push_scope(out, path.tokens, scope)?;
+    push_words(out, from_root(path.tokens))
 }
 
 /// The text of a path.

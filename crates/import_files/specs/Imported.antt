@@ -12,21 +12,24 @@ use Rattle.import_files.specs.declared.outcome.Extent.{Extent}
 use Rattle.import_files.specs.declared.outcome.Extent.TheVariants as extents
 use Rattle.import_files.specs.declared.outcome.Fate.{Fate}
 use Rattle.import_files.specs.declared.outcome.Fate.TheVariants as fates
+use Rattle.import_files.specs.declared.reading.Reading.{Reading}
 use Rattle.import_files.specs.Written.{FateSays}
 
--- what is written of an assertion says what was opened, under the name that its outcome tells
-abbrev pub OutcomeSays : Option ℕ → Outcome → Type 0
-OutcomeSays bound outcome = FateSays bound (string_bytes outcome.name) outcome.fate
+-- what is written of an assertion says what was opened that begins where its outcome tells, under
+-- the name that this tells
+abbrev pub OutcomeSays : Reading → Outcome → Type 0
+OutcomeSays reading outcome =
+    FateSays reading outcome.at (string_bytes outcome.name) outcome.fate
 
 -- Each token that begins an assertion has one outcome, in their order, once generate loops are
 -- written out; and each that is written says what was opened.
-pub record AreOfAll (text : List ℕ) (bound : Option ℕ) (outcomes : List Outcome) : Type 0 where
+pub record AreOfAll (text : List ℕ) (reading : Reading) (outcomes : List Outcome) : Type 0 where
   pub tokens : List Token
   pub unrolled : List Token
   pub read : Reads text 0 tokens
   pub unrolls : Unrolls tokens unrolled
   pub each : map (λ o. o.word) outcomes ≡ word_places 0 unrolled
-  pub said : All (OutcomeSays bound) outcomes
+  pub said : All (OutcomeSays reading) outcomes
 
 -- what is written of an assertion
 abbrev pub text_in : Fate → List ℕ

@@ -5,6 +5,7 @@ use crate::reading::Reading;
 use import_elaboration::{Parts, Shape, Type, Value, ValueId, Variable};
 use import_expressions::{DumpSignal, known_signal, push_path};
 use import_scopes::NoteKind;
+use indexmap::IndexSet;
 use std::alloc::{AllocError, Global};
 
 /// The dump's signal that a declared one is read as, if it has one.
@@ -41,15 +42,35 @@ fn is_of_other_width(
     }
 }
 
-/// Whether a select takes bits of a value.
-fn is_selected(parts: &Parts<'_>, value: ValueId) -> bool {
-    parts.values.as_slice().iter().any(|node| match node.value {
-        Value::Index(base, _) => base == value,
-        Value::Slice(base, _, _) => base == value,
-        Value::PartUp(base, _, _) => base == value,
-        Value::PartDown(base, _, _) => base == value,
-        _ => false,
-    })
+/// Notes that a select takes bits of a value.
+fn note_selected(selected: &mut [bool], value: ValueId) {
+    if let Some(mark) = selected.get_mut(value.0) {
+        *mark = true;
+    }
+}
+
+/// As many marks as values, none of them set.
+fn no_marks(alloc: Global, count: usize) -> Result<Vec<bool>, AllocError> {
+    let mut marks = Vec::new(alloc);
+    for _ in 0..count {
+        marks.push(false)?;
+    }
+    Ok(marks)
+}
+
+/// Of each value of an opening, whether a select takes bits of it.
+fn selected_of(alloc: Global, parts: &Parts<'_>) -> Result<Vec<bool>, AllocError> {
+    let mut selected = no_marks(alloc, parts.values.len())?;
+    for node in parts.values.as_slice() {
+        match node.value {
+            Value::Index(base, _)
+            | Value::Slice(base, _, _)
+            | Value::PartUp(base, _, _)
+            | Value::PartDown(base, _, _) => note_selected(selected.as_mut_slice(), base),
+            _ => {}
+        }
+    }
+    Ok(selected)
 }
 
 /// Why selects of a vector that the file declares with a range would take other bits in a rule, if
@@ -122,11 +143,13 @@ fn unranged_cause(known: Option<DumpSignal<'_>>) -> Option<(&'static str, &'stat
 }
 
 /// Why a signal can't be read as the file declares it, if it can't: a code and what may be done.
+/// A select takes bits of it or not.
 fn cause_of(
     alloc: Global,
     parts: &Parts<'_>,
     reading: &Reading<'_>,
     variable: &Variable<'_>,
+    is_selected: bool,
 ) -> Result<Option<(&'static str, &'static str)>, AllocError> {
     if !variable.depends && is_of_other_width(alloc, parts, reading, variable)? {
         return Ok(Some((
@@ -135,7 +158,7 @@ fn cause_of(
              give the --scope of this module",
         )));
     }
-    if !is_selected(parts, variable.value) {
+    if !is_selected {
         return Ok(None);
     }
     match variable.shape {
@@ -166,8 +189,10 @@ pub(crate) fn first_unfit(
     parts: &Parts<'_>,
     reading: &Reading<'_>,
 ) -> Result<Option<Cause>, AllocError> {
+    let selected = selected_of(alloc, parts)?;
     for variable in parts.variables.as_slice() {
-        if let Some((code, hint)) = cause_of(alloc, parts, reading, variable)? {
+        let is_selected = selected.get(variable.value.0).copied().unwrap_or(false);
+        if let Some((code, hint)) = cause_of(alloc, parts, reading, variable, is_selected)? {
             return Ok(Some(Cause {
                 code,
                 hint,
@@ -207,16 +232,17 @@ fn kind_of(
 }
 
 /// Adds a remark on each signal of an opening that the file declares, if something is to be told of
-/// it and none was added before.
+/// it and none was added before; the bytes of those that were are noted.
 pub(crate) fn note_variables(
     alloc: Global,
     remarks: &mut Vec<Remark>,
+    noted: &mut IndexSet<usize>,
     parts: &Parts<'_>,
     reading: &Reading<'_>,
 ) -> Result<(), AllocError> {
     for variable in parts.variables.as_slice() {
         let at = variable.declared_at;
-        if remarks.iter().any(|remark| remark.at == at) {
+        if noted.contains(&at) {
             continue;
         }
         let Some(kind) = kind_of(alloc, parts, reading, variable)? else {
@@ -227,6 +253,7 @@ pub(crate) fn note_variables(
             Err(_) => String::new(alloc),
         };
         remarks.push(Remark { kind, text, at })?;
+        noted.insert(at)?;
     }
     Ok(())
 }

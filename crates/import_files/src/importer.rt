@@ -6,7 +6,7 @@ ghost use Rattle.import_properties.specs.Shapes.{written_form};
 ghost use Rattle.import_checks.specs.Meanings.{IsMeaning};
 ghost use Rattle.import_rewriting.specs.Rewriting.{IsRewriting};
 ghost use Rattle.import_text.specs.Texts.{SaysRewriting};
-ghost use Rattle.import_files.specs.Written.{FateSays, SaysProperty};
+ghost use Rattle.import_files.specs.Written.{FateSays, SaysProperty, whole_path};
 
 use crate::declared::{first_unfit, has_unknown_type, note_variables};
 use crate::halves::halves_of;
@@ -14,7 +14,7 @@ use crate::labels::Labels;
 use crate::names::{first_missing, missing_clock, wide_clock};
 use crate::outcome::{Cause, Fate, Half, Marks, Remark};
 use crate::reading::Reading;
-use crate::stop::{Stop, not_checked, not_rewritten};
+use crate::stop::{Stop, elsewhere, not_checked, not_rewritten, too_much};
 use crate::vacuity::{joins_booleans, keeps_vacuity};
 use import_checks::{is_meaning, mean_together};
 use import_elaboration::{Opened, Opener, PartId, Parts};
@@ -24,7 +24,14 @@ use import_rewriting::{Rewriting, rewritten};
 use import_scopes::{Assertion, File};
 use import_text::{Spelling, says_rewriting};
 use import_trees::Path;
+use indexmap::IndexSet;
 use std::alloc::{AllocError, Global};
+
+/// How much work all assertions of a text may take beside that of each of its tokens.
+const MOST_WORK: usize = 1_000_000;
+
+/// How much work they may take for each token.
+const WORK_OF_TOKEN: usize = 32;
 
 /// What is known while the assertions of a file are written, one after another.
 #[derive(Drop)]
@@ -36,6 +43,13 @@ pub(crate) struct Importer<'f, 't, 'w> {
     clock: Option<Vec<u8>>,
     /// The nets and variables of the file that are read as signals.
     remarks: Vec<Remark>,
+    /// The bytes of these.
+    noted: IndexSet<usize>,
+    /// How much work further assertions may take.
+    left: usize,
+    /// How much work one assertion took at the most, and the byte at which that begins.
+    most: usize,
+    heaviest: usize,
 }
 
 /// What becomes of an assertion, and what is told of it beside that.
@@ -73,10 +87,12 @@ fn text_of(alloc: Global, bytes: &[u8]) -> Result<String, AllocError> {
 }
 
 impl<'f, 't, 'w> Importer<'f, 't, 'w> {
+    /// Nothing is written yet, of a text of so many tokens.
     pub(crate) fn new(
         alloc: Global,
         file: &'f File<'t>,
         reading: Reading<'w>,
+        tokens: usize,
     ) -> Result<Importer<'f, 't, 'w>, AllocError>
         ensures { IfOk result (λ importer. importer.reading ≡ reading.entry) }
     {
@@ -90,11 +106,49 @@ impl<'f, 't, 'w> Importer<'f, 't, 'w> {
             reading,
             clock,
             remarks: Vec::new(alloc),
+            noted: IndexSet::new(alloc),
+            left: MOST_WORK.saturating_add(WORK_OF_TOKEN.saturating_mul(tokens)),
+            most: 0,
+            heaviest: 0,
         })
     }
 
+    /// Takes note of the work that an assertion took which begins at a byte.
+    fn spend(&mut self, work: usize, at: usize)
+        ensures { self.new.reading ≡ self.old.reading }
+    {
+        self.left = self.left.saturating_sub(work);
+        if work > self.most {
+            self.most = work;
+            self.heaviest = at;
+        }
+    }
+
+    /// An assertion that begins at a byte, with all names written out, if further work may be done.
+    fn opened(
+        &mut self,
+        opener: &mut Opener<'f, 't>,
+        assertion: Assertion<'t>,
+        at: usize,
+    ) -> Result<Opened<'t>, Stop>
+        ensures there { IfOk result (λ opened. opened.at ≡ at) }
+        ensures kept { self.new.reading ≡ self.old.reading }
+    {
+        if self.left == 0 {
+            return Err(too_much(self.heaviest));
+        }
+        if assertion.at != at {
+            return Err(elsewhere(at));
+        }
+        let opened = opener.open(assertion);
+        self.spend(opener.work(), at);
+        Ok(opened?)
+    }
+
     /// The whole path of a clock.
-    fn clock_path(&self, clock: Path<'t>) -> Result<Vec<u8>, AllocError> {
+    fn clock_path(&self, clock: Path<'t>) -> Result<Vec<u8>, AllocError>
+        ensures { IfOk result (λ path. path.items ≡ whole_path self.now.reading clock.entry) }
+    {
         let mut path = Vec::new(self.alloc);
         push_path(&mut path, clock, self.reading.scope)?;
         Ok(path)
@@ -171,7 +225,8 @@ impl<'f, 't, 'w> Importer<'f, 't, 'w> {
         Ok((rewriting, marks))
     }
 
-    /// A text, where what it spells is the one assertion of that name that a rewriting is.
+    /// A text, where what it spells is the one assertion of that name that a rewriting is, by the
+    /// clock of what was opened.
     fn read_back(
         &self,
         text: Vec<u8>,
@@ -179,17 +234,20 @@ impl<'f, 't, 'w> Importer<'f, 't, 'w> {
         rewriting: &Rewriting,
         opened: &Opened<'t>,
     ) -> Result<Vec<u8>, Stop>
-        ensures { IfOk result (λ kept. SaysRewriting name.now (is_some opened.now.disable)
+        ensures { IfOk result (λ kept. SaysRewriting name.now
+            (whole_path self.now.reading opened.now.clock) (is_some opened.now.disable)
             (written_form rewriting.now.antecedent.value)
             (written_form rewriting.now.consequent.value) kept.items) }
     {
         let antecedent = &rewriting.antecedent;
         let consequent = &rewriting.consequent;
         let is_disabled = opened.disable.is_some();
+        let path = self.clock_path(opened.clock)?;
         if says_rewriting(
             self.alloc,
             text.as_slice(),
             name.as_bytes(),
+            path.as_slice(),
             is_disabled,
             antecedent,
             consequent,
@@ -212,7 +270,8 @@ impl<'f, 't, 'w> Importer<'f, 't, 'w> {
         name: &str,
     ) -> Result<(Vec<u8>, Marks), Stop>
         ensures { IfOk result (λ r. SaysProperty self.now.reading.bound lowered.now.property
-            (is_some opened.now.disable) name.now r.0.items) }
+            (whole_path self.now.reading opened.now.clock) (is_some opened.now.disable)
+            name.now r.0.items) }
     {
         let (rewriting, marks) = self.rewriting(parts, opened, lowered)?;
         let Reading { scope, widths, .. } = self.reading;
@@ -233,7 +292,7 @@ impl<'f, 't, 'w> Importer<'f, 't, 'w> {
     /// What was opened as one assertion.
     fn whole(&self, parts: &mut Parts<'t>, opened: &Opened<'t>, name: &str) -> Result<Told, Stop>
         ensures { IfOk result (λ told.
-            FateSays self.now.reading.bound name.now told.fate) }
+            FateSays self.now.reading opened.now.at name.now told.fate) }
     {
         let lowered = self.meant(parts, opened)?;
         let (text, marks) = self.spelled(parts, opened, &lowered, name)?;
@@ -250,7 +309,8 @@ impl<'f, 't, 'w> Importer<'f, 't, 'w> {
         name: String,
     ) -> Result<(Half, Marks), Stop>
         ensures { IfOk result (λ r. SaysProperty self.now.reading.bound lowered.now.property
-            (is_some opened.now.disable) (string_bytes r.0.name) r.0.text.items) }
+            (whole_path self.now.reading opened.now.clock) (is_some opened.now.disable)
+            (string_bytes r.0.name) r.0.text.items) }
     {
         let (text, marks) = self.spelled(parts, opened, lowered, name.as_str())?;
         Ok((Half { name, text }, marks))
@@ -266,7 +326,7 @@ impl<'f, 't, 'w> Importer<'f, 't, 'w> {
         labels: &mut Labels,
     ) -> Result<Option<Told>, Stop>
         ensures { IfOk result (λ some. IfSome some (λ told.
-            FateSays self.now.reading.bound name.now told.fate)) }
+            FateSays self.now.reading opened.now.at name.now told.fate)) }
     {
         let alloc = self.alloc;
         let Some(halves) = halves_of(alloc, parts, opened.body)? else {
@@ -296,7 +356,7 @@ impl<'f, 't, 'w> Importer<'f, 't, 'w> {
         labels: &mut Labels,
     ) -> Result<Told, Stop>
         ensures { IfOk result (λ told.
-            FateSays self.now.reading.bound name.now told.fate) }
+            FateSays self.now.reading opened.now.at name.now told.fate) }
     {
         let stop = match self.whole(parts, opened, name) {
             Ok(told) => return Ok(told),
@@ -310,21 +370,22 @@ impl<'f, 't, 'w> Importer<'f, 't, 'w> {
         Err(stop)
     }
 
-    /// What becomes of an assertion that is written under a name.
+    /// What becomes of an assertion that begins at a byte, and is written under a name.
     fn written(
         &mut self,
         assertion: Assertion<'t>,
+        at: usize,
         name: &str,
         labels: &mut Labels,
     ) -> Result<Told, Stop>
         ensures said { IfOk result (λ told.
-            FateSays self.old.reading.bound name.now told.fate) }
+            FateSays self.old.reading at name.now told.fate) }
         ensures kept { self.new.reading ≡ self.old.reading }
     {
         let mut opener = Opener::new(self.alloc, self.file);
-        let opened = opener.open(assertion)?;
+        let opened = self.opened(&mut opener, assertion, at)?;
         let clock = self.clock_path(opened.clock)?;
-        let (path, at) = (clock.as_slice(), opened.at);
+        let path = clock.as_slice();
         if let Some(missing) = missing_clock(self.alloc, &self.reading, path, at)? {
             return Ok(unwritten(Fate::Unknown(missing)));
         }
@@ -342,7 +403,8 @@ impl<'f, 't, 'w> Importer<'f, 't, 'w> {
             return Ok(unwritten(Fate::Refused(cause)));
         }
         let (alloc, reading) = (self.alloc, self.reading);
-        note_variables(alloc, &mut self.remarks, opener.parts(), &reading)?;
+        let (remarks, noted) = (&mut self.remarks, &mut self.noted);
+        note_variables(alloc, remarks, noted, opener.parts(), &reading)?;
         self.spelled_or_halved(&mut opener.made, &opened, name, labels)
     }
 
@@ -351,18 +413,20 @@ impl<'f, 't, 'w> Importer<'f, 't, 'w> {
         self.remarks
     }
 
-    /// What becomes of an assertion that is written under a name, if it can be.
+    /// What becomes of an assertion that begins at a byte, and is written under a name, if it can
+    /// be.
     pub(crate) fn told(
         &mut self,
         assertion: Assertion<'t>,
+        at: usize,
         name: &str,
         labels: &mut Labels,
     ) -> Result<Told, AllocError>
         ensures said { IfOk result (λ told.
-            FateSays self.old.reading.bound name.now told.fate) }
+            FateSays self.old.reading at name.now told.fate) }
         ensures kept { self.new.reading ≡ self.old.reading }
     {
-        match self.written(assertion, name, labels) {
+        match self.written(assertion, at, name, labels) {
             Ok(told) => Ok(told),
             Err(Stop::Refused(cause)) => Ok(unwritten(Fate::Refused(cause))),
             Err(Stop::Memory) => Err(AllocError),

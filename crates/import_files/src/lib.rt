@@ -17,14 +17,16 @@
 //! can't be had is refused alone, with a code, a place and a hint. Labels are kept, and made where
 //! there is none: `assert_N` is the Nth assertion. A label that is there already gets a number, and
 //! so does one whose counters could have the name of a signal.
-//! Assertions of another clock than the one that counts are refused.
+//! Assertions of another clock than the one that counts are refused. All assertions share one
+//! budget of work, which grows with the text (`TooMuch`).
 //!
 //! `imported` promises that each token that begins an assertion has one outcome, in their order;
 //! so none is lost. Each property is shown to be what was opened means (`import_checks`), and
-//! each text is read back (`import_text`): it says, under the label that is told, the exact
-//! rewriting of that property. Where one is written as two halves, these are together what was
-//! opened means. One of which any of that isn't so is refused. `text_of`, `extent_of` and `placed`
-//! say what they are of these outcomes.
+//! each text is read back (`import_text`): it says, under the label that is told and by the clock
+//! of what was opened, the exact rewriting of that property. What was opened begins at the byte
+//! that is told. Where one is written as two halves, these are together what was opened means. One
+//! of which any of that isn't so is refused. `text_of`, `extent_of` and `placed` say what they are
+//! of these outcomes.
 //!
 //! The definitions: `specs/Imported.antt` and `specs/Placed.antt`, and of what is written
 //! `specs/Written.antt`; tokens and the words that begin assertions in `import_tokens` and

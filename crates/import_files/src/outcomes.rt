@@ -32,7 +32,7 @@ fn macros_of<'a>(alloc: Global, defines: &'a [String]) -> Result<Macros<'a>, All
     Ok(macros)
 }
 
-/// What becomes of an assertion.
+/// What becomes of an assertion that begins at a byte, and whose first word stands at another.
 fn told_of<'t>(
     importer: &mut Importer<'_, 't, '_>,
     file: &File<'t>,
@@ -40,14 +40,15 @@ fn told_of<'t>(
     status: Status,
     name: &str,
     at: usize,
+    first: usize,
 ) -> Result<Told, AllocError>
     ensures said { IfOk result (λ told.
-        FateSays importer.old.reading.bound name.now told.fate) }
+        FateSays importer.old.reading at name.now told.fate) }
     ensures kept { importer.new.reading ≡ importer.old.reading }
 {
     let fate = match status {
         Status::Read(id) => match file.assertions.get(id.0) {
-            Some(assertion) => return importer.told(*assertion, name, labels),
+            Some(assertion) => return importer.told(*assertion, at, name, labels),
             None => Fate::Left,
         },
         Status::Covers => Fate::Left,
@@ -55,7 +56,7 @@ fn told_of<'t>(
         Status::Refused(refusal) => Fate::Refused(Cause {
             code: refusal.code(),
             hint: refusal.hint(),
-            at,
+            at: first,
         }),
     };
     Ok(unwritten(fate))
@@ -74,7 +75,7 @@ fn outcome_of<'t>(
     number: usize,
 ) -> Result<Outcome, AllocError>
     ensures word { IfOk result (λ outcome. outcome.word ≡ word) }
-    ensures said { IfOk result (OutcomeSays importer.old.reading.bound) }
+    ensures said { IfOk result (OutcomeSays importer.old.reading) }
     ensures kept { importer.new.reading ≡ importer.old.reading }
 {
     let token = label_before(tokens, word);
@@ -91,7 +92,7 @@ fn outcome_of<'t>(
         _ => labels.take(alloc, label.as_str())?,
     };
     let first = byte_of(tokens, word);
-    let told = told_of(importer, file, labels, status, name.as_str(), first)?;
+    let told = told_of(importer, file, labels, status, name.as_str(), at, first)?;
     Ok(Outcome {
         word,
         at,
@@ -113,9 +114,9 @@ fn outcomes_of<'t>(
     requires { vec_len file.now.statuses ≡ vec_len file.now.words }
     ensures words { IfOk result (λ all. map (λ one. one.word) all.0.items ≡ file.now.words.items) }
     ensures said { IfOk result (λ all.
-        All (OutcomeSays reading.now.bound) all.0.items) }
+        All (OutcomeSays reading.now) all.0.items) }
 {
-    let mut importer = Importer::new(alloc, file, *reading)?;
+    let mut importer = Importer::new(alloc, file, *reading, tokens.len())?;
     let mut labels = Labels::of(alloc, tokens, reading.names)?;
     let mut blocks = Blocks::new(alloc);
     let mut outcomes = Vec::new(alloc);
@@ -174,13 +175,13 @@ fn imported_with<'x>(
     reading: &Reading<'_>,
 ) -> Result<Imported, ImportFault>
     ensures each { IfOk result (λ all.
-        AreOfAll text.now reading.now.bound all.outcomes.items) }
+        AreOfAll text.now reading.now all.outcomes.items) }
 {
     let mut macros = macros_of(alloc, defines)?;
     let expansions = Expansions::of(alloc, text.as_bytes(), &mut macros)?;
     let read = expansions.tokens(alloc)?;
     let numbers = numbers_of(alloc, digits)?;
-    let tokens = unrolled(alloc, read.as_slice(), numbers.as_slice())?;
+    let tokens = unrolled(alloc, read, numbers.as_slice())?;
     let file = File::of(alloc, tokens.as_slice())?;
     let (outcomes, declared) = outcomes_of(alloc, tokens.as_slice(), &file, reading)?;
     let remarks = remarks_of(alloc, &file, declared)?;
@@ -201,10 +202,11 @@ pub fn imported(
 ) -> Result<Imported, ImportFault>
     // Each word of the text that begins an assertion has one outcome, in their order, or, in a
     // generate loop, one for each turn; each text that is written says, under the label that is
-    // told, the exact rewriting of the property that what was opened means, or two texts do of two
-    // properties that are together what it means.
+    // told, and by the clock of what was opened at the byte that is told, the exact rewriting of
+    // the property that this means, or two texts do of two properties that are together what it
+    // means.
     ensures each { IfOk result (λ all.
-        AreOfAll text.now reading.now.bound all.outcomes.items) }
+        AreOfAll text.now reading.now all.outcomes.items) }
 {
     let digits = digits_of(alloc)?;
     imported_with(alloc, text, defines, digits.as_slice(), reading)

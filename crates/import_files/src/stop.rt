@@ -104,3 +104,21 @@ pub(crate) fn not_checked(at: usize) -> Stop {
         at,
     })
 }
+
+/// An assertion in whose place, which begins at that byte, another one was read.
+pub(crate) fn elsewhere(at: usize) -> Stop {
+    Stop::Refused(Cause {
+        code: "NotReadBack",
+        hint: "another assertion would be written in its place: give it a label, and tell us of it",
+        at,
+    })
+}
+
+/// An assertion for which no work is left; the one that took the most begins at that byte.
+pub(crate) fn too_much(at: usize) -> Stop {
+    Stop::Refused(Cause {
+        code: "TooMuch",
+        hint: "no work is left for it: make the assertion at this place smaller, or give less",
+        at,
+    })
+}

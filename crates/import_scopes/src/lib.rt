@@ -31,6 +31,7 @@ mod brackets;
 mod construct;
 mod declaration;
 mod file;
+mod imports;
 mod left_out;
 mod names;
 mod packages;

@@ -41,14 +41,3 @@ pub(crate) struct Import<'t> {
     pub package: &'t [u8],
     pub name: Option<&'t [u8]>,
 }
-
-impl Import<'_> {
-    /// Whether it brings a name into a scope, if the package declares that.
-    pub(crate) fn brings(&self, name: &[u8], into: ScopeId) -> bool {
-        let named = match self.name {
-            None => true,
-            Some(only) => only == name,
-        };
-        named && self.into == into
-    }
-}

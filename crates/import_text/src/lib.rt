@@ -5,7 +5,7 @@
 //! let mut spelling = Spelling::new(alloc, &parts, Some(b"tb.u_soc"), &widths);
 //! let text = spelling.assertion(b"r1", &opened, &rewriting)?;     // or a `Refused`
 //! // r1: assert property (@(posedge tb.u_soc.clk) disable iff (!tb.u_soc.ok) ..);
-//! if says_rewriting(alloc, text, b"r1", true, &antecedent, &consequent)? { .. }
+//! if says_rewriting(alloc, text, b"r1", clock, true, &antecedent, &consequent)? { .. }
 //! ```
 //!
 //! A boolean of the rewriting is a value of the opening, by its number; `import_expressions` makes
@@ -15,9 +15,10 @@
 //! before it, a line each. What passes the profile's bounds is `TooHeavy`.
 //!
 //! A text says a rewriting where its tokens spell a file of the grammar that has one assertion, of
-//! the label that was given, with a `disable iff` where one was, whose two sides have the outlines
-//! of the rewriting's: their forms, counts and grouping, with a dot for each boolean. So each
-//! bracket stands where it has to. `import_files` asks this of each text that it writes.
+//! the label and by the clock that were given, with a `disable iff` where one was, whose two sides
+//! have the outlines of the rewriting's: their forms, counts and grouping, with a dot for each
+//! boolean. So each bracket stands where it has to. `import_files` asks this of each text that it
+//! writes.
 //!
 //! The definitions: outlines in `specs/Outlines.antt`, texts that say a rewriting in
 //! `specs/Texts.antt`.

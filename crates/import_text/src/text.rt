@@ -1,20 +1,20 @@
 //! Texts with one assertion.
 
 ghost use Rattle.std.specs.Prelude.{◌≡◌, ◌∷◌, [], Ok, Some, IsTrue, IfOk, IfSome, is_some, map};
-ghost use Rattle.std.specs.Prelude.{option_map};
+ghost use Rattle.std.specs.Prelude.{◌++◌, OnOk, flat_map, option_map};
 ghost use Rattle.lexer.specs.Cutting.{cut_of, tokens_of};
-ghost use Rattle.parser_grammar.specs.Views.{item_of, assertion_of, property_of};
+ghost use Rattle.parser_grammar.specs.Views.{item_of, assertion_of, property_of, path_of};
 ghost use Rattle.assertions.specs.Written.{boolean, delay};
 ghost use Rattle.import_properties.specs.declared.condition.Condition.TheVariants.{One};
 ghost use Rattle.import_properties.specs.Shapes.{written_form};
 ghost use Rattle.import_text.specs.Texts.{SaysRewriting, IsOnlyRewriting, IsRewriting};
-ghost use Rattle.import_text.specs.Texts.{HasSides, assertions_of, text_of};
+ghost use Rattle.import_text.specs.Texts.{HasSides, assertions_of, text_of, after_dot, dotted};
 
 use crate::outline::{MOST_DEPTH, has_outline};
 use import_properties::{Condition, Sequence};
 use lexer::{LexFault, Token, lex};
 use parser::{ParseFault, parse};
-use parser_grammar::{AssertionTree, Implication, ItemTree, PropertyTree, SequenceTree};
+use parser_grammar::{AssertionTree, Implication, ItemTree, Path, PropertyTree, SequenceTree};
 use std::alloc::{AllocError, Global};
 
 /// Whether it is the constant 1.
@@ -78,25 +78,60 @@ fn has_disable(assertion: &AssertionTree, is_disabled: bool) -> bool
     }
 }
 
-/// Whether an assertion has a label, a `disable iff` or none, and the sides of a rewriting.
+/// Adds words, with a dot before each.
+fn push_dotted(out: &mut Vec<u8>, words: &[Token]) -> Result<(), AllocError>
+    ensures { OnOk result (out.new.items ≡ out.old.items ++ flat_map after_dot words.now) }
+{
+    for word in words {
+        out.extend_from_slice(b".")?;
+        out.extend_from_slice(word.text.as_bytes())?;
+    }
+    Ok(())
+}
+
+/// Whether bytes are a path, with a dot between its words.
+fn is_path(alloc: Global, path: &Path, bytes: &[u8]) -> Result<bool, AllocError>
+    ensures { IfOk result (λ yes. IsTrue yes → dotted (path_of path.now) ≡ bytes.now) }
+{
+    let mut text = Vec::new(alloc);
+    text.extend_from_slice(path.first.text.as_bytes())?;
+    push_dotted(&mut text, path.more.as_slice())?;
+    Ok(text.as_slice() == bytes)
+}
+
+/// Whether an assertion has a label.
+fn has_label(assertion: &AssertionTree, label: &[u8]) -> bool
+    ensures { IsTrue result
+        → option_map text_of (assertion_of assertion.now).label ≡ Some label.now }
+{
+    match assertion.label {
+        Some(token) => token.text.as_bytes() == label,
+        None => false,
+    }
+}
+
+/// Whether an assertion has a label, a clock, a `disable iff` or none, and the sides of a
+/// rewriting.
 fn is_rewriting(
+    alloc: Global,
     assertion: &AssertionTree,
     label: &[u8],
+    clock: &[u8],
     is_disabled: bool,
     antecedent: &Sequence,
     consequent: &Sequence,
-) -> bool
-    ensures { IsTrue result → IsRewriting label.now is_disabled
-        (written_form antecedent.now) (written_form consequent.now) (assertion_of assertion.now) }
+) -> Result<bool, AllocError>
+    ensures { IfOk result (λ yes. IsTrue yes → IsRewriting label.now clock.now is_disabled
+        (written_form antecedent.now) (written_form consequent.now) (assertion_of assertion.now)) }
 {
-    match assertion.label {
-        Some(token) => {
-            token.text.as_bytes() == label
-                && has_disable(assertion, is_disabled)
-                && has_sides(&assertion.property, antecedent, consequent)
-        }
-        None => false,
+    if !is_path(alloc, &assertion.clock, clock)? {
+        return Ok(false);
     }
+    Ok(
+        has_label(assertion, label)
+            && has_disable(assertion, is_disabled)
+            && has_sides(&assertion.property, antecedent, consequent),
+    )
 }
 
 /// Whether no item is an assertion.
@@ -125,18 +160,28 @@ fn only_assertion<'i, 'a>(items: &'i [ItemTree<'a>]) -> Option<&'i AssertionTree
 
 /// Whether the only assertion among items is that of a rewriting.
 fn items_say(
+    alloc: Global,
     items: &[ItemTree],
     label: &[u8],
+    clock: &[u8],
     is_disabled: bool,
     antecedent: &Sequence,
     consequent: &Sequence,
-) -> bool
-    ensures { IsTrue result → IsOnlyRewriting label.now is_disabled
-        (written_form antecedent.now) (written_form consequent.now) (map item_of items.now) }
+) -> Result<bool, AllocError>
+    ensures { IfOk result (λ yes. IsTrue yes → IsOnlyRewriting label.now clock.now is_disabled
+        (written_form antecedent.now) (written_form consequent.now) (map item_of items.now)) }
 {
     match only_assertion(items) {
-        Some(assertion) => is_rewriting(assertion, label, is_disabled, antecedent, consequent),
-        None => false,
+        Some(assertion) => is_rewriting(
+            alloc,
+            assertion,
+            label,
+            clock,
+            is_disabled,
+            antecedent,
+            consequent,
+        ),
+        None => Ok(false),
     }
 }
 
@@ -146,38 +191,42 @@ fn tokens_say(
     text: &[u8],
     tokens: &[Token],
     label: &[u8],
+    clock: &[u8],
     is_disabled: bool,
     antecedent: &Sequence,
     consequent: &Sequence,
 ) -> Result<bool, AllocError>
     requires { tokens_of text.now ≡ Ok (map cut_of tokens.now) }
-    ensures { IfOk result (λ yes. IsTrue yes → SaysRewriting label.now is_disabled
+    ensures { IfOk result (λ yes. IsTrue yes → SaysRewriting label.now clock.now is_disabled
         (written_form antecedent.now) (written_form consequent.now) text.now) }
 {
     match parse(alloc, tokens) {
-        Ok(file) => Ok(items_say(
+        Ok(file) => items_say(
+            alloc,
             file.items.as_slice(),
             label,
+            clock,
             is_disabled,
             antecedent,
             consequent,
-        )),
+        ),
         Err(ParseFault::Memory) => Err(AllocError),
         Err(_) => Ok(false),
     }
 }
 
-/// Whether a text is one of the profile's grammar whose only assertion has a label, a `disable iff`
-/// or none, and sides with the outlines of a rewriting's.
+/// Whether a text is one of the profile's grammar whose only assertion has a label, a clock, a
+/// `disable iff` or none, and sides with the outlines of a rewriting's.
 fn text_says(
     alloc: Global,
     text: &str,
     label: &[u8],
+    clock: &[u8],
     is_disabled: bool,
     antecedent: &Sequence,
     consequent: &Sequence,
 ) -> Result<bool, AllocError>
-    ensures { IfOk result (λ yes. IsTrue yes → SaysRewriting label.now is_disabled
+    ensures { IfOk result (λ yes. IsTrue yes → SaysRewriting label.now clock.now is_disabled
         (written_form antecedent.now) (written_form consequent.now) text.now) }
 {
     match lex(alloc, text) {
@@ -186,6 +235,7 @@ fn text_says(
             text.as_bytes(),
             tokens.as_slice(),
             label,
+            clock,
             is_disabled,
             antecedent,
             consequent,
@@ -195,8 +245,8 @@ fn text_says(
     }
 }
 
-/// Whether bytes are a text of the profile's grammar whose only assertion has a label, a `disable
-/// iff` or none, and sides with the outlines of these two sequences.
+/// Whether bytes are a text of the profile's grammar whose only assertion has a label, a clock by
+/// its whole path, a `disable iff` or none, and sides with the outlines of these two sequences.
 ///
 /// # Errors
 ///
@@ -205,15 +255,24 @@ pub fn says_rewriting(
     alloc: Global,
     bytes: &[u8],
     label: &[u8],
+    clock: &[u8],
     is_disabled: bool,
     antecedent: &Sequence,
     consequent: &Sequence,
 ) -> Result<bool, AllocError>
-    ensures { IfOk result (λ yes. IsTrue yes → SaysRewriting label.now is_disabled
+    ensures { IfOk result (λ yes. IsTrue yes → SaysRewriting label.now clock.now is_disabled
         (written_form antecedent.now) (written_form consequent.now) bytes.now) }
 {
     match str::from_utf8(bytes) {
-        Ok(text) => text_says(alloc, text, label, is_disabled, antecedent, consequent),
+        Ok(text) => text_says(
+            alloc,
+            text,
+            label,
+            clock,
+            is_disabled,
+            antecedent,
+            consequent,
+        ),
         Err(_) => Ok(false),
     }
 }

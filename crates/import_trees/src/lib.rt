@@ -22,6 +22,8 @@
 //! `MOST_DEPTH` steps of the grammar in one another, and tokens are read again only so often; what
 //! passes that is `TooHeavy`.
 //!
+//! The definition: a name as it stands, in `specs/Names.antt`.
+//!
 //! Not promised, but tested: which tree tokens are, what a number is worth, and at which token
 //! others go wrong.
 #![tactic(auto)]

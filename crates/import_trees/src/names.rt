@@ -1,5 +1,8 @@
 //! Names, with what may stand after them.
 
+ghost use Rattle.std.specs.Prelude.{◌≡◌};
+ghost use Rattle.import_trees.specs.Names.{plain_name};
+
 use crate::expression::{Actuals, Expression, ExpressionId, Path};
 use crate::fault::TreeFault;
 use crate::parser::Parser;
@@ -15,7 +18,9 @@ fn is_name_part(byte: &u8) -> bool {
 }
 
 /// A name without the backslash with which it may begin.
-pub fn plain_name<'t>(text: &'t [u8]) -> &'t [u8] {
+pub fn plain_name<'t>(text: &'t [u8]) -> &'t [u8]
+    ensures { result.now ≡ plain_name text.now }
+{
     match text.split_first() {
         Some((b'\\', rest)) => rest,
         _ => text,

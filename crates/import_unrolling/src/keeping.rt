@@ -79,26 +79,16 @@ fn keeps(alloc: Global, tokens: &[Token], unrolled: &[Token]) -> Result<bool, Al
     Ok(before.as_slice() == after.as_slice())
 }
 
-/// Tokens of one's own.
-pub(crate) fn copied<'t>(alloc: Global, tokens: &[Token<'t>]) -> Result<Vec<Token<'t>>, AllocError>
-    ensures { IfOk result (λ all. all.items ≡ tokens.now) }
-{
-    let mut all = Vec::new(alloc);
-    all.extend_from_slice(tokens)?;
-    Ok(all)
-}
-
 /// What was written for tokens, if it keeps all words; else the tokens.
 pub(crate) fn kept<'t>(
     alloc: Global,
-    tokens: &[Token<'t>],
+    tokens: Vec<Token<'t>>,
     unrolled: Vec<Token<'t>>,
 ) -> Result<Vec<Token<'t>>, AllocError>
-    ensures { IfOk result (λ all. Unrolls tokens.now all.items) }
+    ensures { IfOk result (λ all. Unrolls tokens.entry.items all.items) }
 {
-    if keeps(alloc, tokens, unrolled.as_slice())? {
+    if keeps(alloc, tokens.as_slice(), unrolled.as_slice())? {
         return Ok(unrolled);
     }
-    let same = copied(alloc, tokens)?;
-    Ok(same)
+    Ok(tokens)
 }

@@ -4,7 +4,7 @@
 //! ```text
 //! let digits = digits_of(alloc)?;
 //! let numbers = numbers_of(alloc, digits.as_slice())?;     // tokens of small numbers
-//! let all = unrolled(alloc, tokens.as_slice(), numbers.as_slice())?;
+//! let all = unrolled(alloc, tokens, numbers.as_slice())?;
 //! let file = File::of(alloc, all.as_slice())?;
 //! ```
 //!

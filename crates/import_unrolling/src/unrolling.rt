@@ -3,7 +3,7 @@
 ghost use Rattle.std.specs.Prelude.{IfOk};
 ghost use Rattle.import_unrolling.specs.Unrolled.{Unrolls};
 
-use crate::keeping::{copied, kept};
+use crate::keeping::kept;
 use crate::planning::Planner;
 use crate::writing::written;
 use import_scopes::File;
@@ -38,23 +38,38 @@ fn passed<'t>(
     Ok(Some(written(alloc, tokens, numbers, &edits)?))
 }
 
-/// The tokens of a file with its generate loops and conditions written out, as far as their bounds
-/// are constants of the file. No word that begins an assertion is lost.
-pub fn unrolled<'t>(
+/// What further passes make of what the first one made of so many tokens.
+fn passed_on<'t>(
     alloc: Global,
-    tokens: &[Token<'t>],
+    first: Vec<Token<'t>>,
+    count: usize,
     numbers: &[Token<'t>],
-) -> Result<Vec<Token<'t>>, AllocError>
-    ensures { IfOk result (λ all. Unrolls tokens.now all.items) }
-{
-    let mut all = copied(alloc, tokens)?;
-    for _ in 0..MOST_NESTED {
-        let added = all.len().saturating_sub(tokens.len());
+) -> Result<Vec<Token<'t>>, AllocError> {
+    let mut all = first;
+    for _ in 1..MOST_NESTED {
+        let added = all.len().saturating_sub(count);
         let left = MOST_ADDED.saturating_sub(added);
         match passed(alloc, all.as_slice(), numbers, left)? {
             Some(more) => all = more,
             None => break,
         }
     }
+    Ok(all)
+}
+
+/// The tokens of a file with its generate loops and conditions written out, as far as their bounds
+/// are constants of the file; the same ones where it has none. No word that begins an assertion is
+/// lost.
+pub fn unrolled<'t>(
+    alloc: Global,
+    tokens: Vec<Token<'t>>,
+    numbers: &[Token<'t>],
+) -> Result<Vec<Token<'t>>, AllocError>
+    ensures { IfOk result (λ all. Unrolls tokens.entry.items all.items) }
+{
+    let Some(first) = passed(alloc, tokens.as_slice(), numbers, MOST_ADDED)? else {
+        return Ok(tokens);
+    };
+    let all = passed_on(alloc, first, tokens.len(), numbers)?;
     kept(alloc, tokens, all)
 }

@@ -11,8 +11,8 @@ loop-place-preserved c = record {
       c.push.new.self.items c.in_ok-outcome.outcome (omega (arith, c.loop-place-test.true, c.len-place-end.ensures))
       c.loop-place.invariant.words c.in_ok-push.ensures.items c.in_ok-outcome.ensures.word c.index-word.ensures;
   said =
-      All-same (OutcomeSays c.args.reading.now.bound) _ _ c.in_ok-push.ensures.items
-      (All-push (OutcomeSays c.args.reading.now.bound) c.loop-place.outcomes.items
+      All-same (OutcomeSays c.args.reading.now) _ _ c.in_ok-push.ensures.items
+      (All-push (OutcomeSays c.args.reading.now) c.loop-place.outcomes.items
       c.in_ok-outcome.outcome c.loop-place.invariant.said
       (rw c.loop-place.invariant.reading at c.in_ok-outcome.ensures.said));
   reading = c.outcome_of.ensures.kept ∙ c.loop-place.invariant.reading;

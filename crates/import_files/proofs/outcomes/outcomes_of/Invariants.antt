@@ -6,6 +6,6 @@ use Rattle.import_files.proofs.outcomes.outcomes_of.Given as goal
 abbrev pub invariant-loop-place : goal.invariant-loop-place
 invariant-loop-place l = record {
   words : map (λ one. one.word) l.outcomes.items ≡ take l.place l.file.words.items;
-  said : All (OutcomeSays l.reading.bound) l.outcomes.items;
+  said : All (OutcomeSays l.reading) l.outcomes.items;
   reading : l.importer.reading ≡ l.reading;
 }
