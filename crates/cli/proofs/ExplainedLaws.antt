@@ -81,6 +81,8 @@ explains c text w e told over told_in = record {
   lines = e.trace.report.lines.items;
   lines_are = refl;
   explanations = e.explanations.items;
+  items = over.items;
+  spelled = over.spelled;
   explained = over.explained;
   told_of = told_in;
 }

@@ -1,22 +1,19 @@
 -- The times of ticks: those in memory are those of the contents.
-use Rattle.std.proofs.Common.{◌≡◌, ℕ, zero, suc, ◌<◌, ◌≤◌, ◌+◌, List, [], ◌∷◌, ◌++◌, Bool, true, false, Option, Some}
+use Rattle.std.proofs.Common.{◌≡◌, ℕ, zero, suc, ◌<◌, ◌≤◌, ◌+◌, List, [], ◌∷◌, ◌++◌, Option, Some}
 use Rattle.std.proofs.Common.{None, length}
 use Rattle.std.proofs.Common.{map, refl, sym, ap, ◌∙◌, inl, inr, arith, length-append, ◌⊎◌, ◌-◌}
 use Rattle.std.proofs.Math.ListN.{get_or-append}
 use Rattle.std.proofs.Math.Seq.{get_or-append_right}
-use Rattle.std.specs.Prelude.{slice_get, slice_index, if◌then◌else◌}
+use Rattle.std.specs.Prelude.{slice_get, slice_index}
 use Rattle.std.proofs.lemmas.Bool.{cases_lt}
-use Rattle.std.proofs.lemmas.List.{get_or_past, length-map}
-use Rattle.std.proofs.lemmas.Option.{slice_get_past}
 use Rattle.vcd_reader.specs.declared.dump.Dump.{Dump}
 use Rattle.vcd_reader.specs.declared.step.Step.{Step}
 use Rattle.vcd_reader.specs.Values.{Moment}
 use Rattle.vcd_reader.specs.Stored.{StoredStep, stored_step, kept_step}
 use Rattle.vcd_reader.specs.Dump.{Contents}
 use Rattle.vcd_reader.specs.Held.{HoldsContents, steps_in, high_of}
-use Rattle.cycle_window.specs.Ticks.{is_tick, ticks_below, ticks_of}
 use Rattle.cycle_window.specs.Times.{time_or_zero, time_of_step}
-use Rattle.cli.specs.Timed.{time_of, tick_time, AreTimesIn}
+use Rattle.cli.specs.Timed.{time_of, AreTimesIn}
 
 at_step : (ss : List Step) (k : ℕ) → time_or_zero (slice_get ss k) ≡ slice_index (map (λ s. s.time) ss) k
 at_step [] zero = refl
@@ -46,37 +43,6 @@ pub step_time : (d : Dump) (c : Contents) → HoldsContents d c → (o : Option 
 step_time d c holds None = refl
 step_time d c holds (Some k) =
     at_step (steps_in d) k ∙ ap (λ (l : List ℕ). slice_index l k) (times_same d c holds)
-
--- no more ticks than steps
-few_ticks : (steps : List Moment) (code n : ℕ) → length (ticks_below steps code n) ≤ n
-unfolding ticks_below
-few_ticks steps code zero = omega arith
-few_ticks steps code (suc n) = go (is_tick steps code n) (few_ticks steps code n)
-  where
-    go : (b : Bool) → length (ticks_below steps code n) ≤ n
-        → length (if b then ticks_below steps code n ++ n ∷ [] else ticks_below steps code n) ≤ suc n
-    go true h = omega (arith, length-append (ticks_below steps code n) (n ∷ []))
-    go false h = omega arith
-
--- a table of as many times as steps has those of all ticks
-pub timed : (d : Dump) (c : Contents) (ticks : List ℕ) (code : ℕ) (times : List ℕ) → HoldsContents d c
-    → ticks ≡ ticks_of c code → AreTimesIn (steps_in d) ticks (length (steps_in d)) times
-    → (k : ℕ) → slice_index times k ≡ tick_time c code k
-unfolding ticks_of
-timed d c ticks code times holds are in_dump k =
-    elim (cases_lt k (length (steps_in d))) [
-      | inl below ↦
-          in_dump.each k below ∙ ap (λ l. time_of_step (steps_in d) (slice_get l k)) are
-          ∙ step_time d c holds (slice_get (ticks_of c code) k)
-      | inr past ↦
-          let same : length (steps_in d) ≡ length c.steps =
-          sym (length-map (steps_in d) (λ s. s.time)) ∙ ap length (times_same d c holds)
-          ∙ length-map c.steps (λ m. m.time) in
-          let few : length (ticks_of c code) ≤ k = omega (arith, few_ticks c.steps code (length c.steps)) in
-          let far : length times ≤ k = omega (arith, in_dump.many) in
-          get_or_past times k 0 far
-          ∙ sym (ap (time_of (map (λ m. m.time) c.steps)) (slice_get_past (ticks_of c code) k few))
-    ]
 
 -- one time more
 pub times_more : (steps : List Step) (ticks : List ℕ) (i time : ℕ) (times more : List ℕ)

@@ -2,6 +2,7 @@
 use Rattle.std.proofs.Common.{◌≡◌, ◌∙◌, ℕ, ◌<◌, List, [], ◌∷◌, Some, length, map, refl, sym, ap, subst}
 use Rattle.std.specs.Prelude.{slice_get, slice_index, string_bytes}
 use Rattle.std.specs.List.{AllByRecursion, AllZip}
+use Rattle.std.proofs.lemmas.List.{length-map}
 use Rattle.assertions.specs.declared.signal.Signal.{Signal}
 use Rattle.assertions.specs.declared.suite.Suite.{Suite}
 use Rattle.expressions.specs.declared.rows.Rows.{Rows}
@@ -18,6 +19,7 @@ use Rattle.report_programs.specs.Lines.{IsWatched, AreVariables, rows_at}
 use Rattle.report_suites.specs.Named.{AreNamed}
 use Rattle.report_suites.specs.Judged.{AreLinesOver}
 use Rattle.report_suites.specs.Reported.{OverRows, Reports, rows_of}
+use Rattle.report_suites.proofs.ReportLaws.{have_places}
 use Rattle.cli.specs.Reported.{SaysSuite, HasReport}
 use Rattle.cli.specs.Timed.{AreTimesIn, TellsTimes}
 use Rattle.cli.specs.Explained.{IsTraced}
@@ -65,10 +67,22 @@ module _ (c : Contents) (d : Dump) (text : List ℕ) (suite : Suite) (code : ℕ
     says = says;
     code = code;
     clock = clock;
+    many = are.many;
     each = λ k below.
         are.each k below ∙ ap (λ (l : List ℕ). time_of_step (steps_in d) (slice_get l k)) ticks_are
         ∙ step_time d c holds (slice_get (ticks_of c code) k);
   }
+
+  -- as many times as the report has clocks
+  pub times_told : (r : ReportData) (n : ℕ) (times : List ℕ)
+      → ((signals : List ℕ) → AreVariables c suite signals → OverRows suite (rows_at c signals code) r)
+      → n ≡ length ticks → AreTimesIn (steps_in d) ticks n times → TellsTimes c text r.clocks times
+  times_told r n times over many times_are =
+      let have = have_places c.variables suite.names.items (are_named c c.variables says.items suite refl says.typed) in
+      let clocks : n ≡ r.clocks =
+      many ∙ ap (λ (l : List ℕ). length l) ticks_are ∙ sym (length-map (ticks_of c code) (row_of c have.places))
+      ∙ sym (ap (λ (x : ReportData). x.clocks) (over have.places have.are).is) in
+      subst (λ (k : ℕ). TellsTimes c text k times) clocks (timed n times times_are)
 
   pub traced : (rows : Rows) (r : ReportData) (n : ℕ) (times : List ℕ) → HasCounts suite.counters.items rows
       → ((signals : List ℕ) → AreVariables c suite signals

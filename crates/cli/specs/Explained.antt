@@ -10,6 +10,7 @@ use Rattle.signals.specs.Sink.{AppendsFront}
 use Rattle.expressions.specs.declared.rows.Rows.{Rows}
 use Rattle.expressions.specs.Rows.{HasCounts}
 use Rattle.assertions.specs.declared.suite.Suite.{Suite}
+use Rattle.parser_grammar.specs.Trees.{ItemForm}
 use Rattle.vcd_reader.specs.Dump.{Contents, GaveDump}
 use Rattle.report_lines.specs.declared.line.Line.{Line}
 use Rattle.report_lines.specs.declared.write.ReportFault.TheVariants as reports
@@ -29,7 +30,8 @@ use Rattle.cli_faults.specs.declared.fault.Fault.TheVariants.{NoAssertion, Repor
 use Rattle.cli_faults.specs.Runs.{Run, IsUnwritten}
 use Rattle.cli.specs.declared.explained.Explained.{Explained}
 use Rattle.cli.specs.declared.page.Paths.{Paths}
-use Rattle.cli.specs.Reported.{SaysSuite}
+use Rattle.cli.specs.Heads.{counter_names}
+use Rattle.cli.specs.Reported.{HasItems, SaysSuite}
 use Rattle.cli.specs.Timed.{TellsTimes}
 use Rattle.cli.specs.Outcomes.{WhyNoneByPrograms, WhyCheckRefused}
 
@@ -56,7 +58,7 @@ abbrev pub HasWanted : Suite → Wanted → Type 0
 HasWanted suite w = has_asked suite (option_map (λ t. t.now) w.only) ≡ true
 
 -- What is told of those failed attempts of the report on a text that are asked for: each is
--- explained over the rows that the report is on.
+-- explained over the rows that the report is on, with the text's names of counters.
 pub record Explains (c : Contents) (text : List ℕ) (w : Wanted) (report : ReportData)
     (times : List ℕ) (told : List FailedAttempt) : Type 0 where
   pub suite : Suite
@@ -66,7 +68,9 @@ pub record Explains (c : Contents) (text : List ℕ) (w : Wanted) (report : Repo
   pub lines : List Line
   pub lines_are : map line lines ≡ report.lines
   pub explanations : List Explanation
-  pub explained : AreExplained suite rows w lines explanations
+  pub items : List ItemForm
+  pub spelled : HasItems text items
+  pub explained : AreExplained suite (counter_names items) rows w lines explanations
   pub told_of : AllZip (IsToldOf lines) explanations told
 
 -- A text that tells of so many failed attempts.
@@ -157,8 +161,10 @@ pub record IsExplainedOver (c : Contents) (text : List ℕ) (w : Wanted) (e : Ex
   pub traced :
       IsTraced c text e.trace.suite e.trace.rows (data_of e.trace.report) e.trace.times.items
   pub asked : HasWanted e.trace.suite w
-  pub explained :
-      AreExplained e.trace.suite e.trace.rows w e.trace.report.lines.items e.explanations.items
+  pub items : List ItemForm
+  pub spelled : HasItems text items
+  pub explained : AreExplained e.trace.suite (counter_names items) e.trace.rows w
+      e.trace.report.lines.items e.explanations.items
 
 -- what is told of explanations in memory
 abbrev pub IsToldIn : Explained → List FailedAttempt → Type 0

@@ -4,4 +4,5 @@ pub mod Timed
 pub mod Outcomes
 pub mod Builds
 pub mod Explained
+pub mod Heads
 pub mod Waves

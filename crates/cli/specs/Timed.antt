@@ -25,11 +25,12 @@ time_of times (Some step) = slice_index times step
 abbrev pub tick_time : Contents → ℕ → ℕ → ℕ
 tick_time c code k = time_of (map (λ m. m.time) c.steps) (slice_get (ticks_of c code) k)
 
--- Of so many ticks of the clock that the text names, each has its time.
+-- As many times as clocks: of each of so many ticks of the clock that the text names, the time.
 pub record TellsTimes (c : Contents) (text : List ℕ) (clocks : ℕ) (times : List ℕ) :
     Type 0 where
   pub suite : Suite
   pub says : SaysSuite c text suite
   pub code : ℕ
   pub clock : IsClock c.variables (string_bytes suite.clock) code
+  pub many : length times ≡ clocks
   pub each : (k : ℕ) → k < clocks → slice_index times k ≡ tick_time c code k

@@ -70,7 +70,8 @@ fn explanations_of(
     requires counted { HasCounts trace.now.suite.counters.items trace.now.rows }
     requires judged { AreLinesOver trace.now.suite trace.now.rows.signals
         trace.now.suite.assertions.items (map line trace.now.report.lines.items) }
-    ensures { IfOk result (λ es. AreExplained trace.now.suite trace.now.rows wanted.now
+    ensures { IfOk result (λ es. AreExplained trace.now.suite
+        (map (λ t. t.now) heads.now.counters.items) trace.now.rows wanted.now
         trace.now.report.lines.items es.items) }
 {
     let judged = Judged {

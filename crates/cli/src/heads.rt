@@ -2,6 +2,8 @@
 //! are called.
 
 ghost use Rattle.std.specs.Prelude.{◌≡◌, IfOk, length};
+ghost use Rattle.parser_grammar.specs.Views.{items_of};
+ghost use Rattle.cli.specs.Heads.{AreHeads, head_of};
 
 use diagnostics::place_of;
 use lexer::Token;
@@ -20,7 +22,9 @@ pub(crate) struct Heads<'a> {
 }
 
 /// The first byte of an assertion: that of its label, or of its verb.
-fn place_of_head(assertion: &AssertionTree) -> usize {
+fn place_of_head(assertion: &AssertionTree) -> usize
+    ensures { result ≡ head_of assertion.now.label assertion.now.verb }
+{
     match &assertion.label {
         None => assertion.verb.at,
         Some(label) => label.at,
@@ -28,7 +32,9 @@ fn place_of_head(assertion: &AssertionTree) -> usize {
 }
 
 /// The heads of a file.
-pub(crate) fn heads_of<'a>(alloc: Global, file: &File<'a>) -> Result<Heads<'a>, AllocError> {
+pub(crate) fn heads_of<'a>(alloc: Global, file: &File<'a>) -> Result<Heads<'a>, AllocError>
+    ensures { IfOk result (AreHeads (items_of file.now)) }
+{
     let mut places = Vec::new(alloc);
     let mut counters = Vec::new(alloc);
     for item in &file.items {

@@ -54,13 +54,9 @@ pub fn report_over<'a, G: Gate + Sync, R: Threads + Wait + Sync>(
         → IfErr result (WhyNoneByPrograms c text.entry.now) }
 {
     let TimedSuite { suite, clocks } = timed_by_team(rt, alloc, &dump, text, team)?;
-    // No more clocks than steps; those after the last one have no time.
-    let mut times = times_of(alloc, &dump, &clocks, dump.steps().len())?;
+    let times = times_of(alloc, &dump, &clocks, clocks.len() as usize)?;
     match suite_report(rt, alloc, dump, clocks, &suite, team, size, gate) {
-        Ok(report) => {
-            times.truncate(report.clocks as usize);
-            Ok(TimedReport { report, times })
-        }
+        Ok(report) => Ok(TimedReport { report, times }),
         Err(fault) => Err(lines_fault(fault)),
     }
 }

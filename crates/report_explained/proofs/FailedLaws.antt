@@ -161,14 +161,14 @@ each_chosen suite rows w counts place (a ∷ more) (l ∷ ls) there h =
     subst (λ p. slice_get suite.assertions.items p ≡ Some b) e (there (suc k) b at)) h.1)
 
 -- each explained attempt is of an assertion that has a line
-pub each_line : (suite : Suite) (rows : Rows) (ls : List Line) (es : List Explanation)
+pub each_line : (suite : Suite) (counters : List (List ℕ)) (rows : Rows) (ls : List Line) (es : List Explanation)
     → AreLinesOver suite rows.signals suite.assertions.items (map line ls)
-    → AllByRecursion (IsExplained suite rows) es → AllByRecursion (HasLine ls) es
-each_line suite rows ls es over each =
+    → AllByRecursion (IsExplained suite counters rows) es → AllByRecursion (HasLine ls) es
+each_line suite counters rows ls es over each =
     let all = suite.assertions.items in
     let long : length (map line ls) ≡ length all =
     AllZip-long (IsJudgedLine suite rows.signals) all (map line ls) over in
     let same : length (map line ls) ≡ length ls = length-map ls line in
-    all_so (IsExplained suite rows) (HasLine ls)
+    all_so (IsExplained suite counters rows) (HasLine ls)
     (λ e x. let within : e.place < length all = slice_get_within all e.place x.assertion x.is_there in
     omega (arith, long, same, within)) es each

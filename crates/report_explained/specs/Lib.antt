@@ -1,6 +1,9 @@
 pub mod Arrows
+pub mod Asked
 pub mod Chosen
 pub mod Explained
+pub mod Reach
+pub mod ExpressionText
 pub mod Failed
 pub mod Told
 pub mod ExplainedText

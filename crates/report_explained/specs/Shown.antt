@@ -1,5 +1,5 @@
 -- What a sheet shows: its clocks, and its rows.
-use Rattle.std.specs.Prelude.{◌≡◌, ◌⊎◌, ◌≤◌, ◌+◌, ◌-◌, ◌||◌, ⊤, ℕ, zero, suc, Bool, true, false}
+use Rattle.std.specs.Prelude.{◌≡◌, ◌⊎◌, ◌+◌, ◌-◌, ◌||◌, ℕ, zero, suc, Bool, true, false}
 use Rattle.std.specs.Prelude.{List, [], ◌∷◌, ◌++◌, length, nat_le, nat_lt, string_bytes}
 use Rattle.std.specs.Prelude.{Option, Some, None, map, slice_get}
 use Rattle.std.specs.List.{AllZip}
@@ -11,6 +11,12 @@ use Rattle.expressions.specs.declared.name.Origin.TheVariants.{Signal as FromSig
 use Rattle.expressions.specs.declared.name.Origin.TheVariants.{Counter as FromCounter}
 use Rattle.assertions.specs.Marks.{AreMarks, places_from}
 use Rattle.assertions.specs.Reads.{AreRead}
+use Rattle.expressions.specs.declared.expr.Expr.{Expr}
+use Rattle.expressions.specs.Expressions.{term_of}
+use Rattle.report_explained.specs.Asked.{is_asked}
+use Rattle.report_explained.specs.ExpressionText.{Called, text_at, IsText}
+use Rattle.report_explained.specs.Reach.{reach}
+use Rattle.report_explained.specs.declared.asked.Attempt.{Attempt}
 use Rattle.report_explained.specs.declared.sheet.Sheet.{Sheet}
 use Rattle.report_explained.specs.declared.sheet.SheetRow.{SheetRow}
 use Rattle.expressions.specs.declared.rows.Rows.{Rows}
@@ -43,17 +49,12 @@ AreShown must first (suc count) clocks =
 abbrev pub AreShownIn : ℕ → ℕ → List ℕ → Type 0
 AreShownIn first end = AreShown (is_at_end first end) first (end - first)
 
--- The clocks of a sheet: from some clock, at or before the attempt's first, up to its last.
-pub record AreClocks (start end : ℕ) (clocks : List ℕ) : Type 0 where
-  pub first : ℕ
-  pub early : first ≤ start
-  pub are : AreShownIn first end clocks
+-- The clocks of a sheet: from as many before the attempt's first as the booleans look back, up to
+-- its last.
+abbrev pub AreClocks : Suite → Assertion → Attempt → List ℕ → Type 0
+AreClocks suite a t clocks = AreShownIn (t.start - reach suite a) t.end clocks
 
--- what a signal is called, and what bits it has; those of no signal are of no account
-abbrev pub path_of : Option Watched → List ℕ
-path_of None = []
-path_of (Some signal) = string_bytes signal.path
-
+-- what bits a signal has; those of no signal are of no account
 abbrev pub bits_of : Option Watched → ℕ
 bits_of None = 1
 bits_of (Some signal) = signal.width
@@ -62,11 +63,18 @@ abbrev pub bits_counted : Option Counted → ℕ
 bits_counted None = 1
 bits_counted (Some counter) = counter.width
 
--- The row of a signal is called as its path is.
-abbrev pub IsCalled : Suite → RowSource → List ℕ → Type 0
-IsCalled suite (Signal place) label = label ≡ path_of (slice_get suite.names.items place)
-IsCalled suite (Counter place) label = ⊤
-IsCalled suite (Listed place) label = ⊤
+-- the text of an expression, if there is one
+abbrev pub IsTextAt : Called → Option Expr → List ℕ → Type 0
+IsTextAt c None text = text ≡ []
+IsTextAt c (Some e) text = IsText c 1 (term_of e) text
+
+-- The row of a signal is called as its path is, that of a counter by its name, and that of a
+-- boolean by its text.
+abbrev pub IsCalled : Suite → Called → Assertion → RowSource → List ℕ → Type 0
+IsCalled suite c a (Signal place) label = label ≡ text_at c FromSignal place
+IsCalled suite c a (Counter place) label = label ≡ text_at c FromCounter place
+IsCalled suite c a (Listed place) label =
+    IsTextAt c (expression_at suite.booleans.items (slice_get a.booleans.items place)) label
 
 -- how many bits a row has
 abbrev pub bits_of_row : Suite → RowSource → ℕ
@@ -89,39 +97,33 @@ value_of_row suite a rows (Listed place) clock =
     (is_true_at (samples_of rows)
     (expression_at suite.booleans.items (slice_get a.booleans.items place)) clock)
 
--- signals and counters are shown at each clock
-abbrev pub is_always_shown : RowSource → Bool
-is_always_shown (Signal place) = true
-is_always_shown (Counter place) = true
-is_always_shown (Listed place) = false
+-- signals and counters are shown at each clock, and a boolean where the attempt may ask it
+abbrev pub is_shown : Assertion → Attempt → RowSource → ℕ → Bool
+is_shown a t (Signal place) clock = true
+is_shown a t (Counter place) clock = true
+is_shown a t (Listed place) clock = is_asked a t place clock
 
--- what a cell says of a value
-abbrev pub CellSays : Bool → Option ℕ → ℕ → Type 0
-CellSays always None value = always ≡ false
-CellSays always (Some shown) value = shown ≡ value
+abbrev pub value_if : Bool → ℕ → Option ℕ
+value_if true value = Some value
+value_if false value = None
 
--- There is a cell for each clock. It has the value at the clock, or none where that need not be
--- shown.
-abbrev pub ShowsValues : (ℕ → ℕ) → Bool → List ℕ → List (Option ℕ) → Type 0
-ShowsValues value always = AllZip (λ clock cell. CellSays always cell (value clock))
+-- the cell of a row at a clock
+abbrev pub cell_at : Suite → Assertion → Attempt → Rows → RowSource → ℕ → Option ℕ
+cell_at suite a t rows source clock =
+    value_if (is_shown a t source clock) (value_of_row suite a rows source clock)
 
--- the cells of a row of an assertion
-abbrev pub ShowsSource : Suite → Assertion → Rows → List ℕ → RowSource → List (Option ℕ) → Type 0
-ShowsSource suite a rows clocks source cells =
-    ShowsValues (value_of_row suite a rows source) (is_always_shown source) clocks cells
-
--- A row is called as its source is, has its bits, and shows its values.
-pub record IsShownRow (suite : Suite) (a : Assertion) (rows : Rows) (clocks : List ℕ)
-    (source : RowSource) (row : SheetRow) : Type 0 where
+-- A row is called as its source is, has its bits, and a cell for each clock.
+pub record IsShownRow (suite : Suite) (c : Called) (a : Assertion) (t : Attempt) (rows : Rows)
+    (clocks : List ℕ) (source : RowSource) (row : SheetRow) : Type 0 where
   pub source_is : row.source ≡ source
-  pub called : IsCalled suite source (string_bytes row.label)
+  pub called : IsCalled suite c a source (string_bytes row.label)
   pub bits : row.width ≡ bits_of_row suite source
-  pub shows : ShowsSource suite a rows clocks source row.cells.items
+  pub cells : row.cells.items ≡ map (cell_at suite a t rows source) clocks
 
 -- There is a row for each source.
 abbrev pub ShowsRows :
-    Suite → Assertion → Rows → List ℕ → List RowSource → List SheetRow → Type 0
-ShowsRows suite a rows clocks = AllZip (IsShownRow suite a rows clocks)
+    Suite → Called → Assertion → Attempt → Rows → List ℕ → List RowSource → List SheetRow → Type 0
+ShowsRows suite c a t rows clocks = AllZip (IsShownRow suite c a t rows clocks)
 
 -- the booleans of so many places
 abbrev pub listed_below : ℕ → List RowSource
@@ -147,11 +149,10 @@ pub record AreSources (suite : Suite) (a : Assertion) (sources : List RowSource)
   pub are : sources
       ≡ (map Signal signals ++ map Counter counters) ++ listed_below (length a.booleans.items)
 
--- A sheet shows what an assertion reads, at the clocks of an attempt that began at one clock and
--- was decided before another.
-pub record IsSheet (suite : Suite) (a : Assertion) (rows : Rows) (start end : ℕ) (sheet : Sheet) :
-    Type 0 where
-  pub clocks : AreClocks start end sheet.clocks.items
+-- A sheet shows what an assertion reads, at the clocks of an attempt.
+pub record IsSheet (suite : Suite) (c : Called) (a : Assertion) (t : Attempt) (rows : Rows)
+    (sheet : Sheet) : Type 0 where
+  pub clocks : AreClocks suite a t sheet.clocks.items
   pub sources : List RowSource
   pub read : AreSources suite a sources
-  pub shows : ShowsRows suite a rows sheet.clocks.items sources sheet.rows.items
+  pub shows : ShowsRows suite c a t rows sheet.clocks.items sources sheet.rows.items

@@ -1,5 +1,10 @@
 //! At which clocks a boolean of an attempt is asked.
 
+ghost use Rattle.std.specs.Prelude.{◌≡◌, ◌++◌, OnOk};
+ghost use Rattle.std.specs.List.{list_any};
+ghost use Rattle.report_explained.specs.Asked.{from_to, is_of, is_within, has_clock};
+ghost use Rattle.report_explained.specs.Asked.{disabling_places};
+
 use crate::interval::{Interval, Place, push_places};
 use assertions::{Assertion, Boolean};
 use std::alloc::{AllocError, Global};
@@ -22,22 +27,19 @@ pub(crate) struct Asked {
 }
 
 impl Asked {
+    ghost use Rattle.std.specs.Prelude.{◌≡◌, IfOk};
+    ghost use Rattle.report_explained.specs.Asked.{AreAsked, asks};
+
     /// Those of the attempt: the antecedent begins at its start, the consequent at the end that
     /// broke, and the disabling boolean is asked at each clock.
-    pub fn of(alloc: Global, assertion: &Assertion, attempt: Attempt) -> Result<Asked, AllocError> {
+    pub fn of(alloc: Global, assertion: &Assertion, attempt: Attempt) -> Result<Asked, AllocError>
+        ensures { IfOk result (AreAsked assertion.now attempt) }
+    {
         let mut antecedent = Vec::new(alloc);
         push_places(&assertion.antecedent, at(attempt.start), &mut antecedent)?;
+        push_disabling(&mut antecedent, assertion.disabling, attempt)?;
         let mut consequent = Vec::new(alloc);
         push_places(&assertion.consequent, at(attempt.broken), &mut consequent)?;
-        if let Some(boolean) = assertion.disabling {
-            antecedent.push(Place {
-                boolean,
-                within: Interval {
-                    least: attempt.start,
-                    most: attempt.end.saturating_sub(1),
-                },
-            })?;
-        }
         Ok(Asked {
             attempt,
             antecedent,
@@ -46,7 +48,9 @@ impl Asked {
     }
 
     /// Whether the boolean at a place of the assertion's list may be asked at a clock.
-    pub fn is_asked(&self, listed: usize, clock: usize) -> bool {
+    pub fn is_asked(&self, listed: usize, clock: usize) -> bool
+        ensures { result ≡ asks self.now listed clock }
+    {
         is_among(self.antecedent.as_slice(), listed, clock)
             || is_among(self.consequent.as_slice(), listed, clock)
     }
@@ -62,8 +66,31 @@ impl Asked {
     }
 }
 
+/// Adds the disabling boolean, if there is one: it is asked at each clock of the attempt.
+fn push_disabling(
+    places: &mut Vec<Place>,
+    disabling: Option<Boolean>,
+    attempt: Attempt,
+) -> Result<(), AllocError>
+    ensures { OnOk result (places.new.items
+        ≡ places.old.items ++ disabling_places attempt disabling) }
+{
+    if let Some(boolean) = disabling {
+        places.push(Place {
+            boolean,
+            within: Interval {
+                least: attempt.start,
+                most: attempt.end.saturating_sub(1),
+            },
+        })?;
+    }
+    Ok(())
+}
+
 /// Whether one of the places is of the boolean, and may be asked at a clock.
-fn is_among(places: &[Place], listed: usize, clock: usize) -> bool {
+fn is_among(places: &[Place], listed: usize, clock: usize) -> bool
+    ensures { result ≡ list_any (has_clock listed clock) places.now }
+{
     for place in places {
         if is_listed(place.boolean, listed) && is_within(place.within, clock) {
             return true;
@@ -73,7 +100,9 @@ fn is_among(places: &[Place], listed: usize, clock: usize) -> bool {
 }
 
 /// This clock alone.
-fn at(clock: usize) -> Interval {
+fn at(clock: usize) -> Interval
+    ensures { result ≡ from_to clock clock }
+{
     Interval {
         least: clock,
         most: clock,
@@ -81,13 +110,17 @@ fn at(clock: usize) -> Interval {
 }
 
 /// Whether a boolean is the one at a place of the list.
-fn is_listed(boolean: Boolean, listed: usize) -> bool {
+fn is_listed(boolean: Boolean, listed: usize) -> bool
+    ensures { result ≡ is_of listed boolean }
+{
     match boolean {
         Boolean::One => false,
         Boolean::Listed(place) => place == listed,
     }
 }
 
-fn is_within(within: Interval, clock: usize) -> bool {
+fn is_within(within: Interval, clock: usize) -> bool
+    ensures { result ≡ is_within clock within }
+{
     within.least <= clock && clock <= within.most
 }

@@ -1,12 +1,12 @@
 //! The cells of a row: values at clocks.
 
-ghost use Rattle.std.specs.Prelude.{◌≡◌, IsTrue, IfOk, slice_get};
+ghost use Rattle.std.specs.Prelude.{◌≡◌, IfOk, map, slice_get};
 ghost use Rattle.expressions.specs.Rows.{samples_of};
 ghost use Rattle.assertions.specs.Shapes.{expression_at, is_true_at};
-ghost use Rattle.report_explained.specs.Shown.{value_of_row, is_always_shown, CellSays};
-ghost use Rattle.report_explained.specs.Shown.{ShowsSource};
+ghost use Rattle.report_explained.specs.Asked.{AreAsked};
+ghost use Rattle.report_explained.specs.Shown.{value_of_row, is_shown, cell_at};
 
-use crate::asked::Asked;
+use crate::asked::{Asked, Attempt};
 use assertions::{Assertion, Suite};
 use expressions::{Rows, is_true};
 use std::alloc::{AllocError, Global};
@@ -22,10 +22,11 @@ pub enum RowSource {
     Listed(usize),
 }
 
-/// What is read: an assertion of a suite, over rows of its signals and counters.
+/// What is read: by an attempt of an assertion of a suite, over rows of its signals and counters.
 #[derive(Clone, Copy)]
 pub struct Read<'a> {
     pub assertion: &'a Assertion,
+    pub attempt: Attempt,
     pub suite: &'a Suite,
     pub rows: &'a Rows,
 }
@@ -69,8 +70,9 @@ fn value_of_row(read: &Read<'_>, source: RowSource, clock: usize) -> u128
 }
 
 /// Whether a row has a value at a clock: a boolean where it is asked, all else always.
-fn is_shown(asked: &Asked, source: RowSource, clock: usize) -> bool
-    ensures { IsTrue (is_always_shown source) → IsTrue result }
+fn is_shown(read: &Read<'_>, asked: &Asked, source: RowSource, clock: usize) -> bool
+    requires { AreAsked read.now.assertion.now read.now.attempt asked.now }
+    ensures { result ≡ is_shown read.now.assertion.now read.now.attempt source clock }
 {
     match source {
         RowSource::Signal(_) => true,
@@ -81,10 +83,11 @@ fn is_shown(asked: &Asked, source: RowSource, clock: usize) -> bool
 
 /// The cell of a row at a clock.
 fn cell_at(read: &Read<'_>, asked: &Asked, source: RowSource, clock: usize) -> Option<u128>
-    ensures { CellSays (is_always_shown source) result (value_of_row read.now.suite.now
-        read.now.assertion.now read.now.rows.now source clock) }
+    requires { AreAsked read.now.assertion.now read.now.attempt asked.now }
+    ensures { result ≡ cell_at read.now.suite.now read.now.assertion.now read.now.attempt
+        read.now.rows.now source clock }
 {
-    if is_shown(asked, source, clock) {
+    if is_shown(read, asked, source, clock) {
         return Some(value_of_row(read, source, clock));
     }
     None
@@ -98,8 +101,9 @@ pub(crate) fn cells_of(
     source: RowSource,
     clocks: &[usize],
 ) -> Result<Vec<Option<u128>>, AllocError>
-    ensures { IfOk result (λ cells. ShowsSource read.now.suite.now read.now.assertion.now
-        read.now.rows.now clocks.now source cells.items) }
+    requires { AreAsked read.now.assertion.now read.now.attempt asked.now }
+    ensures { IfOk result (λ cells. cells.items ≡ map (cell_at read.now.suite.now
+        read.now.assertion.now read.now.attempt read.now.rows.now source) clocks.now) }
 {
     let mut cells = Vec::with_capacity(alloc, clocks.len())?;
     for clock in clocks {

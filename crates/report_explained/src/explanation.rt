@@ -10,7 +10,7 @@ ghost use Rattle.judging.specs.Courses.{value_over};
 ghost use Rattle.report_lines.specs.Lines.{line};
 ghost use Rattle.report_suites.specs.Judged.{AreLinesOver};
 ghost use Rattle.report_explained.specs.Explained.{IsReason, IsExplained, AreExplained};
-ghost use Rattle.report_explained.specs.Explained.{choice_of};
+ghost use Rattle.report_explained.specs.Explained.{choice_of, counters_of};
 ghost use Rattle.report_explained.specs.Failed.{HasFailed, IsOfFailed};
 
 use crate::arrow::{Arrow, arrow_of};
@@ -73,20 +73,21 @@ fn reason_with(
     requires cause { IsCause (value_over judged.now.suite.now judged.now.rows.now assertion.now)
         (antecedent_of assertion.now) (shape assertion.now.consequent) (failure.now.clock + 1)
         failure.now.start cause }
-    ensures { IfOk result (IsReason judged.now.suite.now judged.now.rows.now assertion.now
-        failure.now) }
+    ensures { IfOk result (IsReason judged.now.suite.now (counters_of judged.now)
+        judged.now.rows.now assertion.now failure.now) }
 {
-    let read = Read {
-        assertion,
-        suite: judged.suite,
-        rows: judged.rows,
-    };
     let attempt = Attempt {
         start: failure.start as usize,
         broken: cause.broken,
         end: end_of(judged, failure),
     };
-    let sheet = sheet_of(alloc, &read, attempt, judged.counters)?;
+    let read = Read {
+        assertion,
+        attempt,
+        suite: judged.suite,
+        rows: judged.rows,
+    };
+    let sheet = sheet_of(alloc, &read, judged.counters)?;
     Ok(Reason { cause, sheet })
 }
 
@@ -98,8 +99,8 @@ fn reason_of(
     failure: &Failure,
 ) -> Result<Reason, AllocError>
     requires { HasFailed judged.now.suite.now judged.now.rows.now assertion.now failure.now }
-    ensures { IfOk result (IsReason judged.now.suite.now judged.now.rows.now assertion.now
-        failure.now) }
+    ensures { IfOk result (IsReason judged.now.suite.now (counters_of judged.now)
+        judged.now.rows.now assertion.now failure.now) }
 {
     let start = failure.start as usize;
     let end = end_of(judged, failure);
@@ -117,7 +118,8 @@ fn explanation_of(
 ) -> Result<Explanation, AllocError>
     requires { IsOfFailed judged.now.suite.now judged.now.rows.now choice.now }
     ensures is { IfOk result (λ e. choice_of e ≡ choice.now) }
-    ensures says { IfOk result (IsExplained judged.now.suite.now judged.now.rows.now) }
+    ensures says { IfOk result (IsExplained judged.now.suite.now (counters_of judged.now)
+        judged.now.rows.now) }
 {
     let assertion = &judged.suite.assertions[choice.place];
     let reason = reason_of(alloc, judged, assertion, &choice.failure)?;
@@ -137,8 +139,8 @@ fn explanations_of(
 ) -> Result<Vec<Explanation>, AllocError>
     requires { AllByRecursion (IsOfFailed judged.now.suite.now judged.now.rows.now) choices.now }
     ensures are { IfOk result (λ es. map choice_of es.items ≡ choices.now) }
-    ensures say { IfOk result (λ es.
-        AllByRecursion (IsExplained judged.now.suite.now judged.now.rows.now) es.items) }
+    ensures say { IfOk result (λ es. AllByRecursion (IsExplained judged.now.suite.now
+        (counters_of judged.now) judged.now.rows.now) es.items) }
 {
     let mut explanations = Vec::with_capacity(alloc, choices.len())?;
     for choice in choices {
@@ -161,8 +163,8 @@ pub fn explain(
     requires counted { HasCounts judged.now.suite.now.counters.items judged.now.rows.now }
     requires judged { AreLinesOver judged.now.suite.now judged.now.rows.now.signals
         judged.now.suite.now.assertions.items (map line lines.now) }
-    ensures { IfOk result (λ es. AreExplained judged.now.suite.now judged.now.rows.now wanted.now
-        lines.now es.items) }
+    ensures { IfOk result (λ es. AreExplained judged.now.suite.now (counters_of judged.now)
+        judged.now.rows.now wanted.now lines.now es.items) }
 {
     let choices = choices_of(alloc, wanted, lines)?;
     let explanations = explanations_of(alloc, judged, choices.as_slice())?;

@@ -1,12 +1,26 @@
 //! Expressions as text.
 
+ghost use Rattle.std.specs.Prelude.{◌≡◌, ◌≤◌, ◌++◌, IfOk, codes, false, map, string_bytes};
+ghost use Rattle.std.specs.Prelude.{nat_lt, if◌then◌else◌, ◌==◌};
+ghost use Rattle.expressions.specs.Expressions.{term_of};
+ghost use Rattle.expressions.specs.Nodes.{node_term, seen_node, step_of};
+ghost use Rattle.expressions.specs.Nodes.{chain_term, concatenation_term};
+ghost use Rattle.expressions.specs.Terms.{Term, reduce, combine, shift, compare, connect, past};
+ghost use Rattle.report_explained.specs.ExpressionText.{called, IsNumber, IsText, level_of};
+ghost use Rattle.report_explained.specs.ExpressionText.{select_text, slice_text, ticks_text};
+ghost use Rattle.report_explained.specs.ExpressionText.{IsWithin, sum_sign, sum_level};
+ghost use Rattle.report_explained.specs.ExpressionText.{shift_sign, comparison_sign};
+ghost use Rattle.report_explained.specs.ExpressionText.{comparison_level, connective_sign};
+ghost use Rattle.report_explained.specs.ExpressionText.{connective_level, reduction_word};
+ghost use Rattle.report_explained.specs.ExpressionText.{is_function, change_word};
+
+use crate::values::marked_text;
 use assertions::Signal;
 use expressions::{
     Arithmetic, Change, Comparison, Connective, Expr, Name, Node, Origin, Reduction, Shift, Slice,
 };
 use signals::Bits;
 use std::alloc::{AllocError, Global};
-use std::fmt::Write;
 
 /// What signals and counters are called, by their places.
 #[derive(Clone, Copy)]
@@ -16,12 +30,14 @@ pub(crate) struct Names<'a> {
 }
 
 impl<'a> Names<'a> {
-    ghost use Rattle.std.specs.Prelude.{◌≡◌, slice_get};
-    ghost use Rattle.report_explained.specs.Shown.{path_of};
+    ghost use Rattle.std.specs.Prelude.{◌≡◌};
+    ghost use Rattle.expressions.specs.declared.name.Origin.TheVariants.{Signal as FromSignal};
+    ghost use Rattle.expressions.specs.declared.name.Origin.TheVariants.{Counter as FromCounter};
+    ghost use Rattle.report_explained.specs.ExpressionText.{called, name_text, text_at};
 
     /// The path of a signal, or nothing where there is none.
     pub fn signal(self, place: usize) -> &'a str
-        ensures { result.now ≡ path_of (slice_get self.entry.signals.now place) }
+        ensures { result.now ≡ text_at (called self.entry) FromSignal place }
     {
         match self.signals.get(place) {
             None => "",
@@ -30,12 +46,19 @@ impl<'a> Names<'a> {
     }
 
     /// The name of a counter, or nothing where there is none.
-    pub fn counter(self, place: usize) -> &'a str {
-        self.counters.get(place).copied().unwrap_or("")
+    pub fn counter(self, place: usize) -> &'a str
+        ensures { result.now ≡ text_at (called self.entry) FromCounter place }
+    {
+        match self.counters.get(place) {
+            None => "",
+            Some(counter) => *counter,
+        }
     }
 
     /// What a name is called.
-    fn name(self, name: Name) -> &'a str {
+    fn name(self, name: Name) -> &'a str
+        ensures { result.now ≡ name_text (called self.entry) name }
+    {
         match name.origin {
             Origin::Signal => self.signal(name.place),
             Origin::Counter => self.counter(name.place),
@@ -43,44 +66,62 @@ impl<'a> Names<'a> {
     }
 }
 
+/// The operand of an operator of two binds at least so tightly, if it has no brackets.
+const SIGNED: u8 = 11;
+
 /// The text of an expression.
 pub(crate) fn expression_text(
     alloc: Global,
     expression: &Expr,
     names: Names<'_>,
-) -> Result<String, AllocError> {
-    let mut text = String::new(alloc);
-    push_node(&mut text, expression.node(), names)?;
+) -> Result<String, AllocError>
+    ensures { IfOk result (λ text.
+        IsText (called names.entry) 1 (term_of expression.now) (string_bytes text)) }
+{
+    node_text(alloc, expression.node(), names)
+}
+
+/// A number: a plain one has 32 bits.
+fn number_text(alloc: Global, bits: Bits) -> Result<String, AllocError>
+    ensures { IfOk result (λ text. IsNumber bits (string_bytes text)) }
+{
+    let value = bits.value;
+    if bits.width == 32 {
+        return format!(in alloc; "{value}");
+    }
+    let width = bits.width;
+    if width <= 4 {
+        return format!(in alloc; "{width}'d{value}");
+    }
+    let mut text = format!(in alloc; "{width}")?;
+    text.push_str(marked_text(alloc, value)?.as_str())?;
     Ok(text)
 }
 
-/// Adds a number: a plain one has 32 bits.
-fn push_number(text: &mut String, bits: Bits) -> Result<(), AllocError> {
-    if bits.width == 32 {
-        let value = bits.value;
-        return write!(text, "{value}");
+/// Which bits of a name.
+fn select_text(alloc: Global, high: u8, low: u8) -> Result<String, AllocError>
+    ensures { IfOk result (λ text. string_bytes text ≡ select_text (low == high) high low) }
+{
+    let mut text = format!(in alloc; "[{high}")?;
+    if low != high {
+        text.push_str(format!(in alloc; ":{low}")?.as_str())?;
     }
-    let width = bits.width;
-    let value = bits.value;
-    if width <= 4 {
-        write!(text, "{width}'d{value}")
-    } else {
-        write!(text, "{width}'h{value:x}")
-    }
+    text.push_str("]")?;
+    Ok(text)
 }
 
-/// Adds bits of a name.
-fn push_slice(text: &mut String, part: Slice, names: Names<'_>) -> Result<(), AllocError> {
-    text.push_str(names.name(part.name))?;
-    let high = part.high;
-    if part.low == high {
-        return write!(text, "[{high}]");
-    }
-    let low = part.low;
-    write!(text, "[{high}:{low}]")
+/// Bits of a name.
+fn bits_text(alloc: Global, part: Slice, names: Names<'_>) -> Result<String, AllocError>
+    ensures { IfOk result (λ text. string_bytes text ≡ slice_text (called names.entry) part) }
+{
+    let mut text = String::from_str(alloc, names.name(part.name))?;
+    text.push_str(select_text(alloc, part.high, part.low)?.as_str())?;
+    Ok(text)
 }
 
-fn arithmetic_sign(op: Arithmetic) -> &'static str {
+fn sum_sign(op: Arithmetic) -> &'static str
+    ensures { result.now ≡ sum_sign op }
+{
     match op {
         Arithmetic::Add => " + ",
         Arithmetic::Sub => " - ",
@@ -91,14 +132,36 @@ fn arithmetic_sign(op: Arithmetic) -> &'static str {
     }
 }
 
-fn shift_sign(op: Shift) -> &'static str {
+/// How tightly an operator binds, as in the table of precedence (11.3.2): 1 a condition, 11 the
+/// operators of one operand.
+fn sum_level(op: Arithmetic) -> u8
+    ensures { result ≡ sum_level op }
+{
+    match op {
+        Arithmetic::Add => 10,
+        Arithmetic::Sub => 10,
+        Arithmetic::And => 6,
+        Arithmetic::Xor => 5,
+        Arithmetic::Xnor => 5,
+        Arithmetic::Or => 4,
+    }
+}
+
+fn shift_sign(op: Shift) -> &'static str
+    ensures { result.now ≡ shift_sign op }
+{
     match op {
         Shift::Left => " << ",
         Shift::Right => " >> ",
     }
 }
 
-fn comparison_sign(op: Comparison) -> &'static str {
+/// The level of shifts.
+const SHIFTED: u8 = 9;
+
+fn comparison_sign(op: Comparison) -> &'static str
+    ensures { result.now ≡ comparison_sign op }
+{
     match op {
         Comparison::Equal => " == ",
         Comparison::Differs => " != ",
@@ -109,15 +172,41 @@ fn comparison_sign(op: Comparison) -> &'static str {
     }
 }
 
-fn connective_sign(op: Connective) -> &'static str {
+fn comparison_level(op: Comparison) -> u8
+    ensures { result ≡ comparison_level op }
+{
+    match op {
+        Comparison::Equal => 7,
+        Comparison::Differs => 7,
+        Comparison::Less => 8,
+        Comparison::AtMost => 8,
+        Comparison::Greater => 8,
+        Comparison::AtLeast => 8,
+    }
+}
+
+fn connective_sign(op: Connective) -> &'static str
+    ensures { result.now ≡ connective_sign op }
+{
     match op {
         Connective::Both => " && ",
         Connective::Either => " || ",
     }
 }
 
+fn connective_level(op: Connective) -> u8
+    ensures { result ≡ connective_level op }
+{
+    match op {
+        Connective::Both => 3,
+        Connective::Either => 2,
+    }
+}
+
 /// What stands before the operand of a test of all bits.
-fn reduction_word(op: Reduction) -> &'static str {
+fn reduction_word(op: Reduction) -> &'static str
+    ensures { result.now ≡ reduction_word op }
+{
     match op {
         Reduction::Zero => "!",
         Reduction::NonZero => "|",
@@ -130,11 +219,19 @@ fn reduction_word(op: Reduction) -> &'static str {
     }
 }
 
-fn is_function(op: Reduction) -> bool {
-    matches!(op, Reduction::OneHot | Reduction::OneHotOrZero)
+fn is_function(op: Reduction) -> bool
+    ensures { result ≡ is_function op }
+{
+    match op {
+        Reduction::OneHot => true,
+        Reduction::OneHotOrZero => true,
+        _ => false,
+    }
 }
 
-fn change_word(op: Change) -> &'static str {
+fn change_word(op: Change) -> &'static str
+    ensures { result.now ≡ change_word op }
+{
     match op {
         Change::Rose => "$rose",
         Change::Fell => "$fell",
@@ -144,201 +241,359 @@ fn change_word(op: Change) -> &'static str {
 }
 
 /// Whether an operand needs brackets: it is an operator with two operands or more.
-fn needs_brackets(node: &Node) -> bool {
+fn needs_brackets(node: &Node) -> bool
+    ensures { result ≡ false → 11 ≤ level_of (node_term node.now) }
+{
     match node {
         Node::Arithmetic(_, _, _) => true,
         Node::Shift(_, _, _) => true,
         Node::Compare(_, _, _) => true,
         Node::Connect(_, _) => true,
         Node::Choose(_, _, _, _) => true,
+        Node::Concat(_, _, parts) => parts.is_empty(),
         _ => false,
     }
 }
 
 /// Whether an operand needs brackets after an operator of one operand: that stands before a primary
 /// alone (A.8.3), and might make another operator with what begins the operand, as `~` and `|`.
-fn needs_brackets_after_sign(node: &Node) -> bool {
+fn needs_brackets_after_sign(node: &Node) -> bool
+    ensures { result ≡ false → 12 ≤ level_of (node_term node.now) }
+{
     match node {
         Node::Complement(_, _) => true,
         Node::Reduce(op, _) => !is_function(*op),
-        _ => needs_brackets(node),
+        Node::Arithmetic(_, _, _) => true,
+        Node::Shift(_, _, _) => true,
+        Node::Compare(_, _, _) => true,
+        Node::Connect(_, _) => true,
+        Node::Choose(_, _, _, _) => true,
+        Node::Concat(_, _, parts) => parts.is_empty(),
+        _ => false,
     }
 }
 
-/// Adds an expression.
+/// A text between two others.
+fn within(alloc: Global, before: &str, text: &str, after: &str) -> Result<String, AllocError>
+    ensures { IfOk result (λ made.
+        string_bytes made ≡ before.now ++ text.now ++ after.now) }
+{
+    let mut made = String::from_str(alloc, before)?;
+    made.push_str(text)?;
+    made.push_str(after)?;
+    Ok(made)
+}
+
+/// A text in brackets, where it is to have them.
+fn bracketed(alloc: Global, text: String, is_bracketed: bool) -> Result<String, AllocError>
+    ensures { IfOk result (λ made. string_bytes made ≡ (if is_bracketed
+        then codes "(" ++ string_bytes text ++ codes ")" else string_bytes text)) }
+{
+    if is_bracketed {
+        return within(alloc, "(", text.as_str(), ")");
+    }
+    Ok(text)
+}
+
+/// A text, a sign and an operand; the text in brackets first, where its operator is looser than the
+/// sign's.
+fn joined(
+    alloc: Global,
+    text: String,
+    level: u8,
+    sign: &str,
+    sign_level: u8,
+    operand: &str,
+) -> Result<String, AllocError>
+    ensures { IfOk result (λ made. string_bytes made ≡ (if nat_lt level sign_level
+        then codes "(" ++ string_bytes text ++ codes ")" else string_bytes text)
+        ++ sign.now ++ operand.now) }
+{
+    let mut made = bracketed(alloc, text, level < sign_level)?;
+    made.push_str(sign)?;
+    made.push_str(operand)?;
+    Ok(made)
+}
+
+/// A condition, with what it chooses from.
+fn choice_text(
+    alloc: Global,
+    condition: String,
+    first: &str,
+    second: &str,
+) -> Result<String, AllocError>
+    ensures { IfOk result (λ made. string_bytes made
+        ≡ string_bytes condition ++ codes " ? " ++ (first.now ++ codes " : " ++ second.now)) }
+{
+    let mut text = condition;
+    text.push_str(" ? ")?;
+    text.push_str(within(alloc, first, " : ", second)?.as_str())?;
+    Ok(text)
+}
+
+/// The text of a tree.
 #[cycle(text)]
-fn push_node(text: &mut String, node: &Node, names: Names<'_>) -> Result<(), AllocError> {
+fn node_text(alloc: Global, node: &Node, names: Names<'_>) -> Result<String, AllocError>
+    ensures { IfOk result (λ text.
+        IsText (called names.entry) 1 (node_term node.now) (string_bytes text)) }
+{
     match node {
-        Node::Constant(bits) => push_number(text, *bits),
-        Node::Name(name) => text.push_str(names.name(*name)),
-        Node::Slice(part) => push_slice(text, *part, names),
+        Node::Constant(bits) => number_text(alloc, *bits),
+        Node::Name(name) => String::from_str(alloc, names.name(*name)),
+        Node::Slice(part) => bits_text(alloc, *part, names),
         Node::Group(_, operand) => {
-            text.push_str("{")?;
-            push_node(text, operand, names)?;
-            text.push_str("}")
+            let text = node_text(alloc, operand, names)?;
+            within(alloc, "{", text.as_str(), "}")
         }
         Node::Concat(_, first, parts) => {
-            text.push_str("{")?;
-            push_node(text, first, names)?;
-            push_parts(text, parts, names)?;
-            text.push_str("}")
+            let text = node_text(alloc, first, names)?;
+            parts_text(alloc, text, parts, names)
         }
         Node::Complement(_, operand) => {
-            text.push_str("~")?;
-            push_operand(text, operand, needs_brackets_after_sign(operand), names)
+            let text = primary_text(alloc, operand, names)?;
+            within(alloc, "~", text.as_str(), "")
         }
-        Node::Reduce(op, operand) => push_reduction(text, *op, operand, names),
+        Node::Reduce(op, operand) => reduction_text(alloc, *op, operand, names),
         Node::Arithmetic(_, first, steps) => {
-            push_operand(text, first, needs_brackets(first), names)?;
-            push_sums(text, steps, names)
+            let text = operand_text(alloc, first, names)?;
+            sums_text(alloc, text, steps, names)
         }
         Node::Shift(_, first, steps) => {
-            push_operand(text, first, needs_brackets(first), names)?;
-            push_shifts(text, steps, names)
+            let text = operand_text(alloc, first, names)?;
+            shifts_text(alloc, text, steps, names)
         }
         Node::Compare(_, first, steps) => {
-            push_operand(text, first, needs_brackets(first), names)?;
-            push_comparisons(text, steps, names)
+            let text = operand_text(alloc, first, names)?;
+            comparisons_text(alloc, text, steps, names)
         }
         Node::Connect(first, steps) => {
-            push_operand(text, first, needs_brackets(first), names)?;
-            push_connections(text, steps, names)
+            let text = operand_text(alloc, first, names)?;
+            connections_text(alloc, text, steps, names)
         }
         Node::Choose(_, condition, first, second) => {
-            push_operand(text, condition, needs_brackets(condition), names)?;
-            text.push_str(" ? ")?;
-            push_operand(text, first, needs_brackets(first), names)?;
-            text.push_str(" : ")?;
-            push_operand(text, second, needs_brackets(second), names)
+            let condition = operand_text(alloc, condition, names)?;
+            let first = operand_text(alloc, first, names)?;
+            let second = operand_text(alloc, second, names)?;
+            choice_text(alloc, condition, first.as_str(), second.as_str())
         }
-        Node::Past(_, operand, ticks) => push_past(text, operand, *ticks, names),
-        Node::Change(op, operand) => push_call(text, change_word(*op), operand, names),
+        Node::Past(_, operand, ticks) => past_text(alloc, operand, *ticks, names),
+        Node::Change(op, operand) => call_text(alloc, change_word(*op), operand, names),
     }
 }
 
-/// Adds an operand, in brackets where it is to have them.
+/// An operand of an operator of two, in brackets where it needs them.
 #[cycle(text)]
-fn push_operand(
-    text: &mut String,
-    node: &Node,
-    is_bracketed: bool,
-    names: Names<'_>,
-) -> Result<(), AllocError> {
-    if !is_bracketed {
-        return push_node(text, node, names);
-    }
-    text.push_str("(")?;
-    push_node(text, node, names)?;
-    text.push_str(")")
+fn operand_text(alloc: Global, node: &Node, names: Names<'_>) -> Result<String, AllocError>
+    ensures { IfOk result (λ text.
+        IsText (called names.entry) 11 (node_term node.now) (string_bytes text)) }
+{
+    let text = node_text(alloc, node, names)?;
+    bracketed(alloc, text, needs_brackets(node))
 }
 
-/// Adds a function of one operand.
+/// The operand of an operator of one, in brackets where it needs them.
 #[cycle(text)]
-fn push_call(
-    text: &mut String,
+fn primary_text(alloc: Global, node: &Node, names: Names<'_>) -> Result<String, AllocError>
+    ensures { IfOk result (λ text.
+        IsText (called names.entry) 12 (node_term node.now) (string_bytes text)) }
+{
+    let text = node_text(alloc, node, names)?;
+    bracketed(alloc, text, needs_brackets_after_sign(node))
+}
+
+/// A function of one operand.
+#[cycle(text)]
+fn call_text(
+    alloc: Global,
     word: &str,
     operand: &Node,
     names: Names<'_>,
-) -> Result<(), AllocError> {
-    text.push_str(word)?;
-    text.push_str("(")?;
-    push_node(text, operand, names)?;
-    text.push_str(")")
+) -> Result<String, AllocError>
+    ensures { IfOk result (λ text. IsWithin (word.now ++ codes "(") (codes ")")
+        (IsText (called names.entry) 1 (node_term operand.now)) (string_bytes text)) }
+{
+    let text = node_text(alloc, operand, names)?;
+    let mut made = String::from_str(alloc, word)?;
+    made.push_str("(")?;
+    made.push_str(text.as_str())?;
+    made.push_str(")")?;
+    Ok(made)
 }
 
-/// Adds a value so many ticks before.
+/// How many ticks before, if it isn't one.
+fn ticks_text(alloc: Global, ticks: u8) -> Result<String, AllocError>
+    ensures { IfOk result (λ text. string_bytes text ≡ ticks_text (ticks == 1) ticks) }
+{
+    if ticks == 1 {
+        return Ok(String::new(alloc));
+    }
+    format!(in alloc; ", {ticks}")
+}
+
+/// A value so many ticks before.
 #[cycle(text)]
-fn push_past(
-    text: &mut String,
+fn past_text(
+    alloc: Global,
     operand: &Node,
     ticks: u8,
     names: Names<'_>,
-) -> Result<(), AllocError> {
-    text.push_str("$past(")?;
-    push_node(text, operand, names)?;
-    if ticks != 1 {
-        write!(text, ", {ticks}")?;
-    }
-    text.push_str(")")
+) -> Result<String, AllocError>
+    ensures { IfOk result (λ text.
+        IsText (called names.entry) 1 (past (node_term operand.now) ticks) (string_bytes text)) }
+{
+    let text = node_text(alloc, operand, names)?;
+    let mut after = ticks_text(alloc, ticks)?;
+    after.push_str(")")?;
+    within(alloc, "$past(", text.as_str(), after.as_str())
 }
 
-/// Adds a test of all bits.
+/// A test of all bits.
 #[cycle(text)]
-fn push_reduction(
-    text: &mut String,
+fn reduction_text(
+    alloc: Global,
     op: Reduction,
     operand: &Node,
     names: Names<'_>,
-) -> Result<(), AllocError> {
+) -> Result<String, AllocError>
+    ensures { IfOk result (λ text.
+        IsText (called names.entry) 1 (reduce op (node_term operand.now)) (string_bytes text)) }
+{
     if is_function(op) {
-        return push_call(text, reduction_word(op), operand, names);
+        return call_text(alloc, reduction_word(op), operand, names);
     }
-    text.push_str(reduction_word(op))?;
-    push_operand(text, operand, needs_brackets_after_sign(operand), names)
+    let text = primary_text(alloc, operand, names)?;
+    within(alloc, reduction_word(op), text.as_str(), "")
 }
 
-/// Adds further parts of a concatenation.
+/// A concatenation, from the text of its first part.
 #[cycle(text)]
-fn push_parts(text: &mut String, parts: &[Node], names: Names<'_>) -> Result<(), AllocError> {
+fn parts_text(
+    alloc: Global,
+    text: String,
+    parts: &[Node],
+    names: Names<'_>,
+) -> Result<String, AllocError>
+    ensures { (first : Term) → IsText (called names.entry) 1 first (string_bytes text)
+        → IfOk result (λ made. IsText (called names.entry) 1
+        (concatenation_term first (map seen_node parts.now)) (string_bytes made)) }
+{
+    let mut text = text;
+    if parts.is_empty() {
+        return Ok(text);
+    }
     for part in parts {
         text.push_str(", ")?;
-        push_node(text, part, names)?;
+        text.push_str(node_text(alloc, part, names)?.as_str())?;
     }
-    Ok(())
+    within(alloc, "{", text.as_str(), "}")
 }
 
-/// Adds further operands of a chain.
+/// A chain of sums, from the text of its first operand.
 #[cycle(text)]
-fn push_sums(
-    text: &mut String,
+fn sums_text(
+    alloc: Global,
+    text: String,
     steps: &[(Arithmetic, Node)],
     names: Names<'_>,
-) -> Result<(), AllocError> {
+) -> Result<String, AllocError>
+    ensures { (first : Term) → IsText (called names.entry) 11 first (string_bytes text)
+        → IfOk result (λ made. IsText (called names.entry) 1
+        (chain_term combine first (map step_of steps.now)) (string_bytes made)) }
+{
+    let mut text = text;
+    let mut level = SIGNED;
     for step in steps {
-        text.push_str(arithmetic_sign(step.0))?;
-        push_operand(text, &step.1, needs_brackets(&step.1), names)?;
+        let next = sum_level(step.0);
+        let operand = operand_text(alloc, &step.1, names)?;
+        text = joined(alloc, text, level, sum_sign(step.0), next, operand.as_str())?;
+        level = next;
     }
-    Ok(())
+    Ok(text)
 }
 
-/// Adds further operands of a chain.
+/// A chain of shifts, from the text of its first operand.
 #[cycle(text)]
-fn push_shifts(
-    text: &mut String,
+fn shifts_text(
+    alloc: Global,
+    text: String,
     steps: &[(Shift, Node)],
     names: Names<'_>,
-) -> Result<(), AllocError> {
+) -> Result<String, AllocError>
+    ensures { (first : Term) → IsText (called names.entry) 11 first (string_bytes text)
+        → IfOk result (λ made. IsText (called names.entry) 1
+        (chain_term shift first (map step_of steps.now)) (string_bytes made)) }
+{
+    let mut text = text;
     for step in steps {
-        text.push_str(shift_sign(step.0))?;
-        push_operand(text, &step.1, needs_brackets(&step.1), names)?;
+        let operand = operand_text(alloc, &step.1, names)?;
+        text = joined(
+            alloc,
+            text,
+            SHIFTED,
+            shift_sign(step.0),
+            SHIFTED,
+            operand.as_str(),
+        )?;
     }
-    Ok(())
+    Ok(text)
 }
 
-/// Adds further operands of a chain.
+/// A chain of comparisons, from the text of its first operand.
 #[cycle(text)]
-fn push_comparisons(
-    text: &mut String,
+fn comparisons_text(
+    alloc: Global,
+    text: String,
     steps: &[(Comparison, Node)],
     names: Names<'_>,
-) -> Result<(), AllocError> {
+) -> Result<String, AllocError>
+    ensures { (first : Term) → IsText (called names.entry) 11 first (string_bytes text)
+        → IfOk result (λ made. IsText (called names.entry) 1
+        (chain_term compare first (map step_of steps.now)) (string_bytes made)) }
+{
+    let mut text = text;
+    let mut level = SIGNED;
     for step in steps {
-        text.push_str(comparison_sign(step.0))?;
-        push_operand(text, &step.1, needs_brackets(&step.1), names)?;
+        let next = comparison_level(step.0);
+        let operand = operand_text(alloc, &step.1, names)?;
+        text = joined(
+            alloc,
+            text,
+            level,
+            comparison_sign(step.0),
+            next,
+            operand.as_str(),
+        )?;
+        level = next;
     }
-    Ok(())
+    Ok(text)
 }
 
-/// Adds further operands of a chain.
+/// A chain of connectives, from the text of its first operand.
 #[cycle(text)]
-fn push_connections(
-    text: &mut String,
+fn connections_text(
+    alloc: Global,
+    text: String,
     steps: &[(Connective, Node)],
     names: Names<'_>,
-) -> Result<(), AllocError> {
+) -> Result<String, AllocError>
+    ensures { (first : Term) → IsText (called names.entry) 11 first (string_bytes text)
+        → IfOk result (λ made. IsText (called names.entry) 1
+        (chain_term connect first (map step_of steps.now)) (string_bytes made)) }
+{
+    let mut text = text;
+    let mut level = SIGNED;
     for step in steps {
-        text.push_str(connective_sign(step.0))?;
-        push_operand(text, &step.1, needs_brackets(&step.1), names)?;
+        let next = connective_level(step.0);
+        let operand = operand_text(alloc, &step.1, names)?;
+        text = joined(
+            alloc,
+            text,
+            level,
+            connective_sign(step.0),
+            next,
+            operand.as_str(),
+        )?;
+        level = next;
     }
-    Ok(())
+    Ok(text)
 }

@@ -1,5 +1,9 @@
 //! Where the parts of a sequence may begin and end, beside its first tick.
 
+ghost use Rattle.std.specs.Prelude.{◌≡◌, ◌-◌, ◌++◌, [], ◌∷◌, OnOk};
+ghost use Rattle.assertions.specs.Shapes.{written_form};
+ghost use Rattle.report_explained.specs.Asked.{length_of, later, repeated, places_in, place_at};
+
 use assertions::{Boolean, Sequence};
 use std::alloc::AllocError;
 
@@ -11,8 +15,13 @@ pub(crate) struct Interval {
 }
 
 impl Interval {
+    ghost use Rattle.std.specs.Prelude.{◌≡◌, min, max};
+    ghost use Rattle.report_explained.specs.Asked.{from_to, later, delayed, repeated};
+
     /// Later by a number of ticks from the least to the most.
-    fn later(self, least: usize, most: usize) -> Interval {
+    fn later(self, least: usize, most: usize) -> Interval
+        ensures { result ≡ later self least most }
+    {
         Interval {
             least: self.least.saturating_add(least),
             most: self.most.saturating_add(most),
@@ -20,7 +29,9 @@ impl Interval {
     }
 
     /// A number of ticks from the least to the most after the last tick of what ends here.
-    fn delayed(self, least: u8, most: u8) -> Interval {
+    fn delayed(self, least: u8, most: u8) -> Interval
+        ensures { result ≡ delayed self least most }
+    {
         let after = self.later(usize::from(least), usize::from(most));
         Interval {
             least: after.least.saturating_sub(1),
@@ -29,7 +40,9 @@ impl Interval {
     }
 
     /// So many times, from the least number of times to the most.
-    fn times(self, least: u8, most: u8) -> Interval {
+    fn times(self, least: u8, most: u8) -> Interval
+        ensures { result ≡ repeated self least most }
+    {
         Interval {
             least: self.least.saturating_mul(usize::from(least)),
             most: self.most.saturating_mul(usize::from(most)),
@@ -37,7 +50,9 @@ impl Interval {
     }
 
     /// Both, and all that lies between.
-    fn joined(self, other: Interval) -> Interval {
+    fn joined(self, other: Interval) -> Interval
+        ensures { result ≡ from_to (min self.least other.least) (max self.most other.most) }
+    {
         Interval {
             least: self.least.min(other.least),
             most: self.most.max(other.most),
@@ -45,7 +60,9 @@ impl Interval {
     }
 
     /// The later of both.
-    fn later_of(self, other: Interval) -> Interval {
+    fn later_of(self, other: Interval) -> Interval
+        ensures { result ≡ from_to (max self.least other.least) (max self.most other.most) }
+    {
         Interval {
             least: self.least.max(other.least),
             most: self.most.max(other.most),
@@ -53,7 +70,9 @@ impl Interval {
     }
 
     /// What both have.
-    fn common(self, other: Interval) -> Interval {
+    fn common(self, other: Interval) -> Interval
+        ensures { result ≡ from_to (max self.least other.least) (min self.most other.most) }
+    {
         Interval {
             least: self.least.max(other.least),
             most: self.most.min(other.most),
@@ -69,7 +88,9 @@ pub(crate) struct Place {
 }
 
 /// How many ticks the matches of a sequence may take.
-fn length_of(sequence: &Sequence) -> Interval {
+fn length_of(sequence: &Sequence) -> Interval
+    ensures { result ≡ length_of (written_form sequence.now) }
+{
     match sequence {
         Sequence::Boolean(_) => Interval { least: 1, most: 1 },
         Sequence::Delay(first, least, most, second) => {
@@ -89,7 +110,10 @@ fn length_of(sequence: &Sequence) -> Interval {
 }
 
 /// Where the last of so many matches of a body begins, of which the first begins here.
-fn begins_of_body(body: &Sequence, most: u8, begins: Interval) -> Interval {
+fn begins_of_body(body: &Sequence, most: u8, begins: Interval) -> Interval
+    ensures { result ≡ later begins 0
+        (repeated (length_of (written_form body.now)) 1 (most - 1)).most }
+{
     let turns = length_of(body).times(1, most.saturating_sub(1));
     begins.later(0, turns.most)
 }
@@ -99,7 +123,10 @@ pub(crate) fn push_places(
     sequence: &Sequence,
     begins: Interval,
     places: &mut Vec<Place>,
-) -> Result<(), AllocError> {
+) -> Result<(), AllocError>
+    ensures { OnOk result (places.new.items
+        ≡ places.old.items ++ places_in begins (written_form sequence.now)) }
+{
     match sequence {
         Sequence::Boolean(boolean) => push_place(*boolean, begins, places),
         Sequence::Delay(first, least, most, second) => {
@@ -135,11 +162,10 @@ pub(crate) fn push_places(
 }
 
 /// Adds one place.
-fn push_place(
-    boolean: Boolean,
-    within: Interval,
-    places: &mut Vec<Place>,
-) -> Result<(), AllocError> {
+fn push_place(boolean: Boolean, within: Interval, places: &mut Vec<Place>) -> Result<(), AllocError>
+    ensures { OnOk result (places.new.items
+        ≡ places.old.items ++ place_at boolean within ∷ []) }
+{
     places.push(Place { boolean, within })?;
     Ok(())
 }

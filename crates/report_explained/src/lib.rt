@@ -18,13 +18,14 @@
 //! a cell for each clock.
 //!
 //! The definitions: which attempts are asked for, in `specs/Chosen.antt`; what an explanation says,
-//! in `specs/Explained.antt`; what a sheet shows, in `specs/Shown.antt`; what stands between an
-//! assertion's sides, in `specs/Arrows.antt`; what is told of it, in `specs/Told.antt`; and as
-//! text, in `specs/ExplainedText.antt` and `specs/SheetText.antt`. Lines are those of
-//! `report_suites`, causes those of `judging`, values those of `expressions`.
+//! in `specs/Explained.antt`; what a sheet shows, in `specs/Shown.antt`; at which clocks a boolean
+//! is shown, in `specs/Asked.antt`; the text of a boolean, in `specs/ExpressionText.antt`; what
+//! stands between an assertion's sides, in `specs/Arrows.antt`; what is told of it, in
+//! `specs/Told.antt`; and as text, in `specs/ExplainedText.antt` and `specs/SheetText.antt`. Lines
+//! are those of `report_suites`, causes those of `judging`, values those of `expressions`.
 //!
-//! Not promised, but tested: what counters and booleans are called, at which clocks a sheet shows a
-//! boolean, how wide its columns are, and the digits of a value of over 64 bits.
+//! Not promised, but tested: how wide the columns of a sheet are, where a dash or a heading stands,
+//! and the digits of a value of over 64 bits.
 #![tactic(auto)]
 
 mod arrow;
@@ -50,5 +51,6 @@ pub use explanation::{Explanation, Judged, Reason, explain};
 pub use failed_attempt::{FailedAttempt, Standing, told_of};
 pub use selection::Wanted;
 pub use sheet::{Sheet, SheetRow};
+pub use sheet_text::is_gap;
 pub use text::{explained_text, push_ends};
 pub use values::value_text;

@@ -1,13 +1,16 @@
 //! Sheets: the values that an attempt saw.
 
 ghost use Rattle.std.specs.Prelude.{◌≡◌, ◌++◌, ◌<◌, ◌≤◌, ◌^◌, ◌-◌, IfOk, OnOk, map, length};
-ghost use Rattle.std.specs.Prelude.{string_bytes, false};
+ghost use Rattle.std.specs.Prelude.{string_bytes, false, slice_get};
+ghost use Rattle.assertions.specs.Shapes.{expression_at};
 ghost use Rattle.report_explained.specs.declared.cells.RowSource.TheVariants.{Signal, Counter};
 ghost use Rattle.report_explained.specs.Shown.{IsShownRow, ShowsRows, ArePlaces, AreSources};
 ghost use Rattle.report_explained.specs.Shown.{listed_below, is_at_end, AreShownIn};
-ghost use Rattle.report_explained.specs.Shown.{IsCalled, bits_of_row, IsSheet};
+ghost use Rattle.report_explained.specs.Shown.{IsCalled, IsTextAt, bits_of_row, IsSheet};
+ghost use Rattle.report_explained.specs.Asked.{AreAsked};
+ghost use Rattle.report_explained.specs.ExpressionText.{called, called_in};
 
-use crate::asked::{Asked, Attempt};
+use crate::asked::Asked;
 use crate::cells::{Read, RowSource, cells_of, has_change};
 use crate::expression_text::{Names, expression_text};
 use crate::reach::reach;
@@ -26,7 +29,7 @@ pub struct SheetRow {
     /// The clock at which the side of the assertion begins that has the boolean; of a signal or a
     /// counter 0.
     pub from: usize,
-    /// The value at each clock, or none where a boolean is not asked.
+    /// The value at each clock, or none where the attempt can't ask a boolean.
     pub cells: Vec<Option<u128>>,
 }
 
@@ -65,15 +68,11 @@ fn is_kept(read: &Read<'_>, first: usize, end: usize, clock: usize, between: &mu
 
 /// The clocks from so many before the attempt's first up to its last. Of a long run those at both
 /// ends, and between them the first at which a boolean of the assertion changes.
-fn clocks_of(
-    alloc: Global,
-    read: &Read<'_>,
-    attempt: Attempt,
-    before: usize,
-) -> Result<Vec<usize>, AllocError>
-    ensures { IfOk result (λ clocks.
-        AreShownIn (attempt.start - before) attempt.end clocks.items) }
+fn clocks_of(alloc: Global, read: &Read<'_>, before: usize) -> Result<Vec<usize>, AllocError>
+    ensures { IfOk result (λ clocks. AreShownIn (read.now.attempt.start - before)
+        read.now.attempt.end clocks.items) }
 {
+    let attempt = read.attempt;
     let first = attempt.start.saturating_sub(before);
     let last = attempt.end.max(first);
     let mut clocks = Vec::new(alloc);
@@ -162,8 +161,8 @@ fn label_of(
     names: Names<'_>,
     source: RowSource,
 ) -> Result<String, AllocError>
-    requires { names.signals.now ≡ read.now.suite.now.names.items }
-    ensures { IfOk result (λ label. IsCalled read.now.suite.now source (string_bytes label)) }
+    ensures { IfOk result (λ label. IsCalled read.now.suite.now (called names.entry)
+        read.now.assertion.now source (string_bytes label)) }
 {
     match source {
         RowSource::Signal(place) => String::from_str(alloc, names.signal(place)),
@@ -178,7 +177,11 @@ fn listed_text(
     read: &Read<'_>,
     names: Names<'_>,
     listed: usize,
-) -> Result<String, AllocError> {
+) -> Result<String, AllocError>
+    ensures { IfOk result (λ text. IsTextAt (called names.entry)
+        (expression_at read.now.suite.now.booleans.items
+        (slice_get read.now.assertion.now.booleans.items listed)) (string_bytes text)) }
+{
     let Some(place) = read.assertion.booleans.get(listed) else {
         return Ok(String::new(alloc));
     };
@@ -223,9 +226,9 @@ fn row_of(
     source: RowSource,
     clocks: &[usize],
 ) -> Result<SheetRow, AllocError>
-    requires { names.signals.now ≡ read.now.suite.now.names.items }
-    ensures { IfOk result (IsShownRow read.now.suite.now read.now.assertion.now
-        read.now.rows.now clocks.now source) }
+    requires { AreAsked read.now.assertion.now read.now.attempt asked.now }
+    ensures { IfOk result (IsShownRow read.now.suite.now (called names.entry) read.now.assertion.now
+        read.now.attempt read.now.rows.now clocks.now source) }
 {
     let label = label_of(alloc, read, names, source)?;
     let cells = cells_of(alloc, read, asked, source, clocks)?;
@@ -247,9 +250,10 @@ fn rows_of(
     sources: &[RowSource],
     clocks: &[usize],
 ) -> Result<Vec<SheetRow>, AllocError>
-    requires { names.signals.now ≡ read.now.suite.now.names.items }
-    ensures { IfOk result (λ rows. ShowsRows read.now.suite.now read.now.assertion.now
-        read.now.rows.now clocks.now sources.now rows.items) }
+    requires { AreAsked read.now.assertion.now read.now.attempt asked.now }
+    ensures { IfOk result (λ rows. ShowsRows read.now.suite.now (called names.entry)
+        read.now.assertion.now read.now.attempt read.now.rows.now clocks.now sources.now
+        rows.items) }
 {
     let mut rows = Vec::with_capacity(alloc, sources.len())?;
     for source in sources {
@@ -261,18 +265,14 @@ fn rows_of(
 /// The sheet of a failed attempt: its clocks, and a row for each signal and each counter that the
 /// assertion reads and for each of its booleans. The names of the counters are those of the suite's
 /// in their order.
-pub fn sheet_of(
-    alloc: Global,
-    read: &Read<'_>,
-    attempt: Attempt,
-    counter_names: &[&str],
-) -> Result<Sheet, AllocError>
-    ensures { IfOk result (IsSheet read.now.suite.now read.now.assertion.now read.now.rows.now
-        attempt.start attempt.end) }
+pub fn sheet_of(alloc: Global, read: &Read<'_>, counter_names: &[&str]) -> Result<Sheet, AllocError>
+    ensures { IfOk result (IsSheet read.now.suite.now
+        (called_in read.now.suite.now (map (λ t. t.now) counter_names.now))
+        read.now.assertion.now read.now.attempt read.now.rows.now) }
 {
-    let clocks = clocks_of(alloc, read, attempt, reach(read))?;
+    let clocks = clocks_of(alloc, read, reach(read))?;
     let sources = sources_of(alloc, read)?;
-    let asked = Asked::of(alloc, read.assertion, attempt)?;
+    let asked = Asked::of(alloc, read.assertion, read.attempt)?;
     let names = Names {
         signals: read.suite.names.as_slice(),
         counters: counter_names,

@@ -18,8 +18,8 @@ const GAP: &str = "..";
 /// What stands above the booleans, where one has the text of a signal.
 const HEADING: &str = "booleans:";
 
-/// Whether clocks between two are left out.
-fn is_gap(before: Option<usize>, clock: Option<usize>) -> bool
+/// Whether clocks between two, one after the other on a sheet, are left out.
+pub fn is_gap(before: Option<usize>, clock: Option<usize>) -> bool
     ensures { result ≡ is_gap before clock }
 {
     match (before, clock) {

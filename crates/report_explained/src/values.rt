@@ -1,7 +1,7 @@
 //! Values as text.
 
 ghost use Rattle.std.specs.Prelude.{IfOk, string_bytes};
-ghost use Rattle.report_explained.specs.SheetText.{AreDigits, IsValueText};
+ghost use Rattle.report_explained.specs.SheetText.{AreDigits, IsMarked, IsValueText};
 
 use std::alloc::{AllocError, Global};
 
@@ -16,6 +16,16 @@ fn digits_of(alloc: Global, value: u128) -> Result<String, AllocError>
     format!(in alloc; "{value:x}")
 }
 
+/// A value in hexadecimal digits after their mark, as `'h1f`.
+pub(crate) fn marked_text(alloc: Global, value: u128) -> Result<String, AllocError>
+    ensures { IfOk result (λ text. IsMarked value (string_bytes text)) }
+{
+    let digits = digits_of(alloc, value)?;
+    let mut marked = String::from_str(alloc, "'h")?;
+    marked.push_str(digits.as_str())?;
+    Ok(marked)
+}
+
 /// A value of so many bits: in decimal digits up to 4 bits and up to 9, else in hexadecimal ones
 /// after a mark, as `'h1f`. So what has no mark is decimal.
 ///
@@ -28,8 +38,5 @@ pub fn value_text(alloc: Global, value: u128, width: u8) -> Result<String, Alloc
     if width <= 4 || value <= 9 {
         return format!(in alloc; "{value}");
     }
-    let digits = digits_of(alloc, value)?;
-    let mut text = String::from_str(alloc, "'h")?;
-    text.push_str(digits.as_str())?;
-    Ok(text)
+    marked_text(alloc, value)
 }

@@ -105,10 +105,12 @@ unfoldable pub has_text : List ℕ → List ℕ → Bool
 has_text text [] = starts_with nat_eq [] text
 has_text text (b ∷ bs) = starts_with nat_eq (b ∷ bs) text || has_text text bs
 
--- neither a row of an assertion nor a section stands there
+-- Neither a row of an assertion nor a section stands there, and no comment begins there that would
+-- hide one.
 abbrev pub IsPlain : List ℕ → Type 0
 IsPlain text =
     (has_text (codes "<tr class") text ≡ false) × (has_text (codes "<section") text ≡ false)
+    × (has_text (codes "<!--") text ≡ false)
 
 -- what stands between the parts of a page
 pub record Between : Type 0 where

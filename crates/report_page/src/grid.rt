@@ -1,6 +1,6 @@
 //! Where the columns and rows of a picture stand.
 
-use report_explained::{Sheet, SheetRow, value_text};
+use report_explained::{Sheet, SheetRow, is_gap, value_text};
 use report_forms::Provenance;
 use std::alloc::{AllocError, Global};
 
@@ -84,16 +84,6 @@ fn width_of(letters: usize) -> usize {
     letters.saturating_mul(LETTER).saturating_add(16)
 }
 
-/// Whether clocks before the one at a place are left out.
-fn is_after_gap(clocks: &[usize], place: usize) -> bool {
-    if place == 0 {
-        return false;
-    }
-    let here = clocks.get(place).copied().unwrap_or(0);
-    let before = clocks.get(place - 1).copied().unwrap_or(here);
-    here > before && here - before > 1
-}
-
 /// The left sides of columns of a width, of which the first is given; a column is left free where
 /// clocks are left out.
 fn columns_from(
@@ -104,12 +94,14 @@ fn columns_from(
 ) -> Result<Vec<usize>, AllocError> {
     let mut columns = Vec::with_capacity(alloc, clocks.len())?;
     let mut next = left;
-    for place in 0..clocks.len() {
-        if is_after_gap(clocks, place) {
+    let mut before = None;
+    for clock in clocks {
+        if is_gap(before, Some(*clock)) {
             next = next.saturating_add(width);
         }
         columns.push(next)?;
         next = next.saturating_add(width);
+        before = Some(*clock);
     }
     Ok(columns)
 }

@@ -1,3 +1,6 @@
+use Rattle.std.proofs.Common.{ℕ, List, subst}
+use Rattle.parser_grammar.specs.Views.{items_of}
+use Rattle.report_explained.specs.Explained.{AreExplained}
 use Rattle.cli.specs.Explained.{WhyNotExplained}
 use Rattle.cli.proofs.ExplainedLaws.{unnamed}
 use Rattle.cli_faults.proofs.FaultLaws.{err_is}
@@ -17,5 +20,10 @@ pub returns-clause-ok : goal.returns-clause-ok
 returns-clause-ok g c = λ k holds. record {
   traced = c.in_ok-trace.ensures.ok k holds;
   asked = c.in_ok-find_wanted.ensures.found;
-  explained = c.in_ok-explanations.ensures;
+  items = items_of c.in_ok-file.file;
+  spelled = c.in_ok-file.ensures.ok;
+  explained = subst
+      (λ (names : List (List ℕ)). AreExplained c.in_ok-trace.trace.suite names c.in_ok-trace.trace.rows
+      c.args.wanted.now c.in_ok-trace.trace.report.lines.items c.in_ok-explanations.explanations.items)
+      c.in_ok-heads.ensures.counters c.in_ok-explanations.ensures;
 }

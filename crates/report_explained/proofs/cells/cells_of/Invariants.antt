@@ -1,9 +1,10 @@
-use Rattle.std.proofs.Common.{take}
-use Rattle.report_explained.specs.Shown.{ShowsSource}
+use Rattle.std.proofs.Common.{◌≡◌, ◌++◌, drop, map}
+use Rattle.report_explained.specs.Shown.{cell_at}
 use Rattle.report_explained.proofs.cells.cells_of.Given as goal
 
--- the cells so far
+-- those that are left decide
 abbrev pub invariant-loop-clock : goal.invariant-loop-clock
 invariant-loop-clock l =
     let read = l.read in
-    ShowsSource read.suite.now read.assertion.now read.rows.now (take l.clock-index l.clocks) l.source l.cells.items
+    let cell = cell_at read.suite.now read.assertion.now read.attempt read.rows.now l.source in
+    l.cells.items ++ map cell (drop l.clock-index l.clocks) ≡ map cell l.clocks

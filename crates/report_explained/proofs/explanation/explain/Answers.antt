@@ -1,6 +1,7 @@
 use Rattle.std.proofs.Common.{◌≡◌, ◌∙◌, ◌+◌, ℕ, Some, sym, subst, arith}
 use Rattle.std.specs.Prelude.{slice_get}
 use Rattle.std.specs.List.{AllByRecursion}
+use Rattle.report_explained.specs.Explained.{counters_of}
 use Rattle.report_explained.specs.Failed.{IsOfFailed}
 use Rattle.report_explained.proofs.FailedLaws.{each_chosen, each_line}
 use Rattle.report_explained.proofs.explanation.explain.Goals as goal
@@ -21,6 +22,7 @@ returns c =
     record {
       chosen = c.in_ok-explanations.ensures.are ∙ c.as_slice.ensures.value ∙ c.in_ok-choices.ensures;
       each = c.in_ok-explanations.ensures.say;
-      placed = each_line judged.suite.now judged.rows.now c.args.lines.now c.in_ok-explanations.explanations.items
+      placed = each_line judged.suite.now (counters_of judged) judged.rows.now c.args.lines.now
+          c.in_ok-explanations.explanations.items
           c.requires.judged c.in_ok-explanations.ensures.say;
     }

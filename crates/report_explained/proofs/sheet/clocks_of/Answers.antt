@@ -7,13 +7,13 @@ use Rattle.report_explained.proofs.sheet.clocks_of.Goals.{then-is_kept+in_ok-pus
 pub loop-clock-init : goal.loop-clock-init
 loop-clock-init c =
     let first = c.saturating_sub-first.result in
-    shown_none (is_at_end first c.args.attempt.end) first c.new-clocks.result.items c.new-clocks.ensures.items
+    shown_none (is_at_end first c.args.read.now.attempt.end) first c.new-clocks.result.items c.new-clocks.ensures.items
 
 pub loop-clock-preserved : goal.loop-clock-preserved
 loop-clock-preserved c =
     let first = c.saturating_sub-first.result in
     let clock = c.loop-clock.clock in
-    let must = is_at_end first c.args.attempt.end in
+    let must = is_at_end first c.args.read.now.attempt.end in
     let above : first ≤ clock = omega (arith, c.loop-clock.auto.clock) in
     let old = c.loop-clock.clocks.items in
     elim c.if-is_kept.branch [
@@ -29,8 +29,8 @@ loop-clock-preserved c =
 pub returns : goal.returns
 returns c =
     let first = c.saturating_sub-first.result in
-    let end = c.args.attempt.end in
-    shown_all first (c.args.attempt.start - c.args.before) end c.loop-clock.clock c.loop-clock.clocks.items
+    let end = c.args.read.now.attempt.end in
+    shown_all first (c.args.read.now.attempt.start - c.args.before) end c.loop-clock.clock c.loop-clock.clocks.items
     c.saturating_sub-first.ensures
     (omega (arith, c.loop-clock-test.false, c.max-last.ensures, c.loop-clock.auto.clock-end))
     c.loop-clock.invariant

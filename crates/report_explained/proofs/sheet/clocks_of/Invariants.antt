@@ -5,4 +5,4 @@ use Rattle.report_explained.proofs.sheet.clocks_of.Given as goal
 -- the clocks so far
 abbrev pub invariant-loop-clock : goal.invariant-loop-clock
 invariant-loop-clock l =
-    AreShown (is_at_end l.first l.attempt.end) l.first (l.clock - l.first) l.clocks.items
+    AreShown (is_at_end l.first l.read.attempt.end) l.first (l.clock - l.first) l.clocks.items

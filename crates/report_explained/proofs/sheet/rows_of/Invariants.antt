@@ -1,4 +1,5 @@
 use Rattle.std.proofs.Common.{take}
+use Rattle.report_explained.specs.ExpressionText.{called}
 use Rattle.report_explained.specs.Shown.{ShowsRows}
 use Rattle.report_explained.proofs.sheet.rows_of.Given as goal
 
@@ -6,4 +7,5 @@ use Rattle.report_explained.proofs.sheet.rows_of.Given as goal
 abbrev pub invariant-loop-source : goal.invariant-loop-source
 invariant-loop-source l =
     let read = l.read in
-    ShowsRows read.suite.now read.assertion.now read.rows.now l.clocks (take l.source-index l.sources) l.rows.items
+    ShowsRows read.suite.now (called l.names) read.assertion.now read.attempt read.rows.now l.clocks
+    (take l.source-index l.sources) l.rows.items

@@ -28,5 +28,5 @@ returns c =
     (ap (λ (v : Vec ℕ Global). v.items) c.into_bytes.ensures.value) c.in_ok-sections.ensures
     (from_empty c.new-text.ensures.bytes c.in_ok-push_text.ensures) c.in_ok-push_escaped.ensures
     c.in_ok-push_text-2.ensures c.in_ok-push_intro.ensures c.in_ok-push_text-3.ensures rows
-    c.in_ok-push_text-4.ensures sections c.in_ok-push_text-5.ensures (refl, refl) (refl, refl) (refl, refl)
-    (refl, refl) (refl, refl)
+    c.in_ok-push_text-4.ensures sections c.in_ok-push_text-5.ensures (refl, refl, refl)
+    (refl, refl, refl) (refl, refl, refl) (refl, refl, refl) (refl, refl, refl)
