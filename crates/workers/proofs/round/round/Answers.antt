@@ -1,4 +1,4 @@
-use Rattle.std.proofs.Common.{◌≡◌, ◌+◌, ap, vec_len, arith, rules}
+use Rattle.std.proofs.Common.{◌≡◌, ◌+◌, ◌∙◌, ap, vec_len, arith, rules}
 use Rattle.std.proofs.lemmas.List.Elements.{All-set}
 use Rattle.std.proofs.lemmas.List.Sorted.{All-permutation}
 use Rattle.crossbeam_queue.specs.Passes.{view}
@@ -84,7 +84,15 @@ returns-clause-threads g c =
       putting = c.put_all-pass.result;
       passes = c.in_ok-passes.field-0.passes.items;
       rest = c.finish-rest.result.items;
-      each = c.in_ok-passes.ensures.each ∙ c.in_ok-all.ensures.count ∙ c.in_ok-tasks.ensures.count;
+      each = omega (
+        arith,
+        c.in_ok-passes.ensures.each,
+        c.in_ok-passes.field-0.passes.ok.0,
+        c.in_ok-all.all.ok.0,
+        c.in_ok-all.ensures.count,
+        c.in_ok-tasks.tasks.ok.0,
+        c.in_ok-tasks.ensures.count,
+      );
       put = ap (λ (v : Hand). v.put) c.put_all-pass.ensures.put ∙ c.requires.order
           ∙ ap (upto 0) c.requires.count;
       none = ap (λ (v : Hand). v.taken) c.put_all-pass.ensures.put
