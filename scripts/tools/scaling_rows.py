@@ -1,8 +1,8 @@
 """How time and memory grow with the input: each command over a text, a dump or a team's file of one shape, at a size
 and at twice as much. `outside` imports it.
 
-Not among them are shapes that still grow faster than they should: texts of which `lint` refuses thousands of items,
-scopes inside one another, packages that hand on names of thousands of others.
+Not among them are shapes that still grow faster than they should: sequences of which `lint` refuses thousands, scopes
+inside one another, packages that hand on names of thousands of others.
 """
 import os
 import subprocess
@@ -51,6 +51,12 @@ TEXTS = {
     "sequences": (("check", "lint"), 5000,
                   lambda n: many("sequence s{} ; tb.a ##1 tb.b endsequence\n", n) + RULE.format(1, "s0")),
     "a chain": (("lint",), 20_000, lambda n: RULE.format(1, " ##1 ".join(["tb.a"] * n))),
+    "rules that end too early": (("lint",), 4000, lambda n: many(RULE, n, "tb.a |->")),
+    "strings in rules": (("lint",), 4000, lambda n: many(RULE, n, 'tb.a |-> "x"')),
+    "unknown names": (("lint",), 4000, lambda n: many(RULE, n, "tb.a |-> tb.c")),
+    "unknown names in rules of a sequence": (("lint",), 3000, lambda n: "sequence s; tb.a; endsequence\n"
+                                             + many(RULE, n, "s |-> tb.c")),
+    "rules of one name": (("lint",), 3000, lambda n: RULE.format(1, "tb.a |-> tb.b") * n),
     "what is no rule": (("lint", "check"), 40_000, lambda n: "if ( begin " * n),
 }
 DUMPS = {

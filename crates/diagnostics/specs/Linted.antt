@@ -1,6 +1,7 @@
 -- What is told of a text: each refusal is one of the text without the items that were refused
 -- before it.
-use Rattle.std.specs.Prelude.{◌≡◌, ℕ, ◌-◌, [], ◌∷◌, ◌++◌, List, Option, length, min, IfSome}
+use Rattle.std.specs.Prelude.{◌≡◌, ◌≤◌, ◌<◌, ℕ, ◌-◌, [], ◌∷◌, ◌++◌, List, Option, length, min}
+use Rattle.std.specs.Prelude.{IfSome}
 use Rattle.std.specs.Prelude.{string_bytes, String}
 use Rattle.std.specs.declared.alloc.Global.{Global}
 use Rattle.diagnostics.specs.Blanked.{blanked}
@@ -30,23 +31,47 @@ without text ends at =
     blanked text (start_of ends (item_of text ends at))
     (stop_of (length text) ends (item_of text ends at))
 
+-- what a front end refuses: a text first at a byte; what stands in a text at a byte, be it the
+-- first or not; and the item between two places of the whole text alone, at a byte
+pub record Refusing : Type 1 where
+  pub refuses : List ℕ → ℕ → Type 0
+  pub stands : List ℕ → ℕ → Type 0
+  pub alone : ℕ → ℕ → ℕ → Type 0
+
+abbrev pub refusing : (List ℕ → ℕ → Type 0) → (List ℕ → ℕ → Type 0) → (ℕ → ℕ → ℕ → Type 0)
+    → Refusing
+refusing refuses stands alone =
+    record { refuses = refuses; stands = stands; alone = alone }
+
 -- A text is refused at these bytes, one after another, each time without the items in which it was
 -- refused before, and this is left of it. An item between two places that is refused alone,
--- whatever stands beside it, is refused at any time.
-pub data AreRefusals (refuses : List ℕ → ℕ → Type 0) (alone : ℕ → ℕ → ℕ → Type 0)
-    (ends text : List ℕ) : List ℕ → List ℕ → Type 0 where
-  none : AreRefusals refuses alone ends text [] text
-  more : {places left : List ℕ} {at : ℕ} → AreRefusals refuses alone ends text places left
-      → refuses left at
-      → AreRefusals refuses alone ends text (places ++ at ∷ []) (without left ends at)
+-- whatever stands beside it, is refused at any time; so is an item in which something that is
+-- refused stood before others were left out.
+pub data AreRefusals (by : Refusing) (ends text : List ℕ) : List ℕ → List ℕ → Type 0 where
+  none : AreRefusals by ends text [] text
+  more : {places left : List ℕ} {at : ℕ} → AreRefusals by ends text places left
+      → by.refuses left at
+      → AreRefusals by ends text (places ++ at ∷ []) (without left ends at)
   by_itself : {places left : List ℕ} {at : ℕ} (item : ℕ)
-      → AreRefusals refuses alone ends text places left
-      → alone (start_of ends item) (stop_of (length text) ends item) at
-      → AreRefusals refuses alone ends text (places ++ at ∷ []) (without_item left ends item)
+      → AreRefusals by ends text places left
+      → by.alone (start_of ends item) (stop_of (length text) ends item) at
+      → AreRefusals by ends text (places ++ at ∷ []) (without_item left ends item)
+  beside : {before places earlier left : List ℕ} {at : ℕ} (item : ℕ)
+      → AreRefusals by ends text before earlier → by.stands earlier at
+      → start_of ends item ≤ at → at < stop_of (length text) ends item
+      → AreRefusals by ends text places left
+      → AreRefusals by ends text (places ++ at ∷ []) (without_item left ends item)
+
+-- Something that is refused stood at a byte of what was left of a text at some time.
+pub record HasStood (by : Refusing) (ends text : List ℕ) (at : ℕ) : Type 0 where
+  pub before : List ℕ
+  pub earlier : List ℕ
+  pub are : AreRefusals by ends text before earlier
+  pub stands : by.stands earlier at
 
 -- What is told of a text, and what is left of it, where that could be made.
-pub record IsTold (refuses : List ℕ → ℕ → Type 0) (alone : ℕ → ℕ → ℕ → Type 0)
-    (ends text places : List ℕ) (rest : Option (String Global)) : Type 0 where
+pub record IsTold (by : Refusing) (ends text places : List ℕ) (rest : Option (String Global)) :
+    Type 0 where
   pub left : List ℕ
-  pub are : AreRefusals refuses alone ends text places left
+  pub are : AreRefusals by ends text places left
   pub same : IfSome rest (λ t. string_bytes t ≡ left)

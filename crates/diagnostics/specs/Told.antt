@@ -5,7 +5,7 @@ use Rattle.std.specs.Prelude.{unwrap_or, codes, nat_le, nat_lt, ◌&&◌, ◌==�
 use Rattle.std.specs.List.{flat_map, after_last}
 use Rattle.std.specs.Str.Lines.{lines}
 use Rattle.std.specs.Fmt.{decimal}
-use Rattle.diagnostics.specs.Places.{is_feed, line_number, column_number}
+use Rattle.diagnostics.specs.Places.{is_feed, line_number, column_number, line_start}
 
 -- a text that grew by a piece
 pub record Grows (old new piece : List ℕ) : Type 0 where
@@ -15,17 +15,27 @@ pub record Grows (old new piece : List ℕ) : Type 0 where
 abbrev pub below : ℕ → List ℕ
 below b = if nat_le 128 b && nat_lt b 192 then [] else if b == 9 then 9 ∷ [] else 32 ∷ []
 
--- the text's line of a number, and nothing where the text ends before it
+-- the line of a text that begins at a byte, and nothing where the text ends there
 abbrev pub line_text : List ℕ → ℕ → List ℕ
-line_text text number = unwrap_or (slice_get (lines text) (number - 1)) []
+line_text text start = unwrap_or (slice_get (lines (drop start text)) 0) []
 
 -- the bytes of its line that stand in front of a byte
 abbrev pub front_of : List ℕ → ℕ → List ℕ
 front_of text at = after_last is_feed (take at text)
 
--- a character as it is shown: `?` for one that has no place on a line
+-- a character that has no place on a line: a control character but a tab, and one that sets a
+-- direction of letters (Unicode's standard annex 9)
+abbrev pub is_among : ℕ → ℕ → ℕ → Bool
+is_among first last c = nat_le first c && nat_le c last
+
+abbrev pub is_hidden : ℕ → Bool
+is_hidden c =
+    (nat_lt c 32 && not (c == 9)) || is_among 127 159 c || (c == 0x61c) || is_among 0x200e 0x200f c
+    || is_among 0x202a 0x202e c || is_among 0x2066 0x2069 c
+
+-- a character as it is shown, in one column: `?` for one that is hidden
 abbrev pub shown_char : ℕ → ℕ
-shown_char c = if (nat_lt c 32 && not (c == 9)) || (c == 127) then 63 else c
+shown_char c = if is_hidden c then 63 else c
 
 -- so many characters after so many others, as they are shown
 abbrev pub shown_text : ℕ → ℕ → List ℕ → List ℕ
@@ -54,7 +64,7 @@ place_text text at =
 unfoldable pub refusal_text : List ℕ → List ℕ → ℕ → List ℕ → List ℕ
 refusal_text path text at message =
     path ++ codes ":" ++ place_text text at ++ codes ": " ++ message ++ codes "\n"
-    ++ told_line (line_text text (line_number text at)) (front_of text at) ++ codes "^\n"
+    ++ told_line (line_text text (line_start text at)) (front_of text at) ++ codes "^\n"
 
 -- REFUSED of ITEMS items refused
 abbrev pub total_text : ℕ → ℕ → List ℕ

@@ -2,7 +2,7 @@
 
 ghost use Rattle.std.specs.Prelude.{◌<◌, ◌≤◌, length};
 
-use crate::blank::blanked;
+use crate::blank::push_blanks;
 use crate::items::ends_in;
 use lexer::{LexFault, lex};
 use std::alloc::{AllocError, Global};
@@ -81,14 +81,6 @@ fn stray_end(text: &str, start: usize) -> usize {
     }
 }
 
-/// The text with bytes blanked; all of it where it can't be cut there.
-fn without(alloc: Global, text: &str, start: usize, end: usize) -> Result<String, AllocError> {
-    if start < end && text.is_char_boundary(start) && text.is_char_boundary(end) {
-        return blanked(alloc, text, start, end);
-    }
-    blanked(alloc, text, 0, text.len())
-}
-
 /// Whether a line feed before which these bytes stand ends no line of a macro: a backslash stands
 /// last, maybe with a carriage return.
 fn is_continued(bytes: &[u8]) -> bool {
@@ -109,53 +101,69 @@ fn macro_end(bytes: &[u8], start: usize) -> usize {
     bytes.len()
 }
 
-/// Whether a word of a macro stands at a byte, and no item is open there.
-fn is_macro(alloc: Global, text: &str, at: usize) -> Result<bool, AllocError> {
-    let Some(front) = text.get(..at) else {
-        return Ok(false);
-    };
-    if text.as_bytes().get(at) != Some(&b'`') {
-        return Ok(false);
-    }
-    match lex(alloc, front) {
-        Ok(tokens) => {
-            let ends = ends_in(alloc, front.len(), tokens.as_slice())?;
-            Ok(ends.last() != Some(&at))
-        }
-        Err(LexFault::Memory) => Err(AllocError),
-        Err(_) => Ok(false),
-    }
-}
-
-/// A text that has tokens, and where the lines of macros end that were blanked in it.
+/// The front of a text that has tokens, where the lines of macros end that were blanked in it, and
+/// where its last item begins.
 #[derive(Drop)]
 struct Left {
     text: String,
     lines: Vec<usize>,
+    item: usize,
+}
+
+/// Whether no item is open at the end of a front.
+fn is_between(alloc: Global, left: &mut Left) -> Result<bool, AllocError> {
+    let rest = left.text.as_str().get(left.item..).unwrap_or("");
+    let ends = match lex(alloc, rest) {
+        Ok(tokens) => ends_in(alloc, rest.len(), tokens.as_slice())?,
+        Err(LexFault::Memory) => return Err(AllocError),
+        Err(_) => return Ok(false),
+    };
+    let is_open = ends.last() == Some(&rest.len());
+    if let [.., before, _] = ends.as_slice() {
+        left.item = left.item.saturating_add(*before);
+    }
+    Ok(!is_open)
+}
+
+/// The byte after what is blanked at a byte: the line of a macro that stands between items, or what
+/// is no token.
+fn blank_end(alloc: Global, left: &mut Left, text: &str, at: usize) -> Result<usize, AllocError> {
+    if text.as_bytes().get(at) != Some(&b'`') || !is_between(alloc, left)? {
+        return Ok(stray_end(text, at));
+    }
+    let end = macro_end(text.as_bytes(), at);
+    left.lines.push(end)?;
+    Ok(end)
 }
 
 /// The text with blanks for all that is no token, so that it has tokens, each where it stood. Where
 /// a macro stands between items, that is all of its line.
+///
+/// After a blank the tokens go on as at a text's front, so each byte is read once.
 fn lexable(alloc: Global, text: &str) -> Result<Left, AllocError> {
-    let mut left = String::from_str(alloc, text)?;
-    let mut lines = Vec::new(alloc);
+    let mut left = Left {
+        text: String::new(alloc),
+        lines: Vec::new(alloc),
+        item: 0,
+    };
     for _round in 0..text.len() {
-        let Some(at) = fault_of(alloc, left.as_str())? else {
+        let from = left.text.len();
+        let rest = text.get(from..).unwrap_or("");
+        let Some(length) = fault_of(alloc, rest)? else {
+            left.text.push_str(rest)?;
             break;
         };
-        let mut end = stray_end(left.as_str(), at);
-        if is_macro(alloc, left.as_str(), at)? {
-            end = macro_end(left.as_bytes(), at);
-            lines.push(end)?;
-        }
-        left = without(alloc, left.as_str(), at, end)?;
+        left.text.push_str(rest.get(..length).unwrap_or(""))?;
+        let at = from.saturating_add(length);
+        let end = blank_end(alloc, &mut left, text, at)?;
+        push_blanks(&mut left.text, text.as_bytes().get(at..end).unwrap_or(&[]))?;
     }
-    Ok(Left { text: left, lines })
+    Ok(left)
 }
 
 /// The bytes after the items of a text that has no tokens, as far as it can be cut.
 pub(crate) fn ends_beside(alloc: Global, text: &str) -> Result<Vec<usize>, AllocError> {
-    let Left { text, lines } = lexable(alloc, text)?;
+    let Left { text, lines, .. } = lexable(alloc, text)?;
     let mut ends = match lex(alloc, text.as_str()) {
         Ok(tokens) => ends_in(alloc, text.len(), tokens.as_slice())?,
         Err(LexFault::Memory) => return Err(AllocError),

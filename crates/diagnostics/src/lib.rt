@@ -4,13 +4,13 @@
 //! ```text
 //! let told = lint(alloc, &front, text, &ends)?;            // all refusals, and what is accepted
 //! let place = place_of(text, 52);                          // line 2, column 9
-//! push_refusal(&mut out, "rules.sva", text, 52, message)?; // rules.sva:2:9: .., line and caret
+//! let line = line_of(text, Line::first(text), 52);         // the same, from a line before it
+//! push_refusal(&mut out, "rules.sva", text, 52, line, message)?; // rules.sva:2:9: .., and a caret
 //! let meant = nearest(alloc, 2, "tb.ful", &names)?;        // the place of `tb.full` among names
 //! let instead = hint_beside("within", &WORDS);             // what to write in its place
 //! let ends = item_ends(alloc, text)?;                      // the byte after each item
 //! let written = hint_at(text, 47, &MARKS);                 // the same, of marks as `===`
 //! let span = span_at(text, &ends, 52);                     // the item that holds byte 52
-//! let rest = blanked(alloc, text, start, end)?;            // the text without it, places kept
 //! ```
 //!
 //! Bytes count from 0, lines and columns from 1; a column counts bytes.
@@ -37,13 +37,12 @@ mod refusal_text;
 mod span;
 mod stray;
 
-pub use blank::blanked;
 pub use front::{FrontEnd, Refusal};
 pub use hints::{CODES, Hint, SIGNS, WORDS, hint_beside};
 pub use items::{item_at, item_ends};
 pub use lint_all::{Linted, lint};
 pub use marks::{MARKS, Mark, hint_at};
 pub use names::nearest;
-pub use place::{Place, place_of};
+pub use place::{Line, Place, line_of, place_of};
 pub use refusal_text::{push_refusal, push_total};
 pub use span::{Span, span_at};

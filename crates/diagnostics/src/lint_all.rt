@@ -1,16 +1,19 @@
 //! All refusals of a text.
 
-ghost use Rattle.std.specs.Prelude.{◌≡◌, ◌≤◌, length, map, [], IfOk, IfSome, string_bytes};
+ghost use Rattle.std.specs.Prelude.{◌≡◌, ◌≤◌, length, map, [], IfOk, IfSome, OnOk, string_bytes};
+ghost use Rattle.std.specs.Prelude.{IsUtf8, ◌<◌, true};
+ghost use Rattle.std.specs.List.{All};
 ghost use Rattle.std.specs.Str.{IsCharBoundary};
 ghost use Rattle.diagnostics.specs.Blanked.{blanked};
 ghost use Rattle.diagnostics.specs.Items.{start_of, stop_of};
-ghost use Rattle.diagnostics.specs.Linted.{without, AreRefusals, IsTold};
+ghost use Rattle.diagnostics.specs.Linted.{refusing, without, AreRefusals, HasStood, IsTold};
 
-use crate::blank::blanked;
+use crate::blank::blank;
 use crate::front::{FrontEnd, Refusal};
 use crate::span::{Span, span_of_item};
 use crate::stray::{closes_nothing, refused_item};
 use std::alloc::{AllocError, Global};
+use std::str::from_utf8;
 
 /// What is told of a text: its refusals, and the text without the items that are refused, which is
 /// accepted. That is none where the text could not be cut at the ends of its items, or where what
@@ -21,6 +24,14 @@ pub struct Linted {
     pub rest: Option<String>,
 }
 
+/// The text that bytes are.
+fn text_of(bytes: &[u8]) -> &str
+    requires { IsUtf8 bytes.now }
+    ensures { result.now ≡ bytes.now }
+{
+    from_utf8(bytes).unwrap()
+}
+
 /// The bytes of the item that a refusal refuses.
 fn span_of(text: &str, ends: &[usize], at: usize) -> Option<Span>
     ensures order { IfSome result (λ s. s.start ≤ s.end) }
@@ -29,33 +40,23 @@ fn span_of(text: &str, ends: &[usize], at: usize) -> Option<Span>
     ensures without { IfSome result
         (λ s. blanked text.now s.start s.end ≡ without text.now ends.now at) }
 {
-    span_of_item(text, ends, refused_item(text, ends, at))
-}
-
-/// The text without an item.
-fn without(alloc: Global, text: &str, span: Span) -> Result<String, AllocError>
-    requires order { span.start ≤ span.end }
-    requires start { IsCharBoundary text.now span.start }
-    requires end { IsCharBoundary text.now span.end }
-    ensures { IfOk result (λ t. string_bytes t ≡ blanked text.now span.start span.end) }
-{
-    blanked(alloc, text, span.start, span.end)
+    span_of_item(text.as_bytes(), ends, refused_item(text, ends, at))
 }
 
 /// Whether only white space stands in an item.
-fn is_blank(text: &str, span: Span) -> bool
+fn is_blank(bytes: &[u8], span: Span) -> bool
     requires order { span.start ≤ span.end }
-    requires end { span.end ≤ length text.now }
+    requires end { span.end ≤ length bytes.now }
 {
-    let bytes = &text.as_bytes()[span.start..span.end];
+    let bytes = &bytes[span.start..span.end];
     bytes.iter().all(|byte| byte.is_ascii_whitespace())
 }
 
-/// What is told so far, and the text without what is refused.
+/// What is told so far, and the bytes of the text without what is refused.
 #[derive(Drop)]
 struct Begun {
     refusals: Vec<Refusal>,
-    left: String,
+    left: Vec<u8>,
 }
 
 /// The refusal of an item, if it is refused alone. One that a word which closes nothing stands
@@ -70,7 +71,7 @@ fn alone<F: FrontEnd>(
     ensures { IfOk result (λ r. IfSome r (λ refusal. F.refuses_alone front.now text.now
         (start_of ends.now item) (stop_of (length text.now) ends.now item) refusal.at)) }
 {
-    let Some(span) = span_of_item(text, ends, item) else {
+    let Some(span) = span_of_item(text.as_bytes(), ends, item) else {
         return Ok(None);
     };
     if closes_nothing(text, span.start) {
@@ -86,35 +87,100 @@ fn each_alone<F: FrontEnd>(
     text: &str,
     ends: &[usize],
 ) -> Result<Begun, AllocError>
-    ensures told { IfOk result (λ b. AreRefusals (F.refuses front.now)
-        (F.refuses_alone front.now text.now) ends.now text.now
-        (map (λ r. r.at) b.refusals.items) (string_bytes b.left)) }
-    ensures same { IfOk result
-        (λ b. b.refusals.items ≡ [] → string_bytes b.left ≡ text.now) }
+    ensures told { IfOk result (λ b. AreRefusals
+        (refusing (F.refuses front.now) (F.stands front.now) (F.refuses_alone front.now text.now))
+        ends.now text.now (map (λ r. r.at) b.refusals.items) b.left.items) }
+    ensures same { IfOk result (λ b. b.refusals.items ≡ [] → b.left.items ≡ text.now) }
+    ensures utf8 { IfOk result (λ b. IsUtf8 b.left.items) }
+    ensures long { IfOk result (λ b. length b.left.items ≡ length text.now) }
 {
     let mut refusals = Vec::new(alloc);
-    let mut rest = String::from_str(alloc, text)?;
+    let mut left = Vec::from_slice(alloc, text.as_bytes())?;
     for item in 0..ends.len() {
         let Some(refusal) = alone(alloc, front, text, ends, item)? else {
             continue;
         };
-        let Some(span) = span_of_item(rest.as_str(), ends, item) else {
+        let Some(span) = span_of_item(left.as_slice(), ends, item) else {
             continue;
         };
         refusals.push(refusal)?;
-        rest = without(alloc, rest.as_str(), span)?;
+        blank(&mut left, span.start, span.end);
     }
-    Ok(Begun {
-        refusals,
-        left: rest,
-    })
+    Ok(Begun { refusals, left })
+}
+
+/// The first item from one on that ends after a byte; the number of all items where none does.
+fn item_from(ends: &[usize], from: usize, at: usize) -> usize {
+    for (item, end) in ends.iter().enumerate().skip(from) {
+        if *end > at {
+            return item;
+        }
+    }
+    ends.len()
+}
+
+/// Whether a byte stands in an item of which something is left.
+fn stands_in(bytes: &[u8], span: Span, at: usize) -> bool
+    requires order { span.start ≤ span.end }
+    requires end { span.end ≤ length bytes.now }
+    ensures { result ≡ true → (span.start ≤ at) × (at < span.end) }
+{
+    span.start <= at && at < span.end && !is_blank(bytes, span)
+}
+
+/// Refuses more items of what is left of a text, each by something that stood in it before others
+/// were left out.
+fn each_other<F: FrontEnd>(
+    front: &F,
+    text: &str,
+    ends: &[usize],
+    others: Vec<Refusal>,
+    refusals: &mut Vec<Refusal>,
+    left: &mut Vec<u8>,
+) -> Result<(), AllocError>
+    requires told { AreRefusals
+        (refusing (F.refuses front.now) (F.stands front.now) (F.refuses_alone front.now text.now))
+        ends.now text.now (map (λ r. r.at) refusals.old.items) left.old.items }
+    requires utf8 { IsUtf8 left.old.items }
+    requires long { length left.old.items ≡ length text.now }
+    requires stood { All (λ r. HasStood
+        (refusing (F.refuses front.now) (F.stands front.now) (F.refuses_alone front.now text.now))
+        ends.now text.now r.at) others.items }
+    ensures told { OnOk result (AreRefusals
+        (refusing (F.refuses front.now) (F.stands front.now) (F.refuses_alone front.now text.now))
+        ends.now text.now (map (λ r. r.at) refusals.new.items) left.new.items) }
+    ensures utf8 { OnOk result (IsUtf8 left.new.items) }
+    ensures long { OnOk result (length left.new.items ≡ length text.now) }
+    ensures more { OnOk result (length refusals.old.items ≤ length refusals.new.items) }
+{
+    let mut item = 0;
+    for refusal in others {
+        item = item_from(ends, item, refusal.at);
+        let Some(span) = span_of_item(left.as_slice(), ends, item) else {
+            continue;
+        };
+        if !stands_in(left.as_slice(), span, refusal.at) {
+            continue;
+        }
+        refusals.push(refusal)?;
+        blank(left, span.start, span.end);
+    }
+    Ok(())
+}
+
+/// The text that bytes are, which are handed over.
+fn string_of(bytes: Vec<u8>) -> String
+    requires { IsUtf8 bytes.items }
+    ensures { string_bytes result ≡ bytes.items }
+{
+    String::from_utf8(bytes).unwrap()
 }
 
 /// The refusals of what is left of a text, after those so far.
 ///
-/// Of each item one refusal is told: then its bytes are blanked, and the rest is looked at again,
-/// so that all refusals stand where the text has them. It stops at the first that stands in no item
-/// which is left.
+/// The first refusal is told, and its item is blanked; so are those that stand beside it. Then the
+/// rest is looked at again, so that all refusals stand where the text has them. It stops at the
+/// first that stands in no item which is left.
 fn each_left<F: FrontEnd>(
     alloc: Global,
     front: &F,
@@ -122,12 +188,15 @@ fn each_left<F: FrontEnd>(
     ends: &[usize],
     begun: Begun,
 ) -> Result<Linted, AllocError>
-    requires told { AreRefusals (F.refuses front.now) (F.refuses_alone front.now text.now)
-        ends.now text.now (map (λ r. r.at) begun.refusals.items) (string_bytes begun.left) }
-    requires same { begun.refusals.items ≡ [] → string_bytes begun.left ≡ text.now }
-    ensures told { IfOk result (λ l. IsTold (F.refuses front.now)
-        (F.refuses_alone front.now text.now) ends.now text.now
-        (map (λ r. r.at) l.refusals.items) l.rest) }
+    requires told { AreRefusals
+        (refusing (F.refuses front.now) (F.stands front.now) (F.refuses_alone front.now text.now))
+        ends.now text.now (map (λ r. r.at) begun.refusals.items) begun.left.items }
+    requires same { begun.refusals.items ≡ [] → begun.left.items ≡ text.now }
+    requires utf8 { IsUtf8 begun.left.items }
+    requires long { length begun.left.items ≡ length text.now }
+    ensures told { IfOk result (λ l. IsTold
+        (refusing (F.refuses front.now) (F.stands front.now) (F.refuses_alone front.now text.now))
+        ends.now text.now (map (λ r. r.at) l.refusals.items) l.rest) }
     ensures accepted { IfOk result
         (λ l. l.refusals.items ≡ [] → F.accepts front.now text.now) }
     ensures rest { IfOk result
@@ -137,30 +206,32 @@ fn each_left<F: FrontEnd>(
         mut refusals,
         mut left,
     } = begun;
-    let before = refusals.len();
     let most = ends.len().saturating_add(1);
     for _round in 0..most {
-        let Some(refusal) = front.refusal(alloc, left.as_str())? else {
+        let now = text_of(left.as_slice());
+        let Some(refusal) = front.refusal(alloc, now)? else {
             return Ok(Linted {
                 refusals,
-                rest: Some(left),
+                rest: Some(string_of(left)),
             });
         };
-        let Some(span) = span_of(left.as_str(), ends, refusal.at) else {
+        let Some(span) = span_of(now, ends, refusal.at) else {
             refusals.push(refusal)?;
             return Ok(Linted {
                 refusals,
                 rest: None,
             });
         };
-        if !refusals.is_empty() && is_blank(left.as_str(), span) {
+        if !refusals.is_empty() && is_blank(now.as_bytes(), span) {
             return Ok(Linted {
                 refusals,
                 rest: None,
             });
         }
+        let others = front.others(alloc, now)?;
         refusals.push(refusal)?;
-        left = without(alloc, left.as_str(), span)?;
+        blank(&mut left, span.start, span.end);
+        each_other(front, text, ends, others, &mut refusals, &mut left)?;
     }
     Ok(Linted {
         refusals,
@@ -170,17 +241,17 @@ fn each_left<F: FrontEnd>(
 
 /// All refusals of a text, whose items end there.
 ///
-/// Where the text is refused, each item is looked at alone first. Then the first refusal of the
-/// rest is told, and its item is blanked, as long as there is one.
+/// Where the text is refused, each item is looked at alone first. Then what is refused of the rest
+/// is told, and its items are blanked, as long as there is something.
 pub fn lint<F: FrontEnd>(
     alloc: Global,
     front: &F,
     text: &str,
     ends: &[usize],
 ) -> Result<Linted, AllocError>
-    ensures told { IfOk result (λ l. IsTold (F.refuses front.now)
-        (F.refuses_alone front.now text.now) ends.now text.now
-        (map (λ r. r.at) l.refusals.items) l.rest) }
+    ensures told { IfOk result (λ l. IsTold
+        (refusing (F.refuses front.now) (F.stands front.now) (F.refuses_alone front.now text.now))
+        ends.now text.now (map (λ r. r.at) l.refusals.items) l.rest) }
     ensures accepted { IfOk result
         (λ l. l.refusals.items ≡ [] → F.accepts front.now text.now) }
     ensures rest { IfOk result

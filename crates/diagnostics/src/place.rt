@@ -3,6 +3,7 @@
 ghost use Rattle.std.specs.Prelude.{◌≡◌, ◌≤◌, take, length, count_by};
 ghost use Rattle.std.specs.List.{suffix_len};
 ghost use Rattle.diagnostics.specs.Places.{is_feed, is_no_feed, line_number, column_number};
+ghost use Rattle.diagnostics.specs.Places.{IsLineOf};
 
 /// A line and a column, both counted from 1.
 #[derive(Clone, Copy, PartialEq, Eq)]
@@ -51,4 +52,50 @@ pub fn place_of(text: &str, at: usize) -> Place
         line: count_feeds(front) + 1,
         column: count_behind_feed(front) + 1,
     }
+}
+
+/// The line of a text up to which it was looked through: its number, counted from 1, the byte at
+/// which it begins, and the byte that was reached.
+#[derive(Clone, Copy)]
+pub struct Line {
+    pub(crate) number: usize,
+    pub(crate) start: usize,
+    pub(crate) reached: usize,
+}
+
+impl Line {
+    /// The first line of a text.
+    pub fn first(text: &str) -> Line
+        ensures { IsLineOf text.now 0 result }
+    {
+        let _ = text;
+        Line {
+            number: 1,
+            start: 0,
+            reached: 0,
+        }
+    }
+}
+
+/// The line in which a byte stands, from one that was reached before; it is looked for from the
+/// text's front where the byte stands before that.
+pub fn line_of(text: &str, from: Line, at: usize) -> Line
+    requires { IsLineOf text.now from.reached from }
+    ensures line { IsLineOf text.now at result }
+    ensures reached { IsLineOf text.now result.reached result }
+{
+    let bytes = text.as_bytes();
+    let mut line = if from.reached <= at {
+        from
+    } else {
+        Line::first(text)
+    };
+    for reached in line.reached..at.min(bytes.len()) {
+        if bytes[reached] == b'\n' {
+            line.number += 1;
+            line.start = reached + 1;
+        }
+        line.reached = reached + 1;
+    }
+    line
 }

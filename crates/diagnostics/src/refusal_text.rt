@@ -1,13 +1,15 @@
 //! The text that tells of a refusal.
 
-ghost use Rattle.std.specs.Prelude.{◌≡◌, OnOk, string_bytes, count_by};
+ghost use Rattle.std.specs.Prelude.{◌≡◌, ◌++◌, OnOk, codes, string_bytes, count_by};
 ghost use Rattle.std.specs.List.{flat_map};
 ghost use Rattle.std.specs.Fmt.{decimal};
-ghost use Rattle.diagnostics.specs.Told.{Grows, below, line_text, front_of, place_text};
-ghost use Rattle.diagnostics.specs.Told.{shown_char, shown_text, begins_char, told_line};
+ghost use Rattle.std.specs.Str.{IsCharBoundary};
+ghost use Rattle.diagnostics.specs.Places.{IsLineOf};
+ghost use Rattle.diagnostics.specs.Told.{Grows, below, line_text, front_of};
+ghost use Rattle.diagnostics.specs.Told.{is_hidden, shown_char, shown_text, begins_char, told_line};
 ghost use Rattle.diagnostics.specs.Told.{refusal_text, total_text};
 
-use crate::place::{Place, front, place_of};
+use crate::place::Line;
 use std::alloc::AllocError;
 use std::fmt::Write;
 
@@ -26,11 +28,12 @@ fn push_number(out: &mut String, number: usize) -> Result<(), AllocError>
     write!(out, "{number}")
 }
 
-/// The text's line of a number.
-fn line_of(text: &str, number: usize) -> &str
-    ensures { result.now ≡ line_text text.now number }
+/// The text's line that begins at a byte.
+fn line_at(text: &str, start: usize) -> &str
+    requires { IsCharBoundary text.now start }
+    ensures { result.now ≡ line_text text.now start }
 {
-    text.lines().nth(number.saturating_sub(1)).unwrap_or("")
+    text[start..].lines().nth(0).unwrap_or("")
 }
 
 /// Adds what stands below bytes.
@@ -49,21 +52,19 @@ fn push_below(out: &mut String, bytes: &[u8]) -> Result<(), AllocError>
 }
 
 /// Adds a line and a column.
-fn push_place(out: &mut String, text: &str, at: usize) -> Result<(), AllocError>
+fn push_place(out: &mut String, line: usize, column: usize) -> Result<(), AllocError>
     ensures { OnOk result (Grows (string_bytes out.old) (string_bytes out.new)
-        (place_text text.now at)) }
+        (decimal line ++ codes ":" ++ decimal column)) }
 {
-    let Place { line, column } = place_of(text, at);
     write!(out, "{line}:{column}")
 }
 
 /// The bytes of its line that stand in front of a byte.
-fn front_of(text: &str, at: usize) -> &[u8]
+fn front_of(text: &str, at: usize, line: Line) -> &[u8]
+    requires { IsLineOf text.now at line }
     ensures { result.now ≡ front_of text.now at }
 {
-    let before = front(text.as_bytes(), at);
-    let Place { column, .. } = place_of(text, at);
-    &before[before.len() - (column - 1)..]
+    &text.as_bytes()[line.start..line.reached]
 }
 
 /// How many characters of a line are shown at most.
@@ -79,12 +80,24 @@ const NEAR: usize = 80;
 const BLANKS: &str =
     "                                                                                  ";
 
+/// Whether a character has no place on a line: a control character but a tab, or one that sets a
+/// direction of letters.
+fn is_hidden(code: u32) -> bool
+    ensures { result ≡ is_hidden code }
+{
+    code < 32 && code != 9
+        || 127 <= code && code <= 159
+        || code == 0x61c
+        || 0x200e <= code && code <= 0x200f
+        || 0x202a <= code && code <= 0x202e
+        || 0x2066 <= code && code <= 0x2069
+}
+
 /// A character as it is shown.
 fn shown_char(character: char) -> char
     ensures { result ≡ shown_char character }
 {
-    let code = character as u32;
-    if code < 32 && code != 9 || code == 127 {
+    if is_hidden(character as u32) {
         '?'
     } else {
         character
@@ -141,24 +154,28 @@ fn push_line(out: &mut String, line: &str, front: &[u8]) -> Result<(), AllocErro
 
 /// Adds what is told of a refusal: the path of the text, the line and the column of the byte where
 /// it stands, and why; then the text's line, or the part near the byte, and a caret below that.
+///
+/// The line of the byte is given, by `line_of`.
 pub fn push_refusal(
     out: &mut String,
     path: &str,
     text: &str,
     at: usize,
+    line: Line,
     message: &str,
 ) -> Result<(), AllocError>
+    requires { IsLineOf text.now at line }
     ensures { OnOk result (Grows (string_bytes out.old) (string_bytes out.new)
         (refusal_text path.now text.now at message.now)) }
 {
+    let front = front_of(text, at, line);
     push_text(out, path)?;
     push_text(out, ":")?;
-    push_place(out, text, at)?;
+    push_place(out, line.number, front.len() + 1)?;
     push_text(out, ": ")?;
     push_text(out, message)?;
     push_text(out, "\n")?;
-    let line = line_of(text, place_of(text, at).line);
-    push_line(out, line, front_of(text, at))?;
+    push_line(out, line_at(text, line.start), front)?;
     push_text(out, "^\n")?;
     Ok(())
 }

@@ -1,30 +1,71 @@
 //! The text that tells of refusals.
 
-ghost use Rattle.std.specs.Prelude.{◌≡◌, ◌++◌, OnOk, IfOk, length, string_bytes};
+ghost use Rattle.std.specs.Prelude.{◌≡◌, ◌++◌, OnOk, IfOk, length, slice_get};
+ghost use Rattle.std.specs.Prelude.{string_bytes};
 ghost use Rattle.std.specs.List.Sorted.{IsPermutation, IsNonDecreasingBy};
-ghost use Rattle.lint.specs.Tells.{AddsTold, TellsEach, TellsAll};
+ghost use Rattle.lint.specs.Reached.{IsReached};
+ghost use Rattle.lint.specs.Tells.{path_of, text_of, AddsTold, TellsEach, TellsAll};
 
-use diagnostics::{Refusal, push_refusal, push_total};
+use diagnostics::{Line, Refusal, line_of, push_refusal, push_total};
 use source_files::{Origin, spot_in};
 use std::alloc::{AllocError, Global};
 
+/// The line of a file up to which its text was looked through.
+#[derive(Clone, Copy)]
+struct Reached {
+    part: usize,
+    line: Line,
+}
+
+/// The path of a file, and nothing where there is none.
+fn path_of<'a>(origin: &Origin<'a>, part: usize) -> &'a str
+    ensures { result.now ≡ path_of (slice_get origin.now.parts.now part) }
+{
+    match origin.parts.get(part) {
+        Some(part) => part.path.as_str(),
+        None => "",
+    }
+}
+
+/// The text of a file, and nothing where there is none.
+fn text_in<'a>(origin: &Origin<'a>, part: usize) -> &'a str
+    ensures { result.now ≡ text_of (slice_get origin.now.parts.now part) }
+{
+    match origin.parts.get(part) {
+        Some(part) => part.text.as_str(),
+        None => "",
+    }
+}
+
 /// Adds what is told of a refusal, by the file in which it stands.
-fn push_told(out: &mut String, origin: &Origin<'_>, refusal: &Refusal) -> Result<(), AllocError>
-    ensures { OnOk result (AddsTold origin.now.parts.now origin.now.added.now refusal.now
+fn push_told(
+    out: &mut String,
+    origin: &Origin<'_>,
+    reached: &mut Reached,
+    refusal: &Refusal,
+) -> Result<(), AllocError>
+    requires { IsReached origin.now.parts.now reached.old }
+    ensures told { OnOk result (AddsTold origin.now.parts.now origin.now.added.now refusal.now
         (string_bytes out.old) (string_bytes out.new)) }
+    ensures reached { OnOk result (IsReached origin.now.parts.now reached.new) }
 {
     let spot = spot_in(origin, refusal.at);
-    let message = refusal.message.as_str();
-    match origin.parts.get(spot.part) {
-        Some(part) => push_refusal(
-            out,
-            part.path.as_str(),
-            part.text.as_str(),
-            spot.at,
-            message,
-        ),
-        None => push_refusal(out, "", "", spot.at, message),
+    let text = text_in(origin, spot.part);
+    if reached.part != spot.part {
+        *reached = Reached {
+            part: spot.part,
+            line: Line::first(text),
+        };
     }
+    reached.line = line_of(text, reached.line, spot.at);
+    push_refusal(
+        out,
+        path_of(origin, spot.part),
+        text,
+        spot.at,
+        reached.line,
+        refusal.message.as_str(),
+    )
 }
 
 /// What is told of refusals, one after another.
@@ -33,8 +74,12 @@ fn told_of(alloc: Global, origin: &Origin<'_>, refusals: &[Refusal]) -> Result<S
         refusals.now (string_bytes text)) }
 {
     let mut text = String::new(alloc);
+    let mut reached = Reached {
+        part: 0,
+        line: Line::first(text_in(origin, 0)),
+    };
     for refusal in refusals {
-        push_told(&mut text, origin, refusal)?;
+        push_told(&mut text, origin, &mut reached, refusal)?;
     }
     Ok(text)
 }

@@ -1,2 +1,3 @@
+pub mod BesideLaws
 pub mod FrontLaws
 pub mod NameLaws

@@ -7,13 +7,14 @@ use Rattle.std.specs.List.{list_any}
 use Rattle.std.specs.Str.{bytes_eq}
 use Rattle.lexer.specs.declared.fault.LexFault.{LexFault}
 use Rattle.lexer.specs.declared.token.Token.{Token}
+use Rattle.lexer.specs.Covering.{IsLexFault}
 use Rattle.lexer.specs.Cutting.{Cut, cut_of, tokens_of}
 use Rattle.parser_grammar.specs.Trees.{ItemForm}
 use Rattle.parser.specs.declared.fault.ParseFault.{ParseFault}
 use Rattle.parser.specs.Faults.{IsParseFault}
 use Rattle.vcd_reader.specs.Variables.{Declared}
 use Rattle.suite_over_dump.specs.Suites.{Spells, clock_byte}
-use Rattle.lint_messages.specs.Bytes.{byte_of_parse}
+use Rattle.lint_messages.specs.Bytes.{byte_of_lex, byte_of_parse}
 use Rattle.lint_refusals.specs.Refused.{IsRefused, has_clock}
 use Rattle.lint_refusals.specs.Verbs.{is_verb}
 use Rattle.lint_refusals.specs.declared.front.DumpFront.{DumpFront}
@@ -64,11 +65,13 @@ pub record IsApart (declared : Option (List (List ℕ))) (tokens : List Token) :
   pub known : declared ≡ Some names
   pub none : list_any (λ t. list_any (bytes_eq t.text.now) names) tokens ≡ false
 
--- A part of a text is refused at a byte of its own, whatever stands beside it: none of its tokens
--- is a name that the text declares; or its tokens spell no items, and its form says so; or its
--- clock is no variable of one bit.
+-- A part of a text is refused at a byte of its own, whatever stands beside it: it has no tokens; or
+-- none of its tokens is a name that the text declares; or its tokens spell no items, and its form
+-- says so; or its clock is no variable of one bit.
 pub data IsRefusedPart (vs : List Declared) (declared : Option (List (List ℕ)))
     (part : List ℕ) (byte : ℕ) : Type 0 where
+  unlexed : (fault : LexFault) → IsLexFault part fault → byte_of_lex fault ≡ Some byte
+      → IsRefusedPart vs declared part byte
   apart : (tokens : List Token) → tokens_of part ≡ Ok (map cut_of tokens)
       → IsApart declared tokens → nat_lt byte (length part) ≡ true → IsRefused vs part byte
       → IsRefusedPart vs declared part byte

@@ -1,4 +1,5 @@
 pub mod Alone
+pub mod Beside
 pub mod Counted
 pub mod Refused
 pub mod Rests

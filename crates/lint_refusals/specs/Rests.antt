@@ -6,10 +6,11 @@ use Rattle.std.specs.declared.alloc.Global.{Global}
 use Rattle.lexer.specs.declared.token.Token.{Token}
 use Rattle.lexer.specs.Cutting.{cut_of, tokens_of}
 use Rattle.diagnostics.specs.Items.{AreItemEnds}
-use Rattle.diagnostics.specs.Linted.{IsTold}
+use Rattle.diagnostics.specs.Linted.{refusing, IsTold}
 use Rattle.vcd_reader.specs.Variables.{Declared}
 use Rattle.lint_refusals.specs.Refused.{IsAccepted, IsRefused}
 use Rattle.lint_refusals.specs.Alone.{IsRefusedAlone}
+use Rattle.lint_refusals.specs.Beside.{HasFaultAt}
 use Rattle.lint_refusals.specs.Verbs.{is_verb}
 
 -- A text that is not the whole one, and has no assertion.
@@ -27,7 +28,7 @@ IsLeft vs text rest = IsAccepted vs (string_bytes rest) ⊎ IsBare text (string_
 -- an item by itself, and this is left.
 abbrev pub AreTold : List Declared → List ℕ → List ℕ → List ℕ → Option (String Global) → Type 0
 AreTold vs ends text places rest =
-    IsTold (IsRefused vs) (IsRefusedAlone vs text) ends text places rest
+    IsTold (refusing (IsRefused vs) (HasFaultAt vs) (IsRefusedAlone vs text)) ends text places rest
 
 -- So many refusals are told of the text, and this is left.
 pub record IsRest (vs : List Declared) (text : List ℕ) (refused : ℕ)

@@ -13,8 +13,8 @@ ghost use Rattle.lint_refusals.specs.Alone.{IsRefusedOf, IsRefusedPart, IsMovedP
 use crate::declared::has_name;
 use crate::front::{DumpFront, has_verb, is_clock};
 use diagnostics::{Refusal, Span};
-use lexer::{LexFault, Token, lex};
-use lint_messages::{clock_refusal, parse_refusal, type_refusal};
+use lexer::{Token, lex};
+use lint_messages::{clock_refusal, lex_refusal, parse_refusal, type_refusal};
 use parser::{File, ParseFault, parse};
 use std::alloc::{AllocError, Global};
 use suite_over_dump::{clock_path, suite_over};
@@ -204,7 +204,6 @@ pub(crate) fn alone_in(
     let part = &text[span.start..span.end];
     match lex(alloc, part) {
         Ok(tokens) => alone_at(alloc, front, part, tokens.as_slice(), span.start),
-        Err(LexFault::Memory) => Err(AllocError),
-        Err(_) => Ok(None),
+        Err(fault) => Ok(moved(lex_refusal(alloc, part, fault)?, span.start)),
     }
 }

@@ -19,6 +19,7 @@ ghost use Rattle.lint_refusals.specs.Rests.{IsBare};
 ghost use Rattle.lint_refusals.specs.Verbs.{is_verb};
 
 use crate::alone::alone_in;
+use crate::beside::others_in;
 use crate::programless::first_programless;
 use assertions::Suite;
 use compiler_laws::suite_law;
@@ -208,11 +209,14 @@ fn refusal_in(alloc: Global, front: &DumpFront, text: &str) -> Result<Option<Ref
 
 impl FrontEnd for DumpFront<'_> {
     ghost use Rattle.lint_refusals.specs.Alone.{IsRefusedOf};
+    ghost use Rattle.lint_refusals.specs.Beside.{HasFaultAt};
 
     ghost accepts = { λ it text.
         IsAccepted (variables_of it.meant.dump.now) text ⊎ IsBare it.whole.now text };
 
     ghost refuses = { λ it text at. IsRefused (variables_of it.meant.dump.now) text at };
+
+    ghost stands = { λ it text at. HasFaultAt (variables_of it.meant.dump.now) text at };
 
     ghost refuses_alone = { λ it text start end at.
         IsRefusedOf (variables_of it.meant.dump.now)
@@ -220,6 +224,10 @@ impl FrontEnd for DumpFront<'_> {
 
     fn refusal(&self, alloc: Global, text: &str) -> Result<Option<Refusal>, AllocError> {
         refusal_in(alloc, self, text)
+    }
+
+    fn others(&self, alloc: Global, text: &str) -> Result<Vec<Refusal>, AllocError> {
+        others_in(alloc, self, text)
     }
 
     fn refusal_alone(
