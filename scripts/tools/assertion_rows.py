@@ -211,6 +211,17 @@ SHEET = """FAIL r  rows.sva:1:1   began at clock 0 (#5), decided at clock 2 (#25
   antecedent ended at clocks 1, 2; from clock 2 no match of the consequent is possible after clock 2
 """
 
+# Brackets of a looser operator before a tighter one, + after ^ (11.3.2).
+MIXED = "((a ^ b) + b) == 2'd2"
+MIXED_SHEET = f"""FAIL r  rows.sva:1:1   began at clock 0 (#5), decided at clock 0 (#5); 1 failed attempt
+  {'clock':21}  0
+  {'time':21}  5
+  {'a':21}  1
+  {'b':21}  1
+  {MIXED}  0
+  no match is possible after clock 0
+"""
+
 
 def filled(body, weight):
     """A sequence beside another one, so that both weigh so much."""
@@ -323,12 +334,16 @@ def try_values(shell):
 
 
 def try_sheets(shell):
-    """Why an attempt failed of which the first end is answered and the second isn't; and one that may be answered."""
+    """Why an attempt failed of which the first end is answered and the second isn't; one that may be answered; and how
+    a boolean is spelt whose operators bind differently."""
     put(shell, "rows.vcd", dump([bits(it) for it in ("10", "01", "00")]))
     put(shell, "rows.sva", rule("a ##[1:2] 1 |-> b"))
     shell.expect("explain --vcd rows.vcd --sva rows.sva", 1, SHEET.encode())
     put(shell, "rows.vcd", dump([bits(it) for it in ("10", "01")]))
     shell.expect("explain --vcd rows.vcd --sva rows.sva", 0, line="svamon: no attempt failed")
+    put(shell, "rows.vcd", dump([bits("11")]))
+    put(shell, "rows.sva", rule(MIXED))
+    shell.expect("explain --vcd rows.vcd --sva rows.sva", 1, MIXED_SHEET.encode())
 
 
 def try_forms(shell):
