@@ -22,7 +22,7 @@ line-next text i old new utf8 lt feed is number start reached =
     let no : is_no_feed (slice_index text i) ≡ false = ap is_no_feed feed in
     let same : i + 1 - 1 ≡ i = omega arith in
     let none = suffix_len-take_no is_no_feed text (i + 1) 0 (omega arith) (omega (arith, lt))
-        (ap (λ (k : ℕ). is_no_feed (slice_index text k)) same ∙ no) in
+    (ap (λ (k : ℕ). is_no_feed (slice_index text k)) same ∙ no) in
     let long = length-take-le (i + 1) text (omega (arith, lt)) in
     let count = count_by_more_yes is_feed text i 0 lt yes in
     let before = is.number in
@@ -46,7 +46,7 @@ line-same text i old new lt other is number start reached =
     let yes : is_no_feed (slice_index text i) ≡ true = ap not no in
     let same : i + 1 - 1 ≡ i = omega arith in
     let more = suffix_len-take_yes is_no_feed text (i + 1) 0 (omega arith) (omega (arith, lt))
-        (ap (λ (k : ℕ). is_no_feed (slice_index text k)) same ∙ yes) in
+    (ap (λ (k : ℕ). is_no_feed (slice_index text k)) same ∙ yes) in
     let back : suffix_len is_no_feed (take (i + 1 - 1) text) ≡ suffix_len is_no_feed (take i text) =
     ap (λ (k : ℕ). suffix_len is_no_feed (take k text)) same in
     let long = length-take-le (i + 1) text (omega (arith, lt)) in
