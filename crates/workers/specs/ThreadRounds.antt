@@ -12,14 +12,14 @@ use Rattle.workers.specs.declared.worker.Published.{Published}
 use Rattle.workers.specs.Works.{IsPublished}
 use Rattle.workers.specs.Runs.{upto, published_numbers}
 
--- the numbers of the monitors that a worker claimed by its pass
+-- the numbers of the monitors that were claimed by a pass
 abbrev pub taken_by : Pass Numbered Hand → List ℕ
 taken_by pass = (view pass).taken
 
--- A round of so many workers. All monitors were put on the bench in their order; each worker's pass
--- has what that worker took, and what the passes took and what the bench still held is, together,
--- what was put, each once: whatever each number weighs, they weigh the same. Of each monitor this
--- is published, in their order.
+-- A round of so many workers. All monitors were put on the bench in their order. There is a pass for
+-- each worker, and what the passes took and what the bench still held is, together, what was put,
+-- each once: whatever each number weighs, they weigh the same. Each monitor is published, in their
+-- order. Which thread had which pass is not said.
 pub record IsThreadRound (j : Job) (w : Window) (board : Board) (crew : ℕ) (ps : List Published) :
     Type 0 where
   pub putting : Pass Numbered Hand

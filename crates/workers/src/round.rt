@@ -242,7 +242,7 @@ pub fn round<
     ensures published { IfOk result (λ r.
         All (IsPublished job.now window.now board.now) r.1.items) }
     ensures beside { IfOk result (λ r. B.tells beside r.2) }
-    // Who took what: what the workers' passes took and what the first of them ran after that.
+    // A pass for each worker; what these took and what the bench still held is all, each once.
     ensures threads { IfOk result (λ r.
         IsThreadRound job.now window.now board.now (vec_len members) r.1.items) }
 {
