@@ -16,10 +16,10 @@ use Rattle.workers.specs.Runs.{upto, published_numbers}
 abbrev pub taken_by : Pass Numbered Hand → List ℕ
 taken_by pass = (view pass).taken
 
--- A round of so many workers. All monitors were put on the bench in their order. There is a pass for
--- each worker, and what the passes took and what the bench still held is, together, what was put,
--- each once: whatever each number weighs, they weigh the same. Each monitor is published, in their
--- order. Which thread had which pass is not said.
+-- A round of so many workers. All monitors were put on the bench in their order. There is a pass
+-- for each worker, and what the passes took and what the bench still held is, together, what was
+-- put, each once: whatever each number weighs, they weigh the same. Each monitor is published, in
+-- their order. Which thread had which pass is not said.
 pub record IsThreadRound (j : Job) (w : Window) (board : Board) (crew : ℕ) (ps : List Published) :
     Type 0 where
   pub putting : Pass Numbered Hand
